@@ -14,6 +14,7 @@ use Rattle.cql_syntax.specs.Meaning.{value}
 use Rattle.cql_syntax.specs.TreeOf.{filters_tree}
 use Rattle.cql_syntax.specs.Trees.{FilterTree, filter_at, FormTree, designator, number, name, plain, tagged, outcome, elo, unary, direction, chain, sum_of, pair, if_, square, line, played, transform, sort, comment, any, FilterTrees, no_filters, more_filters}
 use Rattle.cql_syntax.specs.Values.{holds}
+use Rattle.cql_values.specs.Trees.{searched_tree}
 use Rattle.cq_shared.specs.Matching.{tree_for, holds_at, part_holds, part_cost, sort_number, IsTold, IsRowAt}
 use Rattle.cq_shared.specs.Parts.{first_of, alone, is_single}
 use Rattle.cq_shared.specs.Singles.{shown}
@@ -91,6 +92,26 @@ told_none game p live truths none = record { each = λ n there. absurd (none_liv
 
 pub row_none : (game : Game) (p : Part) (live : List Bool) (row : List (Option ℤ)) → list_any (λ b. b) live ≡ false → IsRowAt game p live row
 row_none game p live row none = record { each = λ n there. absurd (none_live live n none there) }
+
+-- the same by the form in which the part is asked
+
+pub cost_joined : (game : Game) (p : Part) (live : List Bool) (before now : ℕ) → AreAsked (tree_for game p) live
+    → now ≤ before + count_by (λ b. b) live + filters_cost (searched_len (searched_tree game p.single.joined.variations)) (filters_tree p.single.joined.items)
+    → now ≤ before + part_cost game (shown p.single)
+cost_joined game p live before now asked cost =
+    let there = ap (λ v. filters_cost (searched_len (searched_tree game v)) (filters_tree p.single.joined.items)) p.single.searched in
+    cost_is game p live before now asked (omega (arith, cost, there, p.single.same.cost (searched_len (tree_for game p)))) p.single.one
+
+pub told_joined : (game : Game) (p : Part) (live hits truths : List Bool)
+    → ((k : ℕ) → get_or hits k false ≡ (is_live live k && is_hit (searched_tree game p.single.joined.variations) (filters_tree p.single.joined.items) k))
+    → truths ≡ hits → IsTold game p live truths
+told_joined game p live hits truths are same =
+    told_by game p live hits truths p.single.one
+    (λ k. are k ∙ ap (λ v. is_live live k && is_hit (searched_tree game v) (filters_tree p.single.joined.items) k) p.single.searched
+    ∙ ap (λ b. is_live live k && b) (p.single.same.here (tree_for game p) k)) same
+
+pub asked_joined : (game : Game) (p : Part) (live : List Bool) → AreAsked (tree_for game p) live → AreAsked (searched_tree game p.single.joined.variations) live
+asked_joined game p live asked = subst (λ v. AreAsked (searched_tree game v) live) (sym p.single.searched) asked
 
 -- sort items
 

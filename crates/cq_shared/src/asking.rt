@@ -34,6 +34,45 @@ pub(crate) fn asked_at<L: Ledger>(
             numbers: Vec::new(alloc),
         });
     }
+    if part.class != SORTS {
+        return joined_at(alloc, part, game, live, steps);
+    }
+    sorted_at(alloc, part, game, live, steps)
+}
+
+// Whether a part holds, by the form in which it is asked.
+fn joined_at<L: Ledger>(
+    alloc: Global,
+    part: &Part,
+    game: &Game,
+    live: &[bool],
+    steps: &mut Steps<L>,
+) -> Result<Asked, NoMemory>
+    requires asked { AreAsked (tree_for game.now part.now) live.now }
+    ensures told { IfOk result (λ a. IsTold game.now part.now live.now a.truths.items) }
+    ensures cost { steps.new ≤ steps.old + part_cost game.now (shown part.now.single) }
+{
+    let column = hit_columns_at(alloc, &part.single.joined, game, live, steps)?;
+    let truths = column.into_hits();
+    Ok(Asked {
+        truths,
+        numbers: Vec::new(alloc),
+    })
+}
+
+// What a sort item gives.
+fn sorted_at<L: Ledger>(
+    alloc: Global,
+    part: &Part,
+    game: &Game,
+    live: &[bool],
+    steps: &mut Steps<L>,
+) -> Result<Asked, NoMemory>
+    requires asked { AreAsked (tree_for game.now part.now) live.now }
+    ensures told { IfOk result (λ a. IsTold game.now part.now live.now a.truths.items) }
+    ensures row { IfOk result (λ a. part.now.class ≡ sort_class → IsRowAt game.now part.now live.now a.numbers.items) }
+    ensures cost { steps.new ≤ steps.old + part_cost game.now (shown part.now.single) }
+{
     let column = hit_columns_at(alloc, &part.single.query, game, live, steps)?;
     let numbers = numbers_of(alloc, part, &column, game)?;
     let truths = column.into_hits();

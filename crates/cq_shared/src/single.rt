@@ -1,5 +1,6 @@
 //! A filter by itself.
 ghost use Rattle.std.specs.Prelude.{◌≡◌, true};
+ghost use Rattle.cql_plan.specs.Joined.{HaveSameHits};
 ghost use Rattle.cql_syntax.specs.TreeOf.{filters_tree};
 ghost use Rattle.cq_shared.specs.Parts.{is_single};
 
@@ -7,9 +8,12 @@ pub(crate) mod reading;
 
 use cql_syntax::FlatQuery;
 
-/// A filter as the only item of a flat query.
+/// A filter as the only item of a flat query, and the form in which it is asked where it is no sort item.
 #[derive(Drop)]
 pub(crate) struct Single {
     pub(crate) query: FlatQuery,
+    pub(crate) joined: FlatQuery,
     ghost one: { is_single (filters_tree query.items) ≡ true },
+    ghost same: { HaveSameHits (filters_tree query.items) (filters_tree joined.items) },
+    ghost searched: { joined.variations ≡ query.variations },
 }

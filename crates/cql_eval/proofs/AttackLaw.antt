@@ -59,7 +59,7 @@ pub some_both : {A : Type 0} (r : Option A) (P Q R : A → Type 0) → ((x : A) 
 some_both None P Q R f p q = q
 some_both (Some x) P Q R f p q = f x p q
 
-and_true : (b : Bool) → (b && true) ≡ b
+pub and_true : (b : Bool) → (b && true) ≡ b
 and_true true = refl
 and_true false = refl
 

@@ -149,7 +149,7 @@ form_low (line l) = refl
 form_low (square every text a b) = refl
 form_low (sort least text f) = refl
 
-class_low : (f : FilterTree) → is_before 6 f ≡ true
+pub class_low : (f : FilterTree) → is_before 6 f ≡ true
 class_low (filter_at at f) = form_low f
 
 pub so_all : (tree : SearchedTree) (e : Names) (want : Bool) (fs : FilterTrees) (n : ℕ)

@@ -12,6 +12,7 @@ mod CoverLaw
 mod CoverMoves
 mod CoverSome
 mod ElsewhereLaw
+mod EverLaw
 mod FreeLaw
 pub mod Gathering
 pub mod HitsLaw

@@ -6,16 +6,16 @@ ghost use Rattle.cql_syntax.specs.Meaning as meaning;
 ghost use Rattle.cql_syntax.specs.Trees as trees;
 ghost use Rattle.cql_syntax.specs.TreeOf.{filter_tree, filter_trees};
 ghost use Rattle.cql_syntax.specs.Values as spec;
-ghost use Rattle.cql_values.specs.Trees.{searched_tree};
 ghost use Rattle.cql_eval.specs.Attacked.{AsksAttack, IsOnly, IsItsName, IsDesignated};
 ghost use Rattle.cql_eval.specs.Columns.{AreAsked, AreTruths, shown};
+ghost use Rattle.cql_eval.specs.Scopes.{tree_in};
 
 use crate::combine::{held, pair_values};
 use crate::filter_column::FilterColumn;
 use crate::leaves::standing_sets;
+use crate::scope::Scope;
 use cq_outside::NoMemory;
 use cql_syntax::{Chain, Designator, Filter, Form, Pair};
-use pgn_tree::Game;
 use std::alloc::Global;
 
 /// The designator, where it is asked of some square whether a man on it attacks one of the designator's squares.
@@ -80,7 +80,8 @@ fn attacked_by<'a>(
     }
 }
 
-fn is_its_name(name: &[u8], filter: &Filter) -> bool
+/// Whether a filter is a name.
+pub(crate) fn is_its_name(name: &[u8], filter: &Filter) -> bool
     ensures { result ≡ true → IsItsName name.now (filter_tree filter.now) }
 {
     match &filter.form {
@@ -107,26 +108,17 @@ pub(crate) fn attack_truths(
     alloc: Global,
     squares: &FilterColumn,
     d: &Designator,
-    game: &Game,
-    variations: bool,
+    scope: &Scope,
     live: &[bool],
 ) -> Result<Vec<bool>, NoMemory>
-    requires asked { AreAsked (searched_tree game.now variations) live.now }
+    requires asked { AreAsked (tree_in scope.now) live.now }
     ensures { IfOk result (λ truths. AreTruths truths.items live.now
-        (λ n. spec.as_truth (spec.holds (spec.related (attacks (node_at game.now.nodes n).position.men) (shown squares.now n)
-        (meaning.standing_of (node_at game.now.nodes n).position.men (Some d.now)))))) }
+        (λ n. spec.as_truth (spec.holds (spec.related (attacks (node_at scope.now.game.now.nodes n).position.men) (shown squares.now n)
+        (meaning.standing_of (node_at scope.now.game.now.nodes n).position.men (Some d.now)))))) }
 {
-    let goals = standing_sets(alloc, d, game, variations, live)?;
+    let goals = standing_sets(alloc, d, scope, live)?;
     let goals = FilterColumn::Sets(goals);
-    let values = pair_values(
-        alloc,
-        Pair::Attacks,
-        game,
-        variations,
-        squares,
-        &goals,
-        live,
-    )?;
+    let values = pair_values(alloc, Pair::Attacks, scope, squares, &goals, live)?;
     let values = FilterColumn::Values(values);
     let truths = held(alloc, &values, live)?;
     Ok(truths)

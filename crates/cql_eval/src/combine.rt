@@ -4,10 +4,11 @@ ghost use Rattle.cq_position.specs.Games.{node_at};
 ghost use Rattle.cql_syntax.specs.Values as spec;
 ghost use Rattle.cql_values.specs.Asked.{of_value};
 ghost use Rattle.cql_values.specs.Shown.{meant, terms_meant};
-ghost use Rattle.cql_values.specs.Trees.{searched_tree};
 ghost use Rattle.cql_eval.specs.Columns.{AreAsked, AreTruths, AreValues, IsNumbered, shown, all_shown, terms_shown};
+ghost use Rattle.cql_eval.specs.Scopes.{tree_in};
 
 use crate::filter_column::{FilterColumn, blank_truths, blank_values};
+use crate::scope::Scope;
 use crate::spans::{asked_end, end_of, first_asked, first_live};
 use cq_geometry::Compass;
 use cq_outside::NoMemory;
@@ -108,19 +109,18 @@ fn is_chosen(first: &FilterColumn, second: &FilterColumn, third: &FilterColumn, 
 pub(crate) fn unary_values(
     alloc: Global,
     word: Unary,
-    game: &Game,
-    variations: bool,
+    scope: &Scope,
     column: &FilterColumn,
     live: &[bool],
 ) -> Result<Vec<Value>, NoMemory>
-    requires asked { AreAsked (searched_tree game.now variations) live.now }
+    requires asked { AreAsked (tree_in scope.now) live.now }
     ensures { IfOk result (λ values. AreValues values.items live.now
-        (λ n. of_value (node_at game.now.nodes n).position.men word (shown column.now n))) }
+        (λ n. of_value (node_at scope.now.game.now.nodes n).position.men word (shown column.now n))) }
 {
-    let end = asked_end(live, game.len());
+    let end = asked_end(live, scope.game.len());
     let mut values = blank_values(alloc, end as usize)?;
-    for n in first_asked(live, game.len())..end {
-        values[n as usize] = unary_value(live[n as usize], word, game, column, n);
+    for n in first_asked(live, scope.game.len())..end {
+        values[n as usize] = unary_value(live[n as usize], word, scope.game, column, n);
     }
     Ok(values)
 }
@@ -170,20 +170,19 @@ fn reached_value(asked: bool, directions: &[Compass], least: u32, most: u32, val
 pub(crate) fn pair_values(
     alloc: Global,
     pair: Pair,
-    game: &Game,
-    variations: bool,
+    scope: &Scope,
     first: &FilterColumn,
     second: &FilterColumn,
     live: &[bool],
 ) -> Result<Vec<Value>, NoMemory>
-    requires asked { AreAsked (searched_tree game.now variations) live.now }
+    requires asked { AreAsked (tree_in scope.now) live.now }
     ensures { IfOk result (λ values. AreValues values.items live.now
-        (λ n. spec.pair_of (node_at game.now.nodes n).position.men pair (shown first.now n) (shown second.now n))) }
+        (λ n. spec.pair_of (node_at scope.now.game.now.nodes n).position.men pair (shown first.now n) (shown second.now n))) }
 {
-    let end = asked_end(live, game.len());
+    let end = asked_end(live, scope.game.len());
     let mut values = blank_values(alloc, end as usize)?;
-    for n in first_asked(live, game.len())..end {
-        values[n as usize] = pair_value(live[n as usize], pair, game, first, second, n);
+    for n in first_asked(live, scope.game.len())..end {
+        values[n as usize] = pair_value(live[n as usize], pair, scope.game, first, second, n);
     }
     Ok(values)
 }

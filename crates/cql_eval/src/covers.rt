@@ -6,12 +6,13 @@ ghost use Rattle.cq_position.specs.Led.{led_to as led_to_in};
 ghost use Rattle.cq_symmetry.specs.Images.{is_in};
 ghost use Rattle.cql_syntax.specs.Values as spec;
 ghost use Rattle.cql_syntax.specs.declared.leaves.Pair.TheVariants.{Attacks, AttackedBy};
-ghost use Rattle.cql_values.specs.Trees.{searched_tree};
 ghost use Rattle.cql_eval.specs.Columns.{AreAsked, AreKept, shown};
 ghost use Rattle.cql_eval.specs.Covers.{AreCut, IsCut, AreSetsOf, IsOfMove, HasSome, IsSoRelated, AreAmong, AreEverywhere, AreJoined};
+ghost use Rattle.cql_eval.specs.Scopes.{tree_in};
 
 use crate::filter_column::{FilterColumn, set_at};
 use crate::nodes::same;
+use crate::scope::Scope;
 use cq_geometry::Square;
 use cq_outside::NoMemory;
 use cq_sets::mark;
@@ -113,13 +114,12 @@ fn given_if(asked: bool, set: u64) -> u64
 /// The nodes of a set at which there are squares.
 pub(crate) fn with_squares(
     alloc: Global,
-    game: &Game,
-    variations: bool,
+    scope: &Scope,
     live: &[bool],
     sets: &[u64],
 ) -> Result<Vec<bool>, NoMemory>
-    requires asked { AreAsked (searched_tree game.now variations) live.now }
-    ensures { IfOk result (λ some. HasSome (searched_tree game.now variations) live.now sets.now some.items) }
+    requires asked { AreAsked (tree_in scope.now) live.now }
+    ensures { IfOk result (λ some. HasSome (tree_in scope.now) live.now sets.now some.items) }
 {
     let mut some = same(alloc, live)?;
     keep_some(&mut some, sets);
@@ -178,18 +178,25 @@ fn kept_where_holds(set: u64, asked: bool, column: &FilterColumn, n: usize) -> u
 pub(crate) fn cut_related(
     sets: &mut [u64],
     live: &[bool],
-    game: &Game,
-    variations: bool,
+    scope: &Scope,
     pair: Pair,
     column: &FilterColumn,
 )
-    requires asked { AreAsked (searched_tree game.now variations) live.now }
+    requires asked { AreAsked (tree_in scope.now) live.now }
     requires count { length sets.old ≡ length live.now }
     requires attack { (pair ≡ Attacks) ⊎ (pair ≡ AttackedBy) }
-    ensures { AreCut live.now (λ n. IsSoRelated (node_at game.now.nodes n).position.men pair (shown column.now n)) sets.old sets.new }
+    ensures { AreCut live.now
+        (λ n. IsSoRelated (node_at scope.now.game.now.nodes n).position.men pair (shown column.now n)) sets.old sets.new }
 {
-    for n in 0..game.len() {
-        sets[n as usize] = related_one(sets[n as usize], live[n as usize], game, pair, column, n);
+    for n in 0..scope.game.len() {
+        sets[n as usize] = related_one(
+            sets[n as usize],
+            live[n as usize],
+            scope.game,
+            pair,
+            column,
+            n,
+        );
     }
 }
 
@@ -215,22 +222,21 @@ fn related_one(set: u64, asked: bool, game: &Game, pair: Pair, column: &FilterCo
 pub(crate) fn cut_moves(
     sets: &mut [u64],
     live: &[bool],
-    game: &Game,
-    variations: bool,
+    scope: &Scope,
     origin: bool,
     goal: bool,
     taken: bool,
 )
-    requires tree { IsTree game.now.nodes }
-    requires asked { AreAsked (searched_tree game.now variations) live.now }
+    requires tree { IsTree scope.now.game.now.nodes }
+    requires asked { AreAsked (tree_in scope.now) live.now }
     requires count { length sets.old ≡ length live.now }
-    ensures { AreCut live.now (λ n. IsOfMove (led_to_in game.now.nodes n) origin goal taken) sets.old sets.new }
+    ensures { AreCut live.now (λ n. IsOfMove (led_to_in scope.now.game.now.nodes n) origin goal taken) sets.old sets.new }
 {
-    for n in 0..game.len() {
+    for n in 0..scope.game.len() {
         sets[n as usize] = move_one(
             sets[n as usize],
             live[n as usize],
-            game,
+            scope.game,
             origin,
             goal,
             taken,

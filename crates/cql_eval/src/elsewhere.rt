@@ -2,12 +2,13 @@
 ghost use Rattle.std.specs.Prelude.{◌≡◌, ◌<◌, length, true, get_or, bit_or, IfOk};
 ghost use Rattle.cq_position.specs.Games.{IsTree, node_at};
 ghost use Rattle.cql_syntax.specs.declared.leaves.Unary.TheVariants.{Find, FindUp, Child, Parent};
-ghost use Rattle.cql_values.specs.Trees.{searched_tree};
 ghost use Rattle.cql_eval.specs.Columns.{AreAsked};
 ghost use Rattle.cql_eval.specs.Elsewhere.{asks_elsewhere, AreLookedAt, AreBroughtBack, AreRaisedSets, set_of_node};
+ghost use Rattle.cql_eval.specs.Scopes.{tree_in};
 
 use crate::filter_column::{blank_sets, set_at};
 use crate::nodes::same;
+use crate::scope::Scope;
 use crate::tree::{above, below, children, parents};
 use cq_outside::NoMemory;
 use cql_syntax::Unary;
@@ -29,19 +30,18 @@ pub(crate) fn looks_elsewhere(word: Unary) -> bool
 pub(crate) fn looked_at(
     alloc: Global,
     word: Unary,
-    game: &Game,
-    variations: bool,
+    scope: &Scope,
     live: &[bool],
 ) -> Result<Vec<bool>, NoMemory>
-    requires tree { IsTree game.now.nodes }
-    requires asked { AreAsked (searched_tree game.now variations) live.now }
-    ensures { IfOk result (λ wide. AreLookedAt (searched_tree game.now variations) word live.now wide.items) }
+    requires tree { IsTree scope.now.game.now.nodes }
+    requires asked { AreAsked (tree_in scope.now) live.now }
+    ensures { IfOk result (λ wide. AreLookedAt (tree_in scope.now) word live.now wide.items) }
 {
     match word {
-        Unary::Find => below(alloc, game, variations, live),
-        Unary::FindUp => above(alloc, game, variations, live),
-        Unary::Child => children(alloc, game, variations, live),
-        Unary::Parent => parents(alloc, game, variations, live),
+        Unary::Find => below(alloc, scope, live),
+        Unary::FindUp => above(alloc, scope, live),
+        Unary::Child => children(alloc, scope, live),
+        Unary::Parent => parents(alloc, scope, live),
         Unary::Not | Unary::Complement | Unary::Count | Unary::Power | Unary::Light | Unary::Dark =>
             same(alloc, live),
     }

@@ -1,15 +1,15 @@
 //! The column of a filter, by recursion on the filter.
-ghost use Rattle.std.specs.Prelude.{◌≡◌, ℕ, ◌<◌, ◌≤◌, ◌+◌, ◌*◌, ◌∷◌, [], length, true, false, get_or, not, option_map, IfOk, if◌then◌else◌};
+ghost use Rattle.std.specs.Prelude.{◌≡◌, ℕ, ◌<◌, ◌≤◌, ◌+◌, ◌*◌, ◌∷◌, length, true, false, get_or, not, option_map, IfOk, if◌then◌else◌};
 ghost use Rattle.std.specs.List.{list_any, range_with_len};
 ghost use Rattle.cq_position.specs.Games.{IsTree};
 ghost use Rattle.cql_syntax.specs.Meaning as meaning;
 ghost use Rattle.cql_syntax.specs.TreeOf.{filter_tree, filters_tree, terms_tree, played_tree, written_tree, line_tree};
 ghost use Rattle.cql_syntax.specs.Values as spec;
-ghost use Rattle.cql_values.specs.Trees.{searched_tree};
 ghost use Rattle.cql_eval.specs.Asked.{AreUnsettled};
 ghost use Rattle.cql_eval.specs.Columns.{AreAsked, AreTruths, IsColumn, Where, shown, all_shown, terms_shown};
 ghost use Rattle.cql_eval.specs.Costs.{filter_cost, filters_cost, terms_cost, played_cost, written_cost, line_cost, searched_len};
 ghost use Rattle.cql_eval.specs.FlatTrees.{IsFlat, AreFlat, AreFlatTerms, IsFlatMove, IsFlatPart, IsFlatLine};
+ghost use Rattle.cql_eval.specs.Scopes.{tree_in, value_in, values_in};
 
 mod chains;
 mod cover_moves;
@@ -19,6 +19,7 @@ mod covers;
 mod lines;
 mod played;
 mod squares;
+mod trial;
 
 use crate::combine::{
     any_values, chain_values, chosen, negated, numbered, pair_values, reached_values, sum_values,
@@ -27,22 +28,21 @@ use crate::combine::{
 use crate::filter_column::FilterColumn;
 use crate::leaves::{standing_sets, word_values};
 use crate::nodes::{any_live, narrowed, part_of};
+use crate::scope::Scope;
 use crate::tree::{
     above, below, children, lowered, none, of_parents, parents, raised, with_parents,
 };
 pub(crate) use chains::left_by;
-use chains::{all_hold, columns_of, none_holds, terms_of};
+use chains::{all_hold, columns_of, no_member_holds, none_holds, terms_of};
 use cq_outside::{NoMemory, Steps};
 use cql_syntax::{Chain, Filter, Filters, Form, Kind, Unary};
 use cql_values::headers::{has_text, is_result, rating};
-use cql_values::names::Names;
 use cql_values::numbers::counted;
 use cql_values::value::Value;
 use cql_values::words::directions;
 use lines::line_numbers;
-use pgn_tree::Game;
 use played::played_truths;
-use squares::asked_truths;
+use squares::{Binding, asked_truths};
 use std::alloc::Global;
 use std::sync::ledger::Ledger;
 
@@ -52,18 +52,16 @@ use std::sync::ledger::Ledger;
 pub(crate) fn evaluate<L: Ledger>(
     alloc: Global,
     f: &Filter,
-    game: &Game,
-    variations: bool,
-    names: &Names,
+    scope: &Scope,
     live: &[bool],
     steps: &mut Steps<L>,
 ) -> Result<FilterColumn, NoMemory>
-    requires tree { IsTree game.now.nodes }
-    requires asked { AreAsked (searched_tree game.now variations) live.now }
+    requires tree { IsTree scope.now.game.now.nodes }
+    requires asked { AreAsked (tree_in scope.now) live.now }
     requires flat { IsFlat (filter_tree f.now) }
     ensures value { IfOk result (λ c. IsColumn c live.now
-        (meaning.value (searched_tree game.now variations) [] names.now (filter_tree f.now))) }
-    ensures cost { steps.new ≤ steps.old + filter_cost (searched_len (searched_tree game.now variations)) (filter_tree f.now) }
+        (value_in scope.now (filter_tree f.now))) }
+    ensures cost { steps.new ≤ steps.old + filter_cost (searched_len (tree_in scope.now)) (filter_tree f.now) }
     ensures rises { steps.old ≤ steps.new }
 {
     if !any_live(live) {
@@ -71,86 +69,75 @@ pub(crate) fn evaluate<L: Ledger>(
     }
     match &f.form {
         Form::Squares(d) => {
-            let sets = standing_sets(alloc, d, game, variations, live)?;
+            let sets = standing_sets(alloc, d, scope, live)?;
             Ok(FilterColumn::Sets(sets))
         }
         Form::Number(number) => Ok(FilterColumn::Same(counted(*number))),
-        Form::Name(name) => Ok(FilterColumn::Same(names.squares_of(name.as_slice()))),
+        Form::Name(name) => Ok(FilterColumn::Same(scope.names.squares_of(name.as_slice()))),
         Form::Plain(word) => {
-            let values = word_values(alloc, *word, game, variations, live)?;
+            let values = word_values(alloc, *word, scope, live)?;
             Ok(FilterColumn::Values(values))
         }
         Form::Tagged(field, text) => {
-            let holds = has_text(game, *field, text.as_slice());
+            let holds = has_text(scope.game, *field, text.as_slice());
             Ok(FilterColumn::Same(Value::Truth(holds)))
         }
         Form::Outcome(outcome) => {
-            let holds = is_result(*outcome, game.result());
+            let holds = is_result(*outcome, scope.game.result());
             Ok(FilterColumn::Same(Value::Truth(holds)))
         }
-        Form::Elo(of) => Ok(FilterColumn::Same(Value::Number(rating(game, *of)))),
-        Form::Unary(word, part) => {
-            unary_column(alloc, *word, part, game, variations, names, live, steps)
-        }
+        Form::Elo(of) => Ok(FilterColumn::Same(Value::Number(rating(scope.game, *of)))),
+        Form::Unary(word, part) => { unary_column(alloc, *word, part, scope, live, steps) }
         Form::Steps(way, m, n, part) => {
-            let column = evaluate(alloc, part, game, variations, names, live, steps)?;
+            let column = evaluate(alloc, part, scope, live, steps)?;
             let values = reached_values(alloc, directions(*way), *m, *n, &column, live)?;
             Ok(FilterColumn::Values(values))
         }
-        Form::Chain(chain, parts) => {
-            chain_column(alloc, *chain, parts, game, variations, names, live, steps)
-        }
+        Form::Chain(chain, parts) => { chain_column(alloc, *chain, parts, scope, live, steps) }
         Form::Sum(terms) => {
-            let columns = terms_of(alloc, terms, game, variations, names, live, steps)?;
+            let columns = terms_of(alloc, terms, scope, live, steps)?;
             let values = sum_values(alloc, columns.as_slice(), live)?;
             Ok(FilterColumn::Values(values))
         }
         Form::Pair(pair, first, second) => {
-            let first = evaluate(alloc, first, game, variations, names, live, steps)?;
-            let second = evaluate(alloc, second, game, variations, names, live, steps)?;
-            let values = pair_values(alloc, *pair, game, variations, &first, &second, live)?;
+            let first = evaluate(alloc, first, scope, live, steps)?;
+            let second = evaluate(alloc, second, scope, live, steps)?;
+            let values = pair_values(alloc, *pair, scope, &first, &second, live)?;
             Ok(FilterColumn::Values(values))
         }
         Form::If(condition, then, otherwise) => {
-            let first = evaluate(alloc, condition, game, variations, names, live, steps)?;
-            let held = part_of(alloc, game, variations, live, &first, true)?;
-            let second = evaluate(alloc, then, game, variations, names, &held, steps)?;
-            let failed = part_of(alloc, game, variations, live, &first, false)?;
-            let third = evaluate(alloc, otherwise, game, variations, names, &failed, steps)?;
+            let first = evaluate(alloc, condition, scope, live, steps)?;
+            let held = part_of(alloc, scope, live, &first, true)?;
+            let second = evaluate(alloc, then, scope, &held, steps)?;
+            let failed = part_of(alloc, scope, live, &first, false)?;
+            let third = evaluate(alloc, otherwise, scope, &failed, steps)?;
             let truths = chosen(alloc, &first, &second, &third, live)?;
             Ok(FilterColumn::Truths(truths))
         }
         Form::Square(every, name, squares, asked) => {
-            let squares = evaluate(alloc, squares, game, variations, names, live, steps)?;
-            let truths = asked_truths(
-                alloc,
-                *every,
-                name.as_slice(),
-                &squares,
-                asked,
-                game,
-                variations,
-                names,
-                live,
-                steps,
-            )?;
+            let squares = evaluate(alloc, squares, scope, live, steps)?;
+            let binding = Binding {
+                scope: &*scope,
+                every: *every,
+                name: name.as_slice(),
+                squares: &squares,
+            };
+            let truths = asked_truths(alloc, &binding, asked, live, steps)?;
             Ok(FilterColumn::Truths(truths))
         }
         Form::Played(played) => {
-            let truths = played_truths(alloc, played, game, variations, names, live, steps)?;
+            let truths = played_truths(alloc, played, scope, live, steps)?;
             Ok(FilterColumn::Truths(truths))
         }
         Form::Sort(.., part) => {
-            let column = evaluate(alloc, part, game, variations, names, live, steps)?;
+            let column = evaluate(alloc, part, scope, live, steps)?;
             let truths = numbered(alloc, &column, live)?;
             Ok(FilterColumn::Truths(truths))
         }
         Form::Comment(_) => Ok(FilterColumn::Same(Value::Truth(true))),
-        Form::Any(kind, parts) => {
-            any_column(alloc, *kind, parts, game, variations, names, live, steps)
-        }
+        Form::Any(kind, parts) => { any_column(alloc, *kind, parts, scope, live, steps) }
         Form::Line(line) => {
-            let numbers = line_numbers(alloc, line, game, variations, names, live, steps)?;
+            let numbers = line_numbers(alloc, line, scope, live, steps)?;
             Ok(FilterColumn::Numbers(numbers))
         }
         // No family is in a flat query.
@@ -164,58 +151,54 @@ fn unary_column<L: Ledger>(
     alloc: Global,
     word: Unary,
     part: &Filter,
-    game: &Game,
-    variations: bool,
-    names: &Names,
+    scope: &Scope,
     live: &[bool],
     steps: &mut Steps<L>,
 ) -> Result<FilterColumn, NoMemory>
-    requires tree { IsTree game.now.nodes }
-    requires asked { AreAsked (searched_tree game.now variations) live.now }
+    requires tree { IsTree scope.now.game.now.nodes }
+    requires asked { AreAsked (tree_in scope.now) live.now }
     requires flat { IsFlat (filter_tree part.now) }
-    ensures value { IfOk result (λ c. IsColumn c live.now (meaning.unary_of (searched_tree game.now variations) word
-        (meaning.value (searched_tree game.now variations) [] names.now (filter_tree part.now)))) }
-    ensures cost { steps.new ≤ steps.old + filter_cost (searched_len (searched_tree game.now variations)) (filter_tree part.now) }
+    ensures value { IfOk result (λ c. IsColumn c live.now (meaning.unary_of (tree_in scope.now) word
+        (value_in scope.now (filter_tree part.now)))) }
+    ensures cost { steps.new ≤ steps.old + filter_cost (searched_len (tree_in scope.now)) (filter_tree part.now) }
     ensures rises { steps.old ≤ steps.new }
 {
     match word {
         Unary::Find => {
-            let wide = below(alloc, game, variations, live)?;
-            let column = evaluate(alloc, part, game, variations, names, &wide, steps)?;
+            let wide = below(alloc, scope, live)?;
+            let column = evaluate(alloc, part, scope, &wide, steps)?;
             let set = narrowed(alloc, &wide, &column, true)?;
-            let found = raised(game, set);
-            Ok(FilterColumn::Truths(found))
+            Ok(FilterColumn::Truths(raised(scope.game, set)))
         }
         Unary::FindUp => {
-            let wide = above(alloc, game, variations, live)?;
-            let column = evaluate(alloc, part, game, variations, names, &wide, steps)?;
+            let wide = above(alloc, scope, live)?;
+            let column = evaluate(alloc, part, scope, &wide, steps)?;
             let set = narrowed(alloc, &wide, &column, true)?;
-            let found = lowered(alloc, game, &set)?;
+            let found = lowered(alloc, scope.game, &set)?;
             Ok(FilterColumn::Truths(found))
         }
         Unary::Child => {
-            let wide = children(alloc, game, variations, live)?;
-            let column = evaluate(alloc, part, game, variations, names, &wide, steps)?;
+            let wide = children(alloc, scope, live)?;
+            let column = evaluate(alloc, part, scope, &wide, steps)?;
             let set = narrowed(alloc, &wide, &column, true)?;
-            let start = none(alloc, game)?;
-            let found = with_parents(game, &set, start);
-            Ok(FilterColumn::Truths(found))
+            let start = none(alloc, scope.game)?;
+            Ok(FilterColumn::Truths(with_parents(scope.game, &set, start)))
         }
         Unary::Parent => {
-            let wide = parents(alloc, game, variations, live)?;
-            let column = evaluate(alloc, part, game, variations, names, &wide, steps)?;
+            let wide = parents(alloc, scope, live)?;
+            let column = evaluate(alloc, part, scope, &wide, steps)?;
             let set = narrowed(alloc, &wide, &column, true)?;
-            let found = of_parents(alloc, game, &set)?;
+            let found = of_parents(alloc, scope.game, &set)?;
             Ok(FilterColumn::Truths(found))
         }
         Unary::Not => {
-            let column = evaluate(alloc, part, game, variations, names, live, steps)?;
+            let column = evaluate(alloc, part, scope, live, steps)?;
             let truths = negated(alloc, &column, live)?;
             Ok(FilterColumn::Truths(truths))
         }
         _ => {
-            let column = evaluate(alloc, part, game, variations, names, live, steps)?;
-            let values = unary_values(alloc, word, game, variations, &column, live)?;
+            let column = evaluate(alloc, part, scope, live, steps)?;
+            let values = unary_values(alloc, word, scope, &column, live)?;
             Ok(FilterColumn::Values(values))
         }
     }
@@ -227,32 +210,30 @@ fn chain_column<L: Ledger>(
     alloc: Global,
     chain: Chain,
     parts: &Filters,
-    game: &Game,
-    variations: bool,
-    names: &Names,
+    scope: &Scope,
     live: &[bool],
     steps: &mut Steps<L>,
 ) -> Result<FilterColumn, NoMemory>
-    requires tree { IsTree game.now.nodes }
-    requires asked { AreAsked (searched_tree game.now variations) live.now }
+    requires tree { IsTree scope.now.game.now.nodes }
+    requires asked { AreAsked (tree_in scope.now) live.now }
     requires flat { AreFlat (filters_tree parts.now) }
     ensures value { IfOk result (λ c. IsColumn c live.now
-        (λ n. spec.chain_of chain (meaning.values (searched_tree game.now variations) [] names.now (filters_tree parts.now) n))) }
-    ensures cost { steps.new ≤ steps.old + filters_cost (searched_len (searched_tree game.now variations)) (filters_tree parts.now) }
+        (λ n. spec.chain_of chain (values_in scope.now (filters_tree parts.now) n))) }
+    ensures cost { steps.new ≤ steps.old + filters_cost (searched_len (tree_in scope.now)) (filters_tree parts.now) }
     ensures rises { steps.old ≤ steps.new }
 {
     match chain {
         Chain::And | Chain::All => {
-            let truths = all_hold(alloc, parts, game, variations, names, live, steps)?;
+            let truths = all_hold(alloc, parts, scope, live, steps)?;
             Ok(FilterColumn::Truths(truths))
         }
         Chain::Or => {
-            let fails = none_holds(alloc, parts, game, variations, names, live, steps)?;
+            let fails = none_holds(alloc, parts, scope, live, steps)?;
             let truths = negated(alloc, &FilterColumn::Truths(fails), live)?;
             Ok(FilterColumn::Truths(truths))
         }
         Chain::Union | Chain::Intersect | Chain::Product | Chain::Max | Chain::Min => {
-            let columns = columns_of(alloc, parts, game, variations, names, live, steps)?;
+            let columns = columns_of(alloc, parts, scope, live, steps)?;
             let values = chain_values(alloc, chain, columns.as_slice(), live)?;
             Ok(FilterColumn::Values(values))
         }
@@ -265,28 +246,26 @@ fn any_column<L: Ledger>(
     alloc: Global,
     kind: Kind,
     parts: &Filters,
-    game: &Game,
-    variations: bool,
-    names: &Names,
+    scope: &Scope,
     live: &[bool],
     steps: &mut Steps<L>,
 ) -> Result<FilterColumn, NoMemory>
-    requires tree { IsTree game.now.nodes }
-    requires asked { AreAsked (searched_tree game.now variations) live.now }
+    requires tree { IsTree scope.now.game.now.nodes }
+    requires asked { AreAsked (tree_in scope.now) live.now }
     requires flat { AreFlat (filters_tree parts.now) }
     ensures value { IfOk result (λ c. IsColumn c live.now
-        (λ n. spec.any_of kind (meaning.values (searched_tree game.now variations) [] names.now (filters_tree parts.now) n))) }
-    ensures cost { steps.new ≤ steps.old + filters_cost (searched_len (searched_tree game.now variations)) (filters_tree parts.now) }
+        (λ n. spec.any_of kind (values_in scope.now (filters_tree parts.now) n))) }
+    ensures cost { steps.new ≤ steps.old + filters_cost (searched_len (tree_in scope.now)) (filters_tree parts.now) }
     ensures rises { steps.old ≤ steps.new }
 {
     match kind {
         Kind::Position => {
-            let fails = none_holds(alloc, parts, game, variations, names, live, steps)?;
+            let fails = no_member_holds(alloc, parts, scope, live, steps)?;
             let truths = negated(alloc, &FilterColumn::Truths(fails), live)?;
             Ok(FilterColumn::Truths(truths))
         }
         Kind::Set | Kind::Number => {
-            let columns = columns_of(alloc, parts, game, variations, names, live, steps)?;
+            let columns = columns_of(alloc, parts, scope, live, steps)?;
             let values = any_values(alloc, kind, columns.as_slice(), live)?;
             Ok(FilterColumn::Values(values))
         }

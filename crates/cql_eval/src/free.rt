@@ -59,9 +59,10 @@ fn is_free_move(opened: &Names, played: &Played) -> bool
         && is_free_part(opened, &played.promoted)
 }
 
+/// Whether no name of these stands in a part, if it is written.
 #[cycle(is_free)]
 #[tactic(auto, unfolding(cql_syntax::specs::Meaning::value, crate::specs::Costs::filter_cost))]
-fn is_free_part(opened: &Names, part: &Option<Box<Filter>>) -> bool
+pub(crate) fn is_free_part(opened: &Names, part: &Option<Box<Filter>>) -> bool
     ensures { result ≡ true → IsFreePart opened.now (written_tree part.now) }
 {
     match part {
@@ -155,7 +156,8 @@ pub(crate) fn is_own_part(name: &[u8], part: &Option<Box<Filter>>) -> bool
 
 /// Whether some square is asked for, under a name that differs from another.
 pub(crate) fn is_other(every: bool, inner: &[u8], name: &[u8]) -> bool
-    ensures { result ≡ true → (every ≡ false) × (bytes_eq inner.now name.now ≡ false) }
+    ensures some { result ≡ true → every ≡ false }
+    ensures other { result ≡ true → bytes_eq inner.now name.now ≡ false }
 {
     !every && inner != name
 }

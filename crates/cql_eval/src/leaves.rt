@@ -7,16 +7,16 @@ ghost use Rattle.cql_syntax.specs.Values.{as_squares, count};
 ghost use Rattle.cql_values.specs.Asked.{AreTheMen};
 ghost use Rattle.cql_values.specs.Counts.{moves_on};
 ghost use Rattle.cql_values.specs.Shown.{meant};
-ghost use Rattle.cql_values.specs.Trees.{searched_tree};
 ghost use Rattle.cql_eval.specs.Columns.{AreAsked, AreSets, AreValues};
+ghost use Rattle.cql_eval.specs.Scopes.{tree_in};
 
 use crate::filter_column::{blank_sets, blank_values};
+use crate::scope::Scope;
 use crate::spans::{asked_end, first_asked};
 use cq_outside::NoMemory;
 use cq_position::Man;
 use cql_syntax::{Designator, Plain};
 use cql_values::counts::{Moves, counts};
-use cql_values::names::Names;
 use cql_values::numbers::counted;
 use cql_values::value::Value;
 use cql_values::words::{listed_men, standing_of, word_at};
@@ -27,19 +27,18 @@ use std::alloc::Global;
 pub(crate) fn standing_sets(
     alloc: Global,
     d: &Designator,
-    game: &Game,
-    variations: bool,
+    scope: &Scope,
     live: &[bool],
 ) -> Result<Vec<u64>, NoMemory>
-    requires asked { AreAsked (searched_tree game.now variations) live.now }
+    requires asked { AreAsked (tree_in scope.now) live.now }
     ensures { IfOk result (λ sets. AreSets sets.items live.now
-        (λ n. meaning.standing_of (node_at game.now.nodes n).position.men (Some d.now))) }
+        (λ n. meaning.standing_of (node_at scope.now.game.now.nodes n).position.men (Some d.now))) }
 {
     let men = listed_men(alloc, d.men)?;
-    let end = asked_end(live, game.len());
+    let end = asked_end(live, scope.game.len());
     let mut sets = blank_sets(alloc, end as usize)?;
-    for n in first_asked(live, game.len())..end {
-        sets[n as usize] = standing_set(live[n as usize], d, &men, game, n);
+    for n in first_asked(live, scope.game.len())..end {
+        sets[n as usize] = standing_set(live[n as usize], d, &men, scope.game, n);
     }
     Ok(sets)
 }
@@ -61,37 +60,35 @@ fn standing_set(asked: bool, d: &Designator, men: &[Man], game: &Game, n: u32) -
 pub(crate) fn word_values(
     alloc: Global,
     word: Plain,
-    game: &Game,
-    variations: bool,
+    scope: &Scope,
     live: &[bool],
 ) -> Result<Vec<Value>, NoMemory>
-    requires tree { IsTree game.now.nodes }
-    requires asked { AreAsked (searched_tree game.now variations) live.now }
-    ensures { IfOk result (λ values. AreValues values.items live.now (meaning.word_of (searched_tree game.now variations) word)) }
+    requires tree { IsTree scope.now.game.now.nodes }
+    requires asked { AreAsked (tree_in scope.now) live.now }
+    ensures { IfOk result (λ values. AreValues values.items live.now (meaning.word_of (tree_in scope.now) word)) }
 {
     match word {
-        Plain::Ply => counted_values(alloc, Moves::All, game, variations, live),
-        Plain::Depth => counted_values(alloc, Moves::BeginVariations, game, variations, live),
-        Plain::SinceCapture => counted_values(alloc, Moves::SinceCapture, game, variations, live),
-        _ => values_one_by_one(alloc, word, game, variations, live),
+        Plain::Ply => counted_values(alloc, Moves::All, scope, live),
+        Plain::Depth => counted_values(alloc, Moves::BeginVariations, scope, live),
+        Plain::SinceCapture => counted_values(alloc, Moves::SinceCapture, scope, live),
+        _ => values_one_by_one(alloc, word, scope, live),
     }
 }
 
 fn counted_values(
     alloc: Global,
     moves: Moves,
-    game: &Game,
-    variations: bool,
+    scope: &Scope,
     live: &[bool],
 ) -> Result<Vec<Value>, NoMemory>
-    requires tree { IsTree game.now.nodes }
-    requires asked { AreAsked (searched_tree game.now variations) live.now }
-    ensures { IfOk result (λ values. AreValues values.items live.now (λ n. count (moves_on moves game.now.nodes n))) }
+    requires tree { IsTree scope.now.game.now.nodes }
+    requires asked { AreAsked (tree_in scope.now) live.now }
+    ensures { IfOk result (λ values. AreValues values.items live.now (λ n. count (moves_on moves scope.now.game.now.nodes n))) }
 {
-    let counts = counts(alloc, game, moves)?;
-    let end = asked_end(live, game.len());
+    let counts = counts(alloc, scope.game, moves)?;
+    let end = asked_end(live, scope.game.len());
     let mut values = blank_values(alloc, end as usize)?;
-    for n in first_asked(live, game.len())..end {
+    for n in first_asked(live, scope.game.len())..end {
         values[n as usize] = counted(counts[n as usize]);
     }
     Ok(values)
@@ -100,18 +97,17 @@ fn counted_values(
 fn values_one_by_one(
     alloc: Global,
     word: Plain,
-    game: &Game,
-    variations: bool,
+    scope: &Scope,
     live: &[bool],
 ) -> Result<Vec<Value>, NoMemory>
-    requires tree { IsTree game.now.nodes }
-    requires asked { AreAsked (searched_tree game.now variations) live.now }
-    ensures { IfOk result (λ values. AreValues values.items live.now (meaning.word_of (searched_tree game.now variations) word)) }
+    requires tree { IsTree scope.now.game.now.nodes }
+    requires asked { AreAsked (tree_in scope.now) live.now }
+    ensures { IfOk result (λ values. AreValues values.items live.now (meaning.word_of (tree_in scope.now) word)) }
 {
-    let end = asked_end(live, game.len());
+    let end = asked_end(live, scope.game.len());
     let mut values = blank_values(alloc, end as usize)?;
-    for n in first_asked(live, game.len())..end {
-        values[n as usize] = word_value(alloc, live[n as usize], word, game, variations, n)?;
+    for n in first_asked(live, scope.game.len())..end {
+        values[n as usize] = word_value(alloc, live[n as usize], word, scope, n)?;
     }
     Ok(values)
 }
@@ -120,16 +116,15 @@ fn word_value(
     alloc: Global,
     asked: bool,
     word: Plain,
-    game: &Game,
-    variations: bool,
+    scope: &Scope,
     n: u32,
 ) -> Result<Value, NoMemory>
-    requires tree { IsTree game.now.nodes }
-    requires node { n < length game.now.nodes }
-    ensures { IfOk result (λ value. asked ≡ true → meant value ≡ meaning.word_of (searched_tree game.now variations) word n) }
+    requires tree { IsTree scope.now.game.now.nodes }
+    requires node { n < length scope.now.game.now.nodes }
+    ensures { IfOk result (λ value. asked ≡ true → meant value ≡ meaning.word_of (tree_in scope.now) word n) }
 {
     if asked {
-        word_at(alloc, word, game, variations, n)
+        word_at(alloc, word, scope.game, scope.variations, n)
     } else {
         Ok(Value::Truth(false))
     }

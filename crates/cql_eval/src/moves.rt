@@ -4,12 +4,13 @@ ghost use Rattle.cq_position.specs.Games.{IsTree, node_at};
 ghost use Rattle.cq_position.specs.Led.{led_to as led_to_in};
 ghost use Rattle.cql_syntax.specs.Meaning as meaning;
 ghost use Rattle.cql_values.specs.Shown.{meant};
-ghost use Rattle.cql_values.specs.Trees.{searched_tree};
 ghost use Rattle.cql_eval.specs.Columns.{AreAsked, AreKept, is_live, shown};
 ghost use Rattle.cql_eval.specs.Promoting.{ArePromoting, is_promotion};
+ghost use Rattle.cql_eval.specs.Scopes.{tree_in};
 
 use crate::filter_column::{FilterColumn, blank_truths};
 use crate::nodes::same;
+use crate::scope::Scope;
 use crate::spans::{asked_end, first_asked};
 use cq_outside::NoMemory;
 use cq_position::Promotion;
@@ -21,17 +22,16 @@ use std::alloc::Global;
 /// The nodes of a set or, where promotions alone are wanted, those of them to which one led.
 pub(crate) fn promoting(
     alloc: Global,
-    game: &Game,
-    variations: bool,
+    scope: &Scope,
     wanted: bool,
     live: &[bool],
 ) -> Result<Vec<bool>, NoMemory>
-    requires asked { AreAsked (searched_tree game.now variations) live.now }
-    ensures { IfOk result (λ some. ArePromoting (searched_tree game.now variations) wanted live.now some.items) }
+    requires asked { AreAsked (tree_in scope.now) live.now }
+    ensures { IfOk result (λ some. ArePromoting (tree_in scope.now) wanted live.now some.items) }
 {
     let mut some = same(alloc, live)?;
     if wanted {
-        keep_promotions(&mut some, game);
+        keep_promotions(&mut some, scope.game);
     }
     Ok(some)
 }
@@ -63,70 +63,59 @@ fn is_promoted(asked: bool, game: &Game, n: u32) -> bool
 /// before, the others at the node itself.
 pub(crate) fn moves_met(
     alloc: Global,
-    game: &Game,
-    variations: bool,
+    scope: &Scope,
     origin: &Option<FilterColumn>,
     goal: &Option<FilterColumn>,
     taken: &Option<FilterColumn>,
     promoted: &Option<FilterColumn>,
     live: &[bool],
 ) -> Result<Vec<bool>, NoMemory>
-    requires tree { IsTree game.now.nodes }
-    requires asked { AreAsked (searched_tree game.now variations) live.now }
+    requires tree { IsTree scope.now.game.now.nodes }
+    requires asked { AreAsked (tree_in scope.now) live.now }
     ensures { IfOk result (λ truths. (n : ℕ) → get_or truths.items n false
-        ≡ (is_live live.now n && meaning.meets_all (led_to_in game.now.nodes n)
-        (option_map (λ c. shown c (meaning.before (searched_tree game.now variations) n)) origin.now)
+        ≡ (is_live live.now n && meaning.meets_all (led_to_in scope.now.game.now.nodes n)
+        (option_map (λ c. shown c (meaning.before (tree_in scope.now) n)) origin.now)
         (option_map (λ c. shown c n) goal.now)
-        (option_map (λ c. shown c (meaning.before (searched_tree game.now variations) n)) taken.now)
+        (option_map (λ c. shown c (meaning.before (tree_in scope.now) n)) taken.now)
         (option_map (λ c. shown c n) promoted.now))) }
 {
-    let mut truths = blank_truths(alloc, game.len() as usize)?;
-    for n in 0..game.len() {
-        truths[n as usize] = is_met(
-            live[n as usize],
-            game,
-            variations,
-            origin,
-            goal,
-            taken,
-            promoted,
-            n,
-        );
+    let mut truths = blank_truths(alloc, scope.game.len() as usize)?;
+    for n in 0..scope.game.len() {
+        truths[n as usize] = is_met(live[n as usize], scope, origin, goal, taken, promoted, n);
     }
     Ok(truths)
 }
 
 fn is_met(
     asked: bool,
-    game: &Game,
-    variations: bool,
+    scope: &Scope,
     origin: &Option<FilterColumn>,
     goal: &Option<FilterColumn>,
     taken: &Option<FilterColumn>,
     promoted: &Option<FilterColumn>,
     n: u32,
 ) -> bool
-    requires tree { IsTree game.now.nodes }
-    requires node { n < length game.now.nodes }
-    ensures { result ≡ (asked && meaning.meets_all (led_to_in game.now.nodes n)
-        (option_map (λ c. shown c (meaning.before (searched_tree game.now variations) n)) origin.now)
+    requires tree { IsTree scope.now.game.now.nodes }
+    requires node { n < length scope.now.game.now.nodes }
+    ensures { result ≡ (asked && meaning.meets_all (led_to_in scope.now.game.now.nodes n)
+        (option_map (λ c. shown c (meaning.before (tree_in scope.now) n)) origin.now)
         (option_map (λ c. shown c n) goal.now)
-        (option_map (λ c. shown c (meaning.before (searched_tree game.now variations) n)) taken.now)
+        (option_map (λ c. shown c (meaning.before (tree_in scope.now) n)) taken.now)
         (option_map (λ c. shown c n) promoted.now)) }
 {
     if !asked {
         return false;
     }
-    let before = before(game, variations, n) as usize;
+    let before = before(scope.game, scope.variations, n) as usize;
     let origin = written_at(origin, before);
     let goal = written_at(goal, n as usize);
     let taken = written_at(taken, before);
     let promoted = written_at(promoted, n as usize);
-    meets_all(led_to(game, n), origin, goal, taken, promoted)
+    meets_all(led_to(scope.game, n), origin, goal, taken, promoted)
 }
 
-// The value of a part that is written.
-fn written_at(column: &Option<FilterColumn>, n: usize) -> Option<Value>
+/// The value of a part that is written.
+pub(crate) fn written_at(column: &Option<FilterColumn>, n: usize) -> Option<Value>
     ensures { option_map meant result ≡ option_map (λ c. shown c n) column.now }
 {
     match column {

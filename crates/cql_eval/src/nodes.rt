@@ -6,9 +6,11 @@ ghost use Rattle.cq_position.specs.Search.{nodes_in};
 ghost use Rattle.cql_values.specs.Trees.{searched_tree};
 ghost use Rattle.cql_eval.specs.Columns.{IsNarrowed, AreAsked, IsPart};
 ghost use Rattle.cql_eval.specs.LineAtoms.{AreAllAsked};
+ghost use Rattle.cql_eval.specs.Scopes.{tree_in};
 
 use crate::filter_column::{FilterColumn, blank_truths};
 use crate::narrow::narrow;
+use crate::scope::Scope;
 use cq_outside::{NoMemory, Steps};
 use cql_values::walks::is_searched;
 use pgn_tree::Game;
@@ -37,12 +39,12 @@ pub(crate) fn searched_nodes<L: Ledger>(
 }
 
 /// The searched nodes.
-pub(crate) fn all_nodes(alloc: Global, game: &Game, variations: bool) -> Result<Vec<bool>, NoMemory>
-    ensures { IfOk result (λ all. AreAllAsked (searched_tree game.now variations) all.items) }
+pub(crate) fn all_nodes(alloc: Global, scope: &Scope) -> Result<Vec<bool>, NoMemory>
+    ensures { IfOk result (λ all. AreAllAsked (tree_in scope.now) all.items) }
 {
-    let mut all = blank_truths(alloc, game.len() as usize)?;
-    for k in 0..game.len() {
-        all[k as usize] = is_searched(game, variations, k);
+    let mut all = blank_truths(alloc, scope.game.len() as usize)?;
+    for k in 0..scope.game.len() {
+        all[k as usize] = is_searched(scope.game, scope.variations, k);
     }
     Ok(all)
 }
@@ -97,14 +99,13 @@ pub(crate) fn narrowed(
 /// The same, where the nodes are those of a game that are asked for.
 pub(crate) fn part_of(
     alloc: Global,
-    game: &Game,
-    variations: bool,
+    scope: &Scope,
     live: &[bool],
     column: &FilterColumn,
     want: bool,
 ) -> Result<Vec<bool>, NoMemory>
-    requires asked { AreAsked (searched_tree game.now variations) live.now }
-    ensures { IfOk result (λ left. IsPart (searched_tree game.now variations) live.now column.now want left.items) }
+    requires asked { AreAsked (tree_in scope.now) live.now }
+    ensures { IfOk result (λ left. IsPart (tree_in scope.now) live.now column.now want left.items) }
 {
     let left = narrowed(alloc, live, column, want)?;
     Ok(left)

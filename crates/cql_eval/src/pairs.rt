@@ -5,15 +5,27 @@ ghost use Rattle.cql_syntax.specs.Meaning as meaning;
 ghost use Rattle.cql_syntax.specs.TreeOf.{filter_tree, filters_tree};
 ghost use Rattle.cql_syntax.specs.Values as spec;
 ghost use Rattle.cq_position.specs.Games.{node_at};
-ghost use Rattle.cql_values.specs.Trees.{searched_tree};
-ghost use Rattle.cql_eval.specs.Columns.{AreAsked, shown};
-ghost use Rattle.cql_eval.specs.Covers.{AreCut, IsOwn, MayPair};
+ghost use Rattle.cql_eval.specs.Columns.{AreAsked};
+ghost use Rattle.cql_eval.specs.Covers.{IsOwn};
+ghost use Rattle.cql_eval.specs.Pairs.{LeavesPaired};
+ghost use Rattle.cql_eval.specs.Scopes.{tree_in, value_with, values_with};
 
 use crate::covers::cut_related;
 use crate::filter_column::FilterColumn;
-use crate::free::{is_all, is_attack, is_other, is_own, turned};
+use crate::free::{is_all, is_attack, is_own, turned};
+use crate::scope::Scope;
 use cql_syntax::{Chain, Filter, Filters, Form, Pair};
-use pgn_tree::Game;
+
+/// Where squares of a name are tried beside those of another, which are among a column's.
+#[derive(Clone, Copy)]
+pub(crate) struct Paired<'a> {
+    pub(crate) scope: &'a Scope<'a>,
+    /// The nodes at which it is asked.
+    pub(crate) live: &'a [bool],
+    pub(crate) name: &'a [u8],
+    pub(crate) other: &'a [u8],
+    pub(crate) column: &'a FilterColumn,
+}
 
 /// Whether somewhere in what must hold the squares of two names are asked of each other.
 #[cycle(asks_pair)]
@@ -42,38 +54,23 @@ fn some_pair(name: &[u8], other: &[u8], parts: &Filters) -> bool {
 /// Leaves those squares of a name with which what is asked may hold, where the square of another name is among a column's.
 #[cycle(cut_paired)]
 #[tactic(auto, unfolding(cql_syntax::specs::Meaning::value))]
-pub(crate) fn cut_paired(
-    sets: &mut [u64],
-    live: &[bool],
-    game: &Game,
-    variations: bool,
-    name: &[u8],
-    other: &[u8],
-    asked: &Filter,
-    column: &FilterColumn,
-)
-    requires asked { AreAsked (searched_tree game.now variations) live.now }
-    requires count { length sets.old ≡ length live.now }
-    ensures cut { AreCut live.now (MayPair name.now other.now (shown column.now)
-        (λ e. meaning.value (searched_tree game.now variations) [] e (filter_tree asked.now))) sets.old sets.new }
+pub(crate) fn cut_paired(sets: &mut [u64], paired: &Paired, asked: &Filter)
+    requires asked { AreAsked (tree_in paired.now.scope.now) paired.now.live.now }
+    requires count { length sets.old ≡ length paired.now.live.now }
+    ensures cut { LeavesPaired paired.now
+        (value_with paired.now.scope.now (filter_tree asked.now)) sets.old sets.new }
     ensures len { length sets.new ≡ length sets.old }
 {
     match &asked.form {
         Form::Chain(chain, parts) => {
-            cut_chain(
-                sets, live, game, variations, name, other, *chain, parts, column,
-            );
+            cut_chain(sets, paired, *chain, parts);
         }
         Form::Square(every, third, _, part) => {
             let third = third.as_slice();
-            cut_third(
-                sets, live, game, variations, name, other, *every, third, part, column,
-            );
+            cut_third(sets, paired, *every, third, part);
         }
         Form::Pair(pair, first, second) => {
-            cut_pair(
-                sets, live, game, variations, name, other, *pair, first, second, column,
-            );
+            cut_pair(sets, paired, *pair, first, second);
         }
         _ => {}
     }
@@ -81,108 +78,68 @@ pub(crate) fn cut_paired(
 
 // Of the filters of a chain: of those that must all hold.
 #[cycle(cut_paired)]
-fn cut_chain(
-    sets: &mut [u64],
-    live: &[bool],
-    game: &Game,
-    variations: bool,
-    name: &[u8],
-    other: &[u8],
-    chain: Chain,
-    parts: &Filters,
-    column: &FilterColumn,
-)
-    requires asked { AreAsked (searched_tree game.now variations) live.now }
-    requires count { length sets.old ≡ length live.now }
-    ensures cut { AreCut live.now (MayPair name.now other.now (shown column.now)
-        (λ e n. spec.chain_of chain (meaning.values (searched_tree game.now variations) [] e (filters_tree parts.now) n))) sets.old sets.new }
+fn cut_chain(sets: &mut [u64], paired: &Paired, chain: Chain, parts: &Filters)
+    requires asked { AreAsked (tree_in paired.now.scope.now) paired.now.live.now }
+    requires count { length sets.old ≡ length paired.now.live.now }
+    ensures cut { LeavesPaired paired.now
+        (λ e n. spec.chain_of chain (values_with paired.now.scope.now (filters_tree parts.now) e n)) sets.old sets.new }
     ensures len { length sets.new ≡ length sets.old }
 {
     if !is_all(chain) {
         return;
     }
-    cut_each(sets, live, game, variations, name, other, parts, column);
+    cut_each(sets, paired, parts);
 }
 
 // Of filters that must all hold.
 #[cycle(cut_paired)]
-fn cut_each(
-    sets: &mut [u64],
-    live: &[bool],
-    game: &Game,
-    variations: bool,
-    name: &[u8],
-    other: &[u8],
-    parts: &Filters,
-    column: &FilterColumn,
-)
-    requires asked { AreAsked (searched_tree game.now variations) live.now }
-    requires count { length sets.old ≡ length live.now }
-    ensures cut { AreCut live.now (MayPair name.now other.now (shown column.now)
-        (λ e n. spec.all_hold (meaning.values (searched_tree game.now variations) [] e (filters_tree parts.now) n))) sets.old sets.new }
+fn cut_each(sets: &mut [u64], paired: &Paired, parts: &Filters)
+    requires asked { AreAsked (tree_in paired.now.scope.now) paired.now.live.now }
+    requires count { length sets.old ≡ length paired.now.live.now }
+    ensures cut { LeavesPaired paired.now
+        (λ e n. spec.all_hold (values_with paired.now.scope.now (filters_tree parts.now) e n)) sets.old sets.new }
     ensures len { length sets.new ≡ length sets.old }
 {
     for part in parts.as_slice() {
-        cut_paired(sets, live, game, variations, name, other, part, column);
+        cut_paired(sets, paired, part);
     }
 }
 
 // Of what is asked of some square under a third name, whatever that square is.
 #[cycle(cut_paired)]
-fn cut_third(
-    sets: &mut [u64],
-    live: &[bool],
-    game: &Game,
-    variations: bool,
-    name: &[u8],
-    other: &[u8],
-    every: bool,
-    third: &[u8],
-    part: &Filter,
-    column: &FilterColumn,
-)
-    requires asked { AreAsked (searched_tree game.now variations) live.now }
-    requires count { length sets.old ≡ length live.now }
-    ensures cut { (x : meaning.Names → ℕ → spec.Value) → AreCut live.now (MayPair name.now other.now (shown column.now)
-        (λ e n. spec.square_of every (x e n) (λ s. spec.holds (meaning.value (searched_tree game.now variations) []
-        ((third.now, s) ∷ e) (filter_tree part.now) n)))) sets.old sets.new }
+fn cut_third(sets: &mut [u64], paired: &Paired, every: bool, third: &[u8], part: &Filter)
+    requires asked { AreAsked (tree_in paired.now.scope.now) paired.now.live.now }
+    requires count { length sets.old ≡ length paired.now.live.now }
+    ensures cut { (x : meaning.Names → ℕ → spec.Value) → LeavesPaired paired.now
+        (λ e n. spec.square_of every (x e n)
+        (λ s. spec.holds (value_with paired.now.scope.now (filter_tree part.now) ((third.now, s) ∷ e) n))) sets.old sets.new }
     ensures len { length sets.new ≡ length sets.old }
 {
-    if !is_third(every, third, name, other) {
+    if !is_third(every, third, paired.name, paired.other) {
         return;
     }
-    cut_paired(sets, live, game, variations, name, other, part, column);
+    cut_paired(sets, paired, part);
 }
 
 // Of two sets, one of which has no square but that of the one name, and the other none but that of the other name.
-fn cut_pair(
-    sets: &mut [u64],
-    live: &[bool],
-    game: &Game,
-    variations: bool,
-    name: &[u8],
-    other: &[u8],
-    pair: Pair,
-    first: &Filter,
-    second: &Filter,
-    column: &FilterColumn,
-)
-    requires asked { AreAsked (searched_tree game.now variations) live.now }
-    requires count { length sets.old ≡ length live.now }
-    ensures cut { AreCut live.now (MayPair name.now other.now (shown column.now)
-        (λ e n. spec.pair_of (node_at game.now.nodes n).position.men pair (meaning.value (searched_tree game.now variations) [] e (filter_tree first.now) n)
-        (meaning.value (searched_tree game.now variations) [] e (filter_tree second.now) n))) sets.old sets.new }
+fn cut_pair(sets: &mut [u64], paired: &Paired, pair: Pair, first: &Filter, second: &Filter)
+    requires asked { AreAsked (tree_in paired.now.scope.now) paired.now.live.now }
+    requires count { length sets.old ≡ length paired.now.live.now }
+    ensures cut { LeavesPaired paired.now
+        (λ e n. spec.pair_of (node_at paired.now.scope.now.game.now.nodes n).position.men pair
+        (value_with paired.now.scope.now (filter_tree first.now) e n)
+        (value_with paired.now.scope.now (filter_tree second.now) e n)) sets.old sets.new }
     ensures len { length sets.new ≡ length sets.old }
 {
     if !is_attack(pair) {
         return;
     }
-    if are_own(name, first, other, second) {
-        cut_related(sets, live, game, variations, pair, column);
+    if are_own(paired.name, first, paired.other, second) {
+        cut_related(sets, paired.live, paired.scope, pair, paired.column);
         return;
     }
-    if are_own(other, first, name, second) {
-        cut_related(sets, live, game, variations, turned(pair), column);
+    if are_own(paired.other, first, paired.name, second) {
+        cut_related(sets, paired.live, paired.scope, turned(pair), paired.column);
     }
 }
 

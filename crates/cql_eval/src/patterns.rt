@@ -7,12 +7,13 @@ ghost use Rattle.cql_lines.specs.Tables.{atoms_of, nodes_of, holds_in};
 ghost use Rattle.cql_lines.specs.Trees.{spots_of, goes_back, is_primary, limits_of};
 ghost use Rattle.cql_syntax.specs.Meaning as meaning;
 ghost use Rattle.cql_syntax.specs.TreeOf.{body_tree, parts_tree};
-ghost use Rattle.cql_values.specs.Trees.{searched_tree};
 ghost use Rattle.cql_eval.specs.Columns.{is_live};
 ghost use Rattle.cql_eval.specs.Costs as costs;
 ghost use Rattle.cql_eval.specs.LineAtoms as spec;
 ghost use Rattle.cql_eval.specs.LineAtoms.{HasRoom, IsPut, IsFilledIn, limits_in, spot_at};
+ghost use Rattle.cql_eval.specs.Scopes.{tree_in};
 
+use crate::scope::Scope;
 use cq_outside::NoMemory;
 use cql_lines::{AtomTable, Pattern, Patterns, Shape};
 use cql_syntax::{Body, Constituents, Extent, Mark};
@@ -73,22 +74,21 @@ fn marked(alloc: Global, mark: Mark, pattern: Pattern) -> Result<Pattern, NoMemo
 /// The tree of a game as a line's paths go through it.
 pub(crate) fn shape_of(
     alloc: Global,
-    game: &Game,
-    variations: bool,
+    scope: &Scope,
     back: bool,
     primary: bool,
     extent: &Extent,
 ) -> Result<Shape, NoMemory>
-    requires tree { IsTree game.now.nodes }
+    requires tree { IsTree scope.now.game.now.nodes }
     ensures spots { IfOk result (λ shape. spots_of shape
-        ≡ map (spot_at (searched_tree game.now variations)) (numbers game.now.nodes)) }
+        ≡ map (spot_at (tree_in scope.now)) (numbers scope.now.game.now.nodes)) }
     ensures way { IfOk result (λ shape.
         (goes_back shape ≡ back) × (is_primary shape ≡ primary) × (limits_of shape ≡ limits_in extent.now)) }
 {
     let mut shape = Shape::new(alloc, back, primary);
     limit(&mut shape, extent);
-    for k in 0..game.len() {
-        push_node(&mut shape, game, variations, k)?;
+    for k in 0..scope.game.len() {
+        push_node(&mut shape, scope, k)?;
     }
     Ok(shape)
 }
@@ -107,17 +107,17 @@ fn limit(shape: &mut Shape, extent: &Extent)
 }
 
 // Adds the node of a number to those before it.
-fn push_node(shape: &mut Shape, game: &Game, variations: bool, k: u32) -> Result<(), NoMemory>
-    requires tree { IsTree game.now.nodes }
-    requires node { k < length game.now.nodes }
-    requires before { spots_of shape.old ≡ map (spot_at (searched_tree game.now variations)) (range_with_len 0 k) }
-    ensures more { OnOk result (spots_of shape.new ≡ map (spot_at (searched_tree game.now variations)) (range_with_len 0 (k + 1))) }
+fn push_node(shape: &mut Shape, scope: &Scope, k: u32) -> Result<(), NoMemory>
+    requires tree { IsTree scope.now.game.now.nodes }
+    requires node { k < length scope.now.game.now.nodes }
+    requires before { spots_of shape.old ≡ map (spot_at (tree_in scope.now)) (range_with_len 0 k) }
+    ensures more { OnOk result (spots_of shape.new ≡ map (spot_at (tree_in scope.now)) (range_with_len 0 (k + 1))) }
     ensures way { (goes_back shape.new ≡ goes_back shape.old) × (is_primary shape.new ≡ is_primary shape.old)
         × (limits_of shape.new ≡ limits_of shape.old) }
 {
-    let searched = is_searched(game, variations, k);
-    let first = is_first_child(game, k);
-    shape.push(game.parent(k), searched, first)?;
+    let searched = is_searched(scope.game, scope.variations, k);
+    let first = is_first_child(scope.game, k);
+    shape.push(scope.game.parent(k), searched, first)?;
     Ok(())
 }
 

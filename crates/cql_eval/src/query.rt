@@ -13,6 +13,7 @@ ghost use Rattle.cql_eval.specs.Columns.{AreAsked, is_live, shown};
 ghost use Rattle.cql_eval.specs.Costs.{filter_cost, filters_cost, searched_len};
 ghost use Rattle.cql_eval.specs.FlatTrees.{IsFlat};
 ghost use Rattle.cql_eval.specs.Hits.{hits_of, keys_of, hit_column, key_columns, key_row_of, item_numbers, AreKeysAtHits};
+ghost use Rattle.cql_eval.specs.Scopes.{tree_in};
 
 use crate::column::Column;
 use crate::combine::numbered;
@@ -21,6 +22,7 @@ use crate::filter_column::FilterColumn;
 use crate::narrow::keep_numbered;
 use crate::nodes::{narrowed, same, searched_nodes, tick_nodes};
 use crate::order::SORTS;
+use crate::scope::Scope;
 use cq_outside::{NoMemory, Steps};
 use cql_syntax::{Filter, FlatQuery, Form};
 use cql_values::names::Names;
@@ -50,14 +52,16 @@ pub fn columns<L: Ledger>(
     // A game's nodes are a tree.
     prove!(game.is_tree());
     let names = Names::new(alloc);
-    let variations = query.variations;
-    let all = searched_nodes(alloc, game, variations, steps)?;
+    let scope = Scope {
+        game,
+        variations: query.variations,
+        names: &names,
+    };
+    let all = searched_nodes(alloc, game, query.variations, steps)?;
     let mut left = same(alloc, &all)?;
     let mut keys = Vec::new(alloc);
     for item in query.items.as_slice() {
-        left = narrowed_by(
-            alloc, item, game, variations, &names, &all, &left, &mut keys, steps,
-        )?;
+        left = narrowed_by(alloc, item, &scope, &all, &left, &mut keys, steps)?;
     }
     Ok(Column { hits: left, keys })
 }
@@ -131,16 +135,16 @@ fn columns_of<L: Ledger>(
     // A game's nodes are a tree.
     prove!(game.is_tree());
     let names = Names::new(alloc);
-    let variations = query.variations;
+    let scope = Scope {
+        game,
+        variations: query.variations,
+        names: &names,
+    };
     let items = &query.items;
-    let mut left = left_by(
-        alloc, SORTS, true, items, game, variations, &names, live, steps,
-    )?;
+    let mut left = left_by(alloc, SORTS, true, items, &scope, live, steps)?;
     let mut keys = Vec::new(alloc);
     for item in items.as_slice() {
-        sort_by(
-            alloc, item, game, variations, &names, &mut left, &mut keys, steps,
-        )?;
+        sort_by(alloc, item, &scope, &mut left, &mut keys, steps)?;
     }
     Ok(Column { hits: left, keys })
 }
@@ -151,28 +155,26 @@ fn columns_of<L: Ledger>(
 fn sort_by<L: Ledger>(
     alloc: Global,
     item: &Filter,
-    game: &Game,
-    variations: bool,
-    names: &Names,
+    scope: &Scope,
     left: &mut [bool],
     keys: &mut Vec<Vec<Option<i64>>>,
     steps: &mut Steps<L>,
 ) -> Result<(), NoMemory>
-    requires tree { IsTree game.now.nodes }
-    requires names { names.now ≡ [] }
-    requires asked { AreAsked (searched_tree game.now variations) left.old }
+    requires tree { IsTree scope.now.game.now.nodes }
+    requires names { scope.now.names.now ≡ [] }
+    requires asked { AreAsked (tree_in scope.now) left.old }
     requires flat { IsFlat (filter_tree item.now) }
     ensures len { length left.new ≡ length left.old }
-    ensures left { OnOk result (IsLeft (searched_tree game.now variations) left.old
-        (is_so_if (is_of 5) (searched_tree game.now variations) [] true (filter_tree item.now)) left.new) }
+    ensures left { OnOk result (IsLeft (tree_in scope.now) left.old
+        (is_so_if (is_of 5) (tree_in scope.now) [] true (filter_tree item.now)) left.new) }
     ensures keys { OnOk result (map (λ row. row.items) keys.new.items ≡ map (λ row. row.items) keys.old.items
-        ++ map (key_row_of (searched_tree game.now variations) left.old) (item_numbers (filter_tree item.now))) }
-    ensures cost { steps.new ≤ steps.old + cost_if (is_of 5) (searched_len (searched_tree game.now variations)) (filter_tree item.now) }
+        ++ map (key_row_of (tree_in scope.now) left.old) (item_numbers (filter_tree item.now))) }
+    ensures cost { steps.new ≤ steps.old + cost_if (is_of 5) (searched_len (tree_in scope.now)) (filter_tree item.now) }
     ensures rises { steps.old ≤ steps.new }
 {
     match &item.form {
         Form::Sort(.., number) => {
-            let column = evaluate(alloc, number, game, variations, names, left, steps)?;
+            let column = evaluate(alloc, number, scope, left, steps)?;
             let row = key_row(alloc, &column, left)?;
             keys.push(row)?;
             keep_numbered(left, &column);
@@ -187,38 +189,36 @@ fn sort_by<L: Ledger>(
 fn narrowed_by<L: Ledger>(
     alloc: Global,
     item: &Filter,
-    game: &Game,
-    variations: bool,
-    names: &Names,
+    scope: &Scope,
     asked: &[bool],
     left: &[bool],
     keys: &mut Vec<Vec<Option<i64>>>,
     steps: &mut Steps<L>,
 ) -> Result<Vec<bool>, NoMemory>
-    requires tree { IsTree game.now.nodes }
-    requires names { names.now ≡ [] }
-    requires asked { AreAsked (searched_tree game.now variations) asked.now }
-    requires left { AreAsked (searched_tree game.now variations) left.now }
+    requires tree { IsTree scope.now.game.now.nodes }
+    requires names { scope.now.names.now ≡ [] }
+    requires asked { AreAsked (tree_in scope.now) asked.now }
+    requires left { AreAsked (tree_in scope.now) left.now }
     requires within { (n : ℕ) → is_live left.now n ≡ true → is_live asked.now n ≡ true }
     requires flat { IsFlat (filter_tree item.now) }
-    ensures asked { IfOk result (λ later. AreAsked (searched_tree game.now variations) later.items) }
+    ensures asked { IfOk result (λ later. AreAsked (tree_in scope.now) later.items) }
     ensures each { IfOk result (λ later. (n : ℕ) → is_live later.items n
-        ≡ (is_live left.now n && holds (value (searched_tree game.now variations) [] [] (filter_tree item.now) n))) }
+        ≡ (is_live left.now n && holds (value (tree_in scope.now) [] [] (filter_tree item.now) n))) }
     ensures keys { OnOk result (map (λ row. row.items) keys.new.items ≡ map (λ row. row.items) keys.old.items
-        ++ map (key_row_of (searched_tree game.now variations) asked.now) (item_numbers (filter_tree item.now))) }
-    ensures cost { steps.new ≤ steps.old + filter_cost (searched_len (searched_tree game.now variations)) (filter_tree item.now) }
+        ++ map (key_row_of (tree_in scope.now) asked.now) (item_numbers (filter_tree item.now))) }
+    ensures cost { steps.new ≤ steps.old + filter_cost (searched_len (tree_in scope.now)) (filter_tree item.now) }
     ensures rises { steps.old ≤ steps.new }
 {
     match &item.form {
         Form::Sort(.., number) => {
-            let column = evaluate(alloc, number, game, variations, names, asked, steps)?;
+            let column = evaluate(alloc, number, scope, asked, steps)?;
             let row = key_row(alloc, &column, asked)?;
             keys.push(row)?;
             let later = numbered(alloc, &column, left)?;
             Ok(later)
         }
         _ => {
-            let column = evaluate(alloc, item, game, variations, names, left, steps)?;
+            let column = evaluate(alloc, item, scope, left, steps)?;
             let later = narrowed(alloc, left, &column, true)?;
             Ok(later)
         }

@@ -1,44 +1,40 @@
 //! Sets of nodes that follow the tree, for all nodes in one pass.
 ghost use Rattle.std.specs.Prelude.{◌≡◌, ℕ, ◌<◌, ◌||◌, length, get_or, replicate, false, IfOk};
 ghost use Rattle.cq_position.specs.Games.{IsTree, node_at};
-ghost use Rattle.cql_values.specs.Trees.{searched_tree};
 ghost use Rattle.cql_eval.specs.Columns.{AreAsked};
+ghost use Rattle.cql_eval.specs.Scopes.{tree_in};
 ghost use Rattle.cql_eval.specs.SpelledParts.{AreOnward, AreReached};
 ghost use Rattle.cql_eval.specs.Trees.{IsBelowLive, IsAboveLive, AreChildrenOfLive, AreParentsOfLive, AreBeforeLive, is_below_live, flag_of, IsRaised, AreRaised, AreLowered, HasParents};
 
 use crate::filter_column::{blank_truths, truth_at};
 use crate::nodes::same;
+use crate::scope::Scope;
 use cq_outside::NoMemory;
 use cql_values::walks::is_searched;
 use pgn_tree::Game;
 use std::alloc::Global;
 
 /// The nodes that are asked for, and the searched nodes below them.
-pub(crate) fn below(
-    alloc: Global,
-    game: &Game,
-    variations: bool,
-    live: &[bool],
-) -> Result<Vec<bool>, NoMemory>
-    requires tree { IsTree game.now.nodes }
-    requires asked { AreAsked (searched_tree game.now variations) live.now }
-    ensures { IfOk result (λ wide. IsBelowLive (searched_tree game.now variations) live.now wide.items) }
+pub(crate) fn below(alloc: Global, scope: &Scope, live: &[bool]) -> Result<Vec<bool>, NoMemory>
+    requires tree { IsTree scope.now.game.now.nodes }
+    requires asked { AreAsked (tree_in scope.now) live.now }
+    ensures { IfOk result (λ wide. IsBelowLive (tree_in scope.now) live.now wide.items) }
 {
-    let mut wide = Vec::with_capacity(alloc, game.len() as usize)?;
-    for k in 0..game.len() {
-        let there = is_wide(game, variations, live, &wide, k);
+    let mut wide = Vec::with_capacity(alloc, scope.game.len() as usize)?;
+    for k in 0..scope.game.len() {
+        let there = is_wide(scope, live, &wide, k);
         wide.push(there)?;
     }
     Ok(wide)
 }
 
 // Whether a node is searched, and asked for or below one that is, given this of all nodes before it.
-fn is_wide(game: &Game, variations: bool, live: &[bool], wide: &[bool], k: u32) -> bool
-    requires { k < length game.now.nodes }
-    ensures { result ≡ is_below_live (searched_tree game.now variations) live.now wide.now k }
+fn is_wide(scope: &Scope, live: &[bool], wide: &[bool], k: u32) -> bool
+    requires { k < length scope.now.game.now.nodes }
+    ensures { result ≡ is_below_live (tree_in scope.now) live.now wide.now k }
 {
-    is_searched(game, variations, k)
-        && (truth_at(live, k as usize) || is_flagged(game.parent(k), wide))
+    is_searched(scope.game, scope.variations, k)
+        && (truth_at(live, k as usize) || is_flagged(scope.game.parent(k), wide))
 }
 
 fn is_flagged(node: Option<u32>, flags: &[bool]) -> bool
@@ -127,66 +123,47 @@ pub(crate) fn none(alloc: Global, game: &Game) -> Result<Vec<bool>, NoMemory>
 }
 
 /// The nodes on the ways up from those that are asked for.
-pub(crate) fn above(
-    alloc: Global,
-    game: &Game,
-    variations: bool,
-    live: &[bool],
-) -> Result<Vec<bool>, NoMemory>
-    requires tree { IsTree game.now.nodes }
-    requires asked { AreAsked (searched_tree game.now variations) live.now }
-    ensures { IfOk result (λ wide. IsAboveLive (searched_tree game.now variations) live.now wide.items) }
+pub(crate) fn above(alloc: Global, scope: &Scope, live: &[bool]) -> Result<Vec<bool>, NoMemory>
+    requires tree { IsTree scope.now.game.now.nodes }
+    requires asked { AreAsked (tree_in scope.now) live.now }
+    ensures { IfOk result (λ wide. IsAboveLive (tree_in scope.now) live.now wide.items) }
 {
     let start = same(alloc, live)?;
-    Ok(raised(game, start))
+    Ok(raised(scope.game, start))
 }
 
 /// The searched children of the nodes that are asked for.
-pub(crate) fn children(
-    alloc: Global,
-    game: &Game,
-    variations: bool,
-    live: &[bool],
-) -> Result<Vec<bool>, NoMemory>
-    requires tree { IsTree game.now.nodes }
-    requires asked { AreAsked (searched_tree game.now variations) live.now }
-    ensures { IfOk result (λ wide. AreChildrenOfLive (searched_tree game.now variations) live.now wide.items) }
+pub(crate) fn children(alloc: Global, scope: &Scope, live: &[bool]) -> Result<Vec<bool>, NoMemory>
+    requires tree { IsTree scope.now.game.now.nodes }
+    requires asked { AreAsked (tree_in scope.now) live.now }
+    ensures { IfOk result (λ wide. AreChildrenOfLive (tree_in scope.now) live.now wide.items) }
 {
-    let mut wide = blank_truths(alloc, game.len() as usize)?;
-    for k in 0..game.len() {
-        wide[k as usize] = is_searched(game, variations, k) && is_flagged(game.parent(k), live);
+    let mut wide = blank_truths(alloc, scope.game.len() as usize)?;
+    for k in 0..scope.game.len() {
+        wide[k as usize] = is_searched(scope.game, scope.variations, k)
+            && is_flagged(scope.game.parent(k), live);
     }
     Ok(wide)
 }
 
 /// The parents of the nodes that are asked for.
-pub(crate) fn parents(
-    alloc: Global,
-    game: &Game,
-    variations: bool,
-    live: &[bool],
-) -> Result<Vec<bool>, NoMemory>
-    requires tree { IsTree game.now.nodes }
-    requires asked { AreAsked (searched_tree game.now variations) live.now }
-    ensures { IfOk result (λ wide. AreParentsOfLive (searched_tree game.now variations) live.now wide.items) }
+pub(crate) fn parents(alloc: Global, scope: &Scope, live: &[bool]) -> Result<Vec<bool>, NoMemory>
+    requires tree { IsTree scope.now.game.now.nodes }
+    requires asked { AreAsked (tree_in scope.now) live.now }
+    ensures { IfOk result (λ wide. AreParentsOfLive (tree_in scope.now) live.now wide.items) }
 {
-    let start = none(alloc, game)?;
-    Ok(with_parents(game, live, start))
+    let start = none(alloc, scope.game)?;
+    Ok(with_parents(scope.game, live, start))
 }
 
 /// The nodes before those that are asked for.
-pub(crate) fn befores(
-    alloc: Global,
-    game: &Game,
-    variations: bool,
-    live: &[bool],
-) -> Result<Vec<bool>, NoMemory>
-    requires tree { IsTree game.now.nodes }
-    requires asked { AreAsked (searched_tree game.now variations) live.now }
-    ensures { IfOk result (λ wide. AreBeforeLive (searched_tree game.now variations) live.now wide.items) }
+pub(crate) fn befores(alloc: Global, scope: &Scope, live: &[bool]) -> Result<Vec<bool>, NoMemory>
+    requires tree { IsTree scope.now.game.now.nodes }
+    requires asked { AreAsked (tree_in scope.now) live.now }
+    ensures { IfOk result (λ wide. AreBeforeLive (tree_in scope.now) live.now wide.items) }
 {
     let start = same(alloc, live)?;
-    Ok(with_parents(game, live, start))
+    Ok(with_parents(scope.game, live, start))
 }
 
 /// For each node whether its parent is in a set.
@@ -206,19 +183,18 @@ pub(crate) fn of_parents(alloc: Global, game: &Game, set: &[bool]) -> Result<Vec
 #[tactic(auto, using(crate::proofs::SpelledAlike::children_onward, crate::proofs::SpelledAlike::parents_onward))]
 pub(crate) fn onward(
     alloc: Global,
-    game: &Game,
-    variations: bool,
+    scope: &Scope,
     back: bool,
     live: &[bool],
 ) -> Result<Vec<bool>, NoMemory>
-    requires tree { IsTree game.now.nodes }
-    requires asked { AreAsked (searched_tree game.now variations) live.now }
-    ensures { IfOk result (λ next. AreOnward (searched_tree game.now variations) back live.now next.items) }
+    requires tree { IsTree scope.now.game.now.nodes }
+    requires asked { AreAsked (tree_in scope.now) live.now }
+    ensures { IfOk result (λ next. AreOnward (tree_in scope.now) back live.now next.items) }
 {
     if back {
-        parents(alloc, game, variations, live)
+        parents(alloc, scope, live)
     } else {
-        children(alloc, game, variations, live)
+        children(alloc, scope, live)
     }
 }
 
@@ -226,18 +202,17 @@ pub(crate) fn onward(
 #[tactic(auto, using(crate::proofs::SpelledAlike::below_reached, crate::proofs::SpelledAlike::above_reached))]
 pub(crate) fn reached(
     alloc: Global,
-    game: &Game,
-    variations: bool,
+    scope: &Scope,
     back: bool,
     live: &[bool],
 ) -> Result<Vec<bool>, NoMemory>
-    requires tree { IsTree game.now.nodes }
-    requires asked { AreAsked (searched_tree game.now variations) live.now }
-    ensures { IfOk result (λ wide. AreReached (searched_tree game.now variations) back live.now wide.items) }
+    requires tree { IsTree scope.now.game.now.nodes }
+    requires asked { AreAsked (tree_in scope.now) live.now }
+    ensures { IfOk result (λ wide. AreReached (tree_in scope.now) back live.now wide.items) }
 {
     if back {
-        above(alloc, game, variations, live)
+        above(alloc, scope, live)
     } else {
-        below(alloc, game, variations, live)
+        below(alloc, scope, live)
     }
 }

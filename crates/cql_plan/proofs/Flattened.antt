@@ -1,6 +1,9 @@
 -- A query by its flat items.
 use Rattle.std.proofs.Common.{◌≡◌, ◌≤◌, Bool, true, false, [], sym, ap, ap₂, ◌∙◌, arith}
+use Rattle.std.specs.List.{filter}
+use Rattle.std.proofs.Math.Path.{fun_ext}
 use Rattle.cq_position.specs.Games.{Game}
+use Rattle.cq_position.specs.Search.{SearchedTree, nodes_in}
 use Rattle.cql_eval.specs.Costs.{filters_cost, searched_len}
 use Rattle.cql_values.specs.Trees.{searched_tree}
 use Rattle.cql_syntax.specs.Flat.{flat_query}
@@ -60,18 +63,22 @@ unfolding hits
 none_turned_away q game away = sym (hits_same q game) ∙ none_where_refused (tree_of q game) (flat_query q).items away
 
 -- the same by the items that are asked
+
+hits_alike : (items asked : FilterTrees) → HaveSameHits items asked → (tree : SearchedTree) → hits_in tree asked ≡ hits_in tree items
+hits_alike items asked found tree = ap (λ test. filter test (nodes_in tree)) (fun_ext (found.here tree))
+
 module _ (q : QueryTree) (game : Game) (variations searched : Bool) (items asked : FilterTrees) where
   pub asked_hits : HaveSameHits items asked → searched ≡ variations → same_filters items (flat_query q).items ≡ true → variations ≡ q.variations
       → hits_in (searched_tree game searched) asked ≡ hits q game
   asked_hits found here same there =
-      ap (λ v. hits_in (searched_tree game v) asked) here ∙ found.hits (searched_tree game variations) ∙ hits_are q game variations items same there
+      ap (λ v. hits_in (searched_tree game v) asked) here ∙ hits_alike items asked found (searched_tree game variations) ∙ hits_are q game variations items same there
 
   pub asked_keys : HaveSameHits items asked → searched ≡ variations → same_filters items (flat_query q).items ≡ true → variations ≡ q.variations
       → all_keys (searched_tree game searched) (hits_in (searched_tree game searched) asked) asked ≡ keys q game
   asked_keys found here same there =
       let tree = searched_tree game variations in
       ap (λ v. all_keys (searched_tree game v) (hits_in (searched_tree game v) asked) asked) here
-      ∙ ap (λ ns. all_keys tree ns asked) (found.hits tree) ∙ found.keys tree (hits_in tree items) ∙ keys_are q game variations items same there
+      ∙ ap (λ ns. all_keys tree ns asked) (hits_alike items asked found tree) ∙ found.keys tree (hits_in tree items) ∙ keys_are q game variations items same there
 
   pub asked_costs : HaveSameHits items asked → searched ≡ variations → same_filters items (flat_query q).items ≡ true → variations ≡ q.variations
       → filters_cost (searched_len (searched_tree game searched)) asked ≤ filters_cost (searched_len (searched_tree game q.variations)) (flat_query q).items

@@ -52,21 +52,21 @@ module _ (kind : Kind) (s : ℕ) (tree : SearchedTree) (names : Names) (n : ℕ)
       or_joined true b c = refl
       or_joined false b c = refl
 
-members_more : (kind : Kind) (s : Standing) (fs : FilterTrees) (f : FilterTree) → are_members kind s fs ≡ true → is_member kind s f ≡ true → are_members kind s (with_filter fs f) ≡ true
+pub members_more : (kind : Kind) (s : Standing) (fs : FilterTrees) (f : FilterTree) → are_members kind s fs ≡ true → is_member kind s f ≡ true → are_members kind s (with_filter fs f) ≡ true
 members_more kind s no_filters f a b = both (is_member kind s f) true b refl
 members_more kind s (more_filters g gs) f a b =
     both (is_member kind s g) (are_members kind s (with_filter gs f)) (left _ _ a) (members_more kind s gs f (right (is_member kind s g) (are_members kind s gs) a) b)
 
-members_before : (kind : Kind) (s : Standing) (fs : FilterTrees) (f : FilterTree) → are_members kind s (with_filter fs f) ≡ true → are_members kind s fs ≡ true
+pub members_before : (kind : Kind) (s : Standing) (fs : FilterTrees) (f : FilterTree) → are_members kind s (with_filter fs f) ≡ true → are_members kind s fs ≡ true
 members_before kind s no_filters f h = refl
 members_before kind s (more_filters g gs) f h =
     both (is_member kind s g) (are_members kind s gs) (left _ _ h) (members_before kind s gs f (right (is_member kind s g) (are_members kind s (with_filter gs f)) h))
 
-member_last : (kind : Kind) (s : Standing) (fs : FilterTrees) (f : FilterTree) → are_members kind s (with_filter fs f) ≡ true → is_member kind s f ≡ true
+pub member_last : (kind : Kind) (s : Standing) (fs : FilterTrees) (f : FilterTree) → are_members kind s (with_filter fs f) ≡ true → is_member kind s f ≡ true
 member_last kind s no_filters f h = left (is_member kind s f) true h
 member_last kind s (more_filters g gs) f h = member_last kind s gs f (right (is_member kind s g) (are_members kind s (with_filter gs f)) h)
 
-cost_more : (searched : ℕ) (fs : FilterTrees) (f : FilterTree) → filters_cost searched (with_filter fs f) ≡ filters_cost searched fs + filter_cost searched f
+pub cost_more : (searched : ℕ) (fs : FilterTrees) (f : FilterTree) → filters_cost searched (with_filter fs f) ≡ filters_cost searched fs + filter_cost searched f
 unfolding filter_cost
 cost_more searched no_filters f = omega arith
 cost_more searched (more_filters g gs) f = omega (arith, cost_more searched gs f)

@@ -6,5 +6,6 @@ pub mod ItemsHeld
 pub mod MenLaw
 pub mod RowsLaw
 pub mod Gathered
+pub mod InEach
 pub mod Sound
 pub mod Standing

@@ -1,12 +1,12 @@
 -- A filter stands for another one where its parts do.
 use Rattle.std.proofs.Common.{◌≡◌, ℕ, ◌+◌, ◌<◌, ◌≤◌, Bool, true, false, ◌&&◌, List, [], ◌∷◌, ◌++◌, length, get_or, take, refl, sym, ap, ap₂, ◌∙◌, arith, subst}
 use Rattle.std.specs.Prelude.{nat_lt}
-use Rattle.std.specs.List.{list_all, list_any, filter}
+use Rattle.std.specs.List.{list_all, list_any}
 use Rattle.std.proofs.Math.Path.{fun_ext}
 use Rattle.std.proofs.lemmas.Bool.{ltb-true}
 use Rattle.std.proofs.lemmas.List.{take_all}
 use Rattle.cq_outside.proofs.SpellingLaw.{left, right, both_true as both}
-use Rattle.cq_position.specs.Search.{SearchedTree, nodes_in}
+use Rattle.cq_position.specs.Search.{SearchedTree}
 use Rattle.cql_syntax.specs.Contexts.{unary_image}
 use Rattle.cql_syntax.specs.Hits.{all_keys}
 use Rattle.cql_syntax.specs.Kinds.{chain_kind}
@@ -124,7 +124,7 @@ stands_chain i c fs gs all = record {
 
 pub same_hits : (fs gs : FilterTrees) → AllStandFor fs gs → HaveSameHits fs gs
 same_hits fs gs all = record {
-  hits = λ tree. ap (λ test. filter test (nodes_in tree)) (fun_ext (λ n. ap (list_all holds) (all_values fs gs all tree [] n)));
+  here = λ tree n. ap (list_all holds) (all_values fs gs all tree [] n);
   keys = all_keys_same fs gs all;
   cost = all_costs fs gs all;
 }

@@ -3,7 +3,7 @@ use Rattle.std.specs.Prelude.{◌≡◌, ℕ, ◌+◌, ◌<◌, ◌≤◌, Bool,
 use Rattle.std.specs.List.{list_all, list_any}
 use Rattle.cq_position.specs.Search.{SearchedTree}
 use Rattle.cql_syntax.specs.FlatItems.{has_its_kind, breaks_none}
-use Rattle.cql_syntax.specs.Hits.{hits_in, item_keys, all_keys}
+use Rattle.cql_syntax.specs.Hits.{is_hit, item_keys, all_keys}
 use Rattle.cql_syntax.specs.Kinds.{filter_kind}
 use Rattle.cql_syntax.specs.Leaves.{same_kind}
 use Rattle.cql_syntax.specs.Meaning.{Names, value as value_of, values}
@@ -69,8 +69,8 @@ pub record Gathers (kind : Kind) (before after fs : FilterTrees) : Type 0 where
   pub members : (s : Standing) → are_members kind s before ≡ true → are_members kind s fs ≡ true → are_members kind s after ≡ true
   pub cost : (searched : ℕ) → filters_cost searched after ≤ filters_cost searched before + filters_cost searched fs
 
--- The second items have the hits of the first ones in every game, and the same sort keys, and cost no more looks.
+-- The second items hold where the first ones do in every game, and have the same sort keys, and cost no more looks.
 pub record HaveSameHits (items others : FilterTrees) : Type 0 where
-  pub hits : (tree : SearchedTree) → hits_in tree others ≡ hits_in tree items
+  pub here : (tree : SearchedTree) (n : ℕ) → is_hit tree others n ≡ is_hit tree items n
   pub keys : (tree : SearchedTree) (found : List ℕ) → all_keys tree found others ≡ all_keys tree found items
   pub cost : (searched : ℕ) → filters_cost searched others ≤ filters_cost searched items

@@ -1,5 +1,6 @@
 pub mod Items
 pub mod Joined
+pub mod Lifted
 pub mod Needs
 pub mod NeedsRows
 pub mod Plans

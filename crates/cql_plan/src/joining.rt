@@ -4,13 +4,14 @@ ghost use Rattle.cql_syntax.specs.Trees.{no_filters};
 ghost use Rattle.cql_syntax.specs.TreeOf.{filter_tree, filters_tree};
 ghost use Rattle.cql_plan.specs.Joined.{StandsFor, AllStandFor, Gathers, HaveSameHits, alone};
 
+use crate::lifting::any_of;
 use crate::members::{Members, add, no_members};
 use cq_outside::NoMemory;
 use cql_syntax::{Filter, Filters, FlatQuery, Form, Kind};
 use std::alloc::Global;
 
 /// A query with the same hits and keys, in which a family within families is one of their members, each once up to places.
-pub(crate) fn join(alloc: Global, query: &FlatQuery) -> Result<FlatQuery, NoMemory>
+pub fn join(alloc: Global, query: &FlatQuery) -> Result<FlatQuery, NoMemory>
     ensures variations { IfOk result (λ q. q.variations ≡ query.now.variations) }
     ensures hits { IfOk result (λ q. HaveSameHits (filters_tree query.now.items) (filters_tree q.items)) }
 {
@@ -54,10 +55,7 @@ fn joined_one(alloc: Global, f: &Filter) -> Result<Filter, NoMemory>
         }
         Form::Any(Kind::Position, parts) => {
             let members = members_of(alloc, Kind::Position, parts)?;
-            Ok(Filter {
-                at: f.at,
-                form: Form::Any(Kind::Position, members),
-            })
+            any_of(alloc, f.at, members)
         }
         Form::Any(Kind::Set, parts) => {
             let members = members_of(alloc, Kind::Set, parts)?;

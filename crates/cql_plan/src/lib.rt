@@ -8,12 +8,14 @@ mod joining;
 mod keyed;
 mod keys;
 pub mod laws;
+mod lifting;
 mod members;
 mod needs;
 mod plan;
 mod shared;
 mod verdict;
 
+pub use joining::join;
 pub use keys::key_over;
 pub use plan::Plan;
 pub use plan::matching::{match_game, may_hold};

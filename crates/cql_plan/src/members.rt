@@ -3,7 +3,8 @@ ghost use Rattle.std.specs.Prelude.{◌≡◌, true, IfOk, OnOk};
 ghost use Rattle.cql_syntax.specs.Trees.{no_filters};
 ghost use Rattle.cql_syntax.specs.TreeOf.{filter_tree, filters_tree};
 ghost use Rattle.cql_syntax.specs.declared.leaves.Kind.{Kind};
-ghost use Rattle.cql_plan.specs.Joined.{Gathers, alone, has_like};
+ghost use Rattle.cql_plan.specs.Joined as spec;
+ghost use Rattle.cql_plan.specs.Joined.{Gathers, alone};
 
 use crate::keyed::key_of;
 use cq_outside::NoMemory;
@@ -59,7 +60,7 @@ pub(crate) fn add(to: &mut Members, member: Filter) -> Result<(), NoMemory>
 
 // Whether a member is known that is the same but for its places. Those of its place alone are looked at.
 fn is_known(members: &Members, at: usize, member: &Filter) -> bool
-    ensures { result ≡ true → has_like (filters_tree members.now.filters) (filter_tree member.now) ≡ true }
+    ensures { result ≡ true → spec.has_like (filters_tree members.now.filters) (filter_tree member.now) ≡ true }
 {
     if at >= members.places.len() {
         return false;
@@ -72,8 +73,20 @@ fn is_known(members: &Members, at: usize, member: &Filter) -> bool
     false
 }
 
+/// Whether a filter is there that is the same but for its places.
+pub(crate) fn has_like(filters: &Filters, member: &Filter) -> bool
+    ensures { result ≡ true → spec.has_like (filters_tree filters.now) (filter_tree member.now) ≡ true }
+{
+    for number in 0..filters.len() {
+        if is_like(filters, number, member) {
+            return true;
+        }
+    }
+    false
+}
+
 fn is_like(filters: &Filters, number: usize, member: &Filter) -> bool
-    ensures { result ≡ true → has_like (filters_tree filters.now) (filter_tree member.now) ≡ true }
+    ensures { result ≡ true → spec.has_like (filters_tree filters.now) (filter_tree member.now) ≡ true }
 {
     let filters = filters.as_slice();
     if number >= filters.len() {

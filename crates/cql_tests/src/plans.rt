@@ -5,8 +5,9 @@ use cq_outside::{NoMemory, Refusal, Steps};
 use cql_kinds::check;
 use cql_lexer::query_tokens;
 use cql_parser::{parse, spelled_queries_have_no_any, tokens_of_a_text_are_ended};
-use cql_plan::{Plan, Verdict, match_game, may_hold};
-use cql_syntax::QueryFault;
+use cql_plan::{Plan, Verdict, join, match_game, may_hold};
+use cql_rewrite::expand;
+use cql_syntax::{Chain, FlatQuery, Form, QueryFault};
 use pgn_reader::read_game;
 use pgn_tree::Game;
 use std::alloc::Global;
@@ -47,10 +48,11 @@ const PROMOTION: &[u8] = b"[FEN \"7k/P7/8/8/8/8/8/K7 w - - 0 1\"]\n1. a8=Q *\n";
 /// A query, a game, whether the game has what the query needs, the nodes at which it hits, and its keys.
 type Row<'a> = (&'a [u8], &'a [u8], bool, &'a [u32], &'a [i64]);
 
-static ROWS: [Row<'static>; 4] = [
+static ROWS: [Row<'static>; 5] = [
     (b"cql() Qa8", KINGS, false, &[], &[]),
     (b"cql() not Qa8", KINGS, true, &[0], &[]),
     (b"cql() Qa8", PROMOTION, true, &[1], &[]),
+    (b"cql() flip { wtm Kh1 }", PROMOTION, true, &[0], &[]),
     (
         b"cql() sort \"p\" ply sort min \"p\" ply",
         PROMOTION,
@@ -83,5 +85,50 @@ fn plans_turn_games_away_and_find_hits_and_keys(rt: HostRuntime) -> Result<(), F
 fn a_plan_has_its_query(rt: HostRuntime) -> Result<(), Fail> {
     let plan = plan_of(rt.alloc(), b"cql() Qa8")?;
     assert_eq!(rt; plan.query().query.items.len(), 1);
+    Ok(())
+}
+
+// The form in which the query that a text is is asked.
+fn joined(alloc: Global, text: &[u8]) -> Result<FlatQuery, Refusal<QueryFault>> {
+    tokens_of_a_text_are_ended();
+    spelled_queries_have_no_any();
+    let tokens = query_tokens(alloc, text)?;
+    let query = parse(alloc, tokens.as_slice())?;
+    let flat = expand(alloc, &check(&query)?)?;
+    Ok(join(alloc, &flat)?)
+}
+
+/// A query, and how many parts its first item has in the form that is asked, where it is braces there.
+type Asked<'a> = (&'a [u8], usize);
+
+static JOINED: [Asked<'static>; 3] = [
+    (b"cql() flip { check Ka1 }", 2),
+    (b"cql() flip { check Ka1 mate }", 3),
+    (b"cql() flip { Ka1 Ra8 }", 0),
+];
+
+fn parts_of_first(query: &FlatQuery) -> usize {
+    let items = query.items.as_slice();
+    if items.is_empty() {
+        return 0;
+    }
+    match &items[0].form {
+        Form::Chain(Chain::All, parts) => parts.len(),
+        _ => 0,
+    }
+}
+
+fn expect_parts<R: Abort>(rt: &R, alloc: Global, row: &Asked<'_>) -> Result<(), Fail> {
+    let (query, parts) = row;
+    let joined = joined(alloc, query)?;
+    assert_eq!(rt; parts_of_first(&joined), *parts, "of {query:?}");
+    Ok(())
+}
+
+#[test]
+fn what_stands_in_each_image_is_asked_once(rt: HostRuntime) -> Result<(), Fail> {
+    for row in JOINED.iter() {
+        expect_parts(&rt, rt.alloc(), row)?;
+    }
     Ok(())
 }

@@ -12,8 +12,8 @@ use std::alloc::Global;
 use std::marker::Model;
 use std::mem;
 
-/// No more moves than this have most games.
-const MOST_GAMES: usize = 120;
+/// Most games have no more moves than this.
+const MOVES_OF_MOST_GAMES: usize = 120;
 
 /// Where a line stands, and its nodes: those of its moves but the last, those of the variations after the last move, and those of the
 /// variations after each earlier move.
@@ -111,7 +111,7 @@ impl Line {
         ensures { self.new ≡ self.old }
     {
         if self.before.is_none() {
-            self.moves.reserve(MOST_GAMES)?;
+            self.moves.reserve(MOVES_OF_MOST_GAMES)?;
         }
         Ok(())
     }

@@ -10,6 +10,7 @@ ghost use Rattle.cq_shared.specs.Singles.{part_tree, shown};
 use crate::single::Single;
 use crate::table::mixed_of;
 use cq_outside::NoMemory;
+use cql_plan::join;
 use cql_rewrite::{flat_text, same_unplaced};
 use cql_syntax::{Filter, Filters, FlatQuery};
 use std::alloc::Global;
@@ -27,7 +28,8 @@ pub(crate) fn single_of(
     let mut items = Filters::new(alloc);
     items.push(copied)?;
     let query = FlatQuery { variations, items };
-    Ok(Single { query })
+    let joined = join(alloc, &query)?;
+    Ok(Single { query, joined })
 }
 
 /// The filter.

@@ -1,25 +1,26 @@
 //! The columns of the parts of a filter.
-ghost use Rattle.std.specs.Prelude.{◌≡◌, ℕ, ◌≤◌, ◌+◌, [], length, true, get_or, not, IfOk, OnOk};
+ghost use Rattle.std.specs.Prelude.{◌≡◌, ℕ, ◌≤◌, ◌+◌, [], length, true, false, get_or, not, IfOk, OnOk};
 ghost use Rattle.std.specs.List.{list_any};
 ghost use Rattle.cq_position.specs.Games.{IsTree};
 ghost use Rattle.cql_syntax.specs.Meaning as meaning;
 ghost use Rattle.cql_syntax.specs.TreeOf.{filter_tree, filters_tree, terms_tree};
 ghost use Rattle.cql_syntax.specs.Values as spec;
-ghost use Rattle.cql_values.specs.Trees.{searched_tree};
-ghost use Rattle.cql_eval.specs.Classes.{is_of, is_before, is_so_if, are_so, cost_if, cost_of, IsLeft};
+ghost use Rattle.cql_eval.specs.Classes.{all_classes, is_of, is_before, is_so_if, are_so, cost_if, cost_of, IsLeft};
 ghost use Rattle.cql_eval.specs.Columns.{AreAsked, AreTruths, Where, all_shown, terms_shown};
 ghost use Rattle.cql_eval.specs.Costs.{filters_cost, terms_cost, searched_len};
+ghost use Rattle.cql_eval.specs.Ever.{AreEver};
 ghost use Rattle.cql_eval.specs.FlatTrees.{IsFlat, AreFlat, AreFlatTerms};
+ghost use Rattle.cql_eval.specs.Scopes.{tree_in, values_in};
 
 use super::evaluate;
+use crate::ever::{Ever, evers_of, holds_nowhere, is_large};
 use crate::filter_column::FilterColumn;
 use crate::narrow::narrow;
 use crate::nodes::same;
 use crate::order::{CLASSES, is_of_class};
+use crate::scope::Scope;
 use cq_outside::{NoMemory, Steps};
 use cql_syntax::{Filter, Filters, Terms};
-use cql_values::names::Names;
-use pgn_tree::Game;
 use std::alloc::Global;
 use std::sync::ledger::Ledger;
 
@@ -28,23 +29,19 @@ use std::sync::ledger::Ledger;
 pub(super) fn all_hold<L: Ledger>(
     alloc: Global,
     filters: &Filters,
-    game: &Game,
-    variations: bool,
-    names: &Names,
+    scope: &Scope,
     live: &[bool],
     steps: &mut Steps<L>,
 ) -> Result<Vec<bool>, NoMemory>
-    requires tree { IsTree game.now.nodes }
-    requires asked { AreAsked (searched_tree game.now variations) live.now }
+    requires tree { IsTree scope.now.game.now.nodes }
+    requires asked { AreAsked (tree_in scope.now) live.now }
     requires flat { AreFlat (filters_tree filters.now) }
     ensures value { IfOk result (λ truths. AreTruths truths.items live.now
-        (λ n. spec.all_hold (meaning.values (searched_tree game.now variations) [] names.now (filters_tree filters.now) n))) }
-    ensures cost { steps.new ≤ steps.old + filters_cost (searched_len (searched_tree game.now variations)) (filters_tree filters.now) }
+        (λ n. spec.all_hold (values_in scope.now (filters_tree filters.now) n))) }
+    ensures cost { steps.new ≤ steps.old + filters_cost (searched_len (tree_in scope.now)) (filters_tree filters.now) }
     ensures rises { steps.old ≤ steps.new }
 {
-    let left = left_by(
-        alloc, CLASSES, true, filters, game, variations, names, live, steps,
-    )?;
+    let left = left_by(alloc, CLASSES, true, filters, scope, live, steps)?;
     Ok(left)
 }
 
@@ -53,24 +50,122 @@ pub(super) fn all_hold<L: Ledger>(
 pub(super) fn none_holds<L: Ledger>(
     alloc: Global,
     filters: &Filters,
-    game: &Game,
-    variations: bool,
-    names: &Names,
+    scope: &Scope,
     live: &[bool],
     steps: &mut Steps<L>,
 ) -> Result<Vec<bool>, NoMemory>
-    requires tree { IsTree game.now.nodes }
-    requires asked { AreAsked (searched_tree game.now variations) live.now }
+    requires tree { IsTree scope.now.game.now.nodes }
+    requires asked { AreAsked (tree_in scope.now) live.now }
     requires flat { AreFlat (filters_tree filters.now) }
     ensures value { IfOk result (λ truths. AreTruths truths.items live.now (λ n. spec.as_truth (not
-        (list_any spec.holds (meaning.values (searched_tree game.now variations) [] names.now (filters_tree filters.now) n))))) }
-    ensures cost { steps.new ≤ steps.old + filters_cost (searched_len (searched_tree game.now variations)) (filters_tree filters.now) }
+        (list_any spec.holds (values_in scope.now (filters_tree filters.now) n))))) }
+    ensures cost { steps.new ≤ steps.old + filters_cost (searched_len (tree_in scope.now)) (filters_tree filters.now) }
     ensures rises { steps.old ≤ steps.new }
 {
-    let left = left_by(
-        alloc, CLASSES, false, filters, game, variations, names, live, steps,
-    )?;
+    let left = left_by(alloc, CLASSES, false, filters, scope, live, steps)?;
     Ok(left)
+}
+
+/// The same for the members of a family. Where they are many, those that hold nowhere, as their designators tell, are not asked.
+#[cycle(evaluate)]
+pub(super) fn no_member_holds<L: Ledger>(
+    alloc: Global,
+    members: &Filters,
+    scope: &Scope,
+    live: &[bool],
+    steps: &mut Steps<L>,
+) -> Result<Vec<bool>, NoMemory>
+    requires tree { IsTree scope.now.game.now.nodes }
+    requires asked { AreAsked (tree_in scope.now) live.now }
+    requires flat { AreFlat (filters_tree members.now) }
+    ensures value { IfOk result (λ truths. AreTruths truths.items live.now (λ n. spec.as_truth (not
+        (list_any spec.holds (values_in scope.now (filters_tree members.now) n))))) }
+    ensures cost { steps.new ≤ steps.old + filters_cost (searched_len (tree_in scope.now)) (filters_tree members.now) }
+    ensures rises { steps.old ≤ steps.new }
+{
+    if is_large(members) {
+        let left = left_by_each(alloc, members, scope, live, steps)?;
+        return Ok(left);
+    }
+    let truths = none_holds(alloc, members, scope, live, steps)?;
+    Ok(truths)
+}
+
+// Of the nodes of a set those at which none of some filters holds.
+#[cycle(evaluate)]
+fn left_by_each<L: Ledger>(
+    alloc: Global,
+    filters: &Filters,
+    scope: &Scope,
+    live: &[bool],
+    steps: &mut Steps<L>,
+) -> Result<Vec<bool>, NoMemory>
+    requires tree { IsTree scope.now.game.now.nodes }
+    requires asked { AreAsked (tree_in scope.now) live.now }
+    requires flat { AreFlat (filters_tree filters.now) }
+    ensures left { IfOk result (λ left. IsLeft (tree_in scope.now) live.now
+        (are_so (is_before all_classes) (tree_in scope.now) scope.now.names.now false (filters_tree filters.now)) left.items) }
+    ensures cost { steps.new ≤ steps.old + cost_of (is_before all_classes) (searched_len (tree_in scope.now)) (filters_tree filters.now) }
+    ensures rises { steps.old ≤ steps.new }
+{
+    let evers = evers_of(alloc, filters, scope, live)?;
+    let mut left = same(alloc, live)?;
+    ask_each(alloc, &evers, filters, scope, &mut left, steps)?;
+    Ok(left)
+}
+
+// Takes the nodes out of a set at which one of some filters holds.
+#[cycle(evaluate)]
+fn ask_each<L: Ledger>(
+    alloc: Global,
+    evers: &[Ever],
+    filters: &Filters,
+    scope: &Scope,
+    left: &mut [bool],
+    steps: &mut Steps<L>,
+) -> Result<(), NoMemory>
+    requires tree { IsTree scope.now.game.now.nodes }
+    requires asked { AreAsked (tree_in scope.now) left.old }
+    requires evers { AreEver (tree_in scope.now) left.old evers.now }
+    requires flat { AreFlat (filters_tree filters.now) }
+    ensures len { length left.new ≡ length left.old }
+    ensures left { OnOk result (IsLeft (tree_in scope.now) left.old
+        (are_so (is_before all_classes) (tree_in scope.now) scope.now.names.now false (filters_tree filters.now)) left.new) }
+    ensures cost { steps.new ≤ steps.old + cost_of (is_before all_classes) (searched_len (tree_in scope.now)) (filters_tree filters.now) }
+    ensures rises { steps.old ≤ steps.new }
+{
+    for filter in filters.as_slice() {
+        ask_unless(alloc, evers, filter, scope, left, steps)?;
+    }
+    Ok(())
+}
+
+// The same for one filter, unless it holds nowhere.
+#[cycle(evaluate)]
+fn ask_unless<L: Ledger>(
+    alloc: Global,
+    evers: &[Ever],
+    filter: &Filter,
+    scope: &Scope,
+    left: &mut [bool],
+    steps: &mut Steps<L>,
+) -> Result<(), NoMemory>
+    requires tree { IsTree scope.now.game.now.nodes }
+    requires asked { AreAsked (tree_in scope.now) left.old }
+    requires evers { AreEver (tree_in scope.now) left.old evers.now }
+    requires flat { IsFlat (filter_tree filter.now) }
+    ensures len { length left.new ≡ length left.old }
+    ensures left { OnOk result (IsLeft (tree_in scope.now) left.old
+        (is_so_if (is_before all_classes) (tree_in scope.now) scope.now.names.now false (filter_tree filter.now)) left.new) }
+    ensures cost { steps.new ≤ steps.old + cost_if (is_before all_classes) (searched_len (tree_in scope.now)) (filter_tree filter.now) }
+    ensures rises { steps.old ≤ steps.new }
+{
+    if holds_nowhere(evers, filter) {
+        return Ok(());
+    }
+    let column = evaluate(alloc, filter, scope, left, steps)?;
+    narrow(left, &column, false);
+    Ok(())
 }
 
 /// Of the nodes of a set those at which each filter of a class before `past` holds, or each doesn't: class by class, each filter where
@@ -81,26 +176,22 @@ pub(crate) fn left_by<L: Ledger>(
     past: u32,
     want: bool,
     filters: &Filters,
-    game: &Game,
-    variations: bool,
-    names: &Names,
+    scope: &Scope,
     live: &[bool],
     steps: &mut Steps<L>,
 ) -> Result<Vec<bool>, NoMemory>
-    requires tree { IsTree game.now.nodes }
-    requires asked { AreAsked (searched_tree game.now variations) live.now }
+    requires tree { IsTree scope.now.game.now.nodes }
+    requires asked { AreAsked (tree_in scope.now) live.now }
     requires flat { AreFlat (filters_tree filters.now) }
-    ensures left { IfOk result (λ left. IsLeft (searched_tree game.now variations) live.now
-        (are_so (is_before past) (searched_tree game.now variations) names.now want (filters_tree filters.now)) left.items) }
+    ensures left { IfOk result (λ left. IsLeft (tree_in scope.now) live.now
+        (are_so (is_before past) (tree_in scope.now) scope.now.names.now want (filters_tree filters.now)) left.items) }
     ensures cost { steps.new ≤ steps.old
-        + cost_of (is_before past) (searched_len (searched_tree game.now variations)) (filters_tree filters.now) }
+        + cost_of (is_before past) (searched_len (tree_in scope.now)) (filters_tree filters.now) }
     ensures rises { steps.old ≤ steps.new }
 {
     let mut left = same(alloc, live)?;
     for class in 0..past {
-        ask_class(
-            alloc, class, want, filters, game, variations, names, &mut left, steps,
-        )?;
+        ask_class(alloc, class, want, filters, scope, &mut left, steps)?;
     }
     Ok(left)
 }
@@ -112,26 +203,22 @@ fn ask_class<L: Ledger>(
     class: u32,
     want: bool,
     filters: &Filters,
-    game: &Game,
-    variations: bool,
-    names: &Names,
+    scope: &Scope,
     left: &mut [bool],
     steps: &mut Steps<L>,
 ) -> Result<(), NoMemory>
-    requires tree { IsTree game.now.nodes }
-    requires asked { AreAsked (searched_tree game.now variations) left.old }
+    requires tree { IsTree scope.now.game.now.nodes }
+    requires asked { AreAsked (tree_in scope.now) left.old }
     requires flat { AreFlat (filters_tree filters.now) }
     ensures len { length left.new ≡ length left.old }
-    ensures left { OnOk result (IsLeft (searched_tree game.now variations) left.old
-        (are_so (is_of class) (searched_tree game.now variations) names.now want (filters_tree filters.now)) left.new) }
+    ensures left { OnOk result (IsLeft (tree_in scope.now) left.old
+        (are_so (is_of class) (tree_in scope.now) scope.now.names.now want (filters_tree filters.now)) left.new) }
     ensures cost { steps.new ≤ steps.old
-        + cost_of (is_of class) (searched_len (searched_tree game.now variations)) (filters_tree filters.now) }
+        + cost_of (is_of class) (searched_len (tree_in scope.now)) (filters_tree filters.now) }
     ensures rises { steps.old ≤ steps.new }
 {
     for filter in filters.as_slice() {
-        ask_if(
-            alloc, class, want, filter, game, variations, names, left, steps,
-        )?;
+        ask_if(alloc, class, want, filter, scope, left, steps)?;
     }
     Ok(())
 }
@@ -143,26 +230,24 @@ fn ask_if<L: Ledger>(
     class: u32,
     want: bool,
     filter: &Filter,
-    game: &Game,
-    variations: bool,
-    names: &Names,
+    scope: &Scope,
     left: &mut [bool],
     steps: &mut Steps<L>,
 ) -> Result<(), NoMemory>
-    requires tree { IsTree game.now.nodes }
-    requires asked { AreAsked (searched_tree game.now variations) left.old }
+    requires tree { IsTree scope.now.game.now.nodes }
+    requires asked { AreAsked (tree_in scope.now) left.old }
     requires flat { IsFlat (filter_tree filter.now) }
     ensures len { length left.new ≡ length left.old }
-    ensures left { OnOk result (IsLeft (searched_tree game.now variations) left.old
-        (is_so_if (is_of class) (searched_tree game.now variations) names.now want (filter_tree filter.now)) left.new) }
+    ensures left { OnOk result (IsLeft (tree_in scope.now) left.old
+        (is_so_if (is_of class) (tree_in scope.now) scope.now.names.now want (filter_tree filter.now)) left.new) }
     ensures cost { steps.new ≤ steps.old
-        + cost_if (is_of class) (searched_len (searched_tree game.now variations)) (filter_tree filter.now) }
+        + cost_if (is_of class) (searched_len (tree_in scope.now)) (filter_tree filter.now) }
     ensures rises { steps.old ≤ steps.new }
 {
     if !is_of_class(filter, class) {
         return Ok(());
     }
-    let column = evaluate(alloc, filter, game, variations, names, left, steps)?;
+    let column = evaluate(alloc, filter, scope, left, steps)?;
     narrow(left, &column, want);
     Ok(())
 }
@@ -173,23 +258,21 @@ fn ask_if<L: Ledger>(
 pub(super) fn columns_of<L: Ledger>(
     alloc: Global,
     filters: &Filters,
-    game: &Game,
-    variations: bool,
-    names: &Names,
+    scope: &Scope,
     live: &[bool],
     steps: &mut Steps<L>,
 ) -> Result<Vec<FilterColumn>, NoMemory>
-    requires tree { IsTree game.now.nodes }
-    requires asked { AreAsked (searched_tree game.now variations) live.now }
+    requires tree { IsTree scope.now.game.now.nodes }
+    requires asked { AreAsked (tree_in scope.now) live.now }
     requires flat { AreFlat (filters_tree filters.now) }
     ensures value { IfOk result (λ columns. Where live.now (λ n. all_shown columns.items n
-        ≡ meaning.values (searched_tree game.now variations) [] names.now (filters_tree filters.now) n)) }
-    ensures cost { steps.new ≤ steps.old + filters_cost (searched_len (searched_tree game.now variations)) (filters_tree filters.now) }
+        ≡ values_in scope.now (filters_tree filters.now) n)) }
+    ensures cost { steps.new ≤ steps.old + filters_cost (searched_len (tree_in scope.now)) (filters_tree filters.now) }
     ensures rises { steps.old ≤ steps.new }
 {
     let mut columns = Vec::new(alloc);
     for filter in filters.as_slice() {
-        let column = evaluate(alloc, filter, game, variations, names, live, steps)?;
+        let column = evaluate(alloc, filter, scope, live, steps)?;
         columns.push(column)?;
     }
     Ok(columns)
@@ -201,23 +284,21 @@ pub(super) fn columns_of<L: Ledger>(
 pub(super) fn terms_of<L: Ledger>(
     alloc: Global,
     terms: &Terms,
-    game: &Game,
-    variations: bool,
-    names: &Names,
+    scope: &Scope,
     live: &[bool],
     steps: &mut Steps<L>,
 ) -> Result<Vec<(bool, FilterColumn)>, NoMemory>
-    requires tree { IsTree game.now.nodes }
-    requires asked { AreAsked (searched_tree game.now variations) live.now }
+    requires tree { IsTree scope.now.game.now.nodes }
+    requires asked { AreAsked (tree_in scope.now) live.now }
     requires flat { AreFlatTerms (terms_tree terms.now) }
     ensures value { IfOk result (λ columns. Where live.now (λ n. terms_shown columns.items n
-        ≡ meaning.term_values (searched_tree game.now variations) [] names.now (terms_tree terms.now) n)) }
-    ensures cost { steps.new ≤ steps.old + terms_cost (searched_len (searched_tree game.now variations)) (terms_tree terms.now) }
+        ≡ meaning.term_values (tree_in scope.now) [] scope.now.names.now (terms_tree terms.now) n)) }
+    ensures cost { steps.new ≤ steps.old + terms_cost (searched_len (tree_in scope.now)) (terms_tree terms.now) }
     ensures rises { steps.old ≤ steps.new }
 {
     let mut columns = Vec::new(alloc);
     for term in terms.as_slice() {
-        let column = evaluate(alloc, &term.filter, game, variations, names, live, steps)?;
+        let column = evaluate(alloc, &term.filter, scope, live, steps)?;
         columns.push((term.minus, column))?;
     }
     Ok(columns)

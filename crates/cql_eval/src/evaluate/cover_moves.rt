@@ -4,21 +4,23 @@ ghost use Rattle.cq_position.specs.Games.{IsTree};
 ghost use Rattle.cql_syntax.specs.Meaning as meaning;
 ghost use Rattle.cql_syntax.specs.TreeOf.{played_tree, written_tree};
 ghost use Rattle.cql_syntax.specs.Values as spec;
-ghost use Rattle.cql_values.specs.Trees.{searched_tree};
 ghost use Rattle.cql_eval.specs.Columns.{AreAsked};
-ghost use Rattle.cql_eval.specs.Covers.{AreCut, AsksNoMore, MayHold};
+ghost use Rattle.cql_eval.specs.Covers.{AsksNoMore};
 ghost use Rattle.cql_eval.specs.FlatTrees.{IsFlatMove, IsFlatPart};
+ghost use Rattle.cql_eval.specs.Scopes.{tree_in};
+ghost use Rattle.cql_eval.specs.Trials.{LeavesHolding};
 
 use super::played::written_column;
+use super::trial::Trial;
 use crate::covers::{cut_moves, cut_where_fails, with_squares};
 use crate::filter_column::FilterColumn;
 use crate::free::{is_free_and_written, is_own_part};
 use crate::moves::moves_met;
+use crate::scope::Scope;
 use crate::tree::befores;
 use cq_outside::{NoMemory, Steps};
 use cql_syntax::{Filter, Played};
 use cql_values::names::Names;
-use pgn_tree::Game;
 use std::alloc::Global;
 use std::sync::ledger::Ledger;
 
@@ -26,32 +28,25 @@ use std::sync::ledger::Ledger;
 #[cycle(evaluate)]
 pub(super) fn cover_played<L: Ledger>(
     alloc: Global,
-    opened: &Names,
-    name: &[u8],
+    trial: &Trial,
     played: &Played,
-    game: &Game,
-    variations: bool,
-    names: &Names,
-    live: &[bool],
     sets: &mut [u64],
     steps: &mut Steps<L>,
 ) -> Result<(), NoMemory>
-    requires tree { IsTree game.now.nodes }
-    requires asked { AreAsked (searched_tree game.now variations) live.now }
-    requires count { length sets.old ≡ length live.now }
+    requires tree { IsTree trial.now.scope.now.game.now.nodes }
+    requires asked { AreAsked (tree_in trial.now.scope.now) trial.now.live.now }
+    requires count { length sets.old ≡ length trial.now.live.now }
     requires flat { IsFlatMove (played_tree played.now) }
-    ensures cut { OnOk result (AreCut live.now (MayHold opened.now names.now name.now
-        (λ e n. spec.as_truth (meaning.played_value (searched_tree game.now variations) [] e (played_tree played.now) n))) sets.old sets.new) }
+    ensures cut { OnOk result (LeavesHolding trial.now
+        (λ e n. spec.as_truth (meaning.played_value (tree_in trial.now.scope.now) [] e (played_tree played.now) n)) sets.old sets.new) }
     ensures len { length sets.new ≡ length sets.old }
     ensures cost { steps.new ≡ steps.old }
 {
-    let origin = is_own_part(name, &played.origin);
-    let goal = is_own_part(name, &played.goal);
-    let taken = is_own_part(name, &played.taken);
-    cut_moves(sets, live, game, variations, origin, goal, taken);
-    cover_free_parts(
-        alloc, opened, name, played, game, variations, names, live, sets, steps,
-    )?;
+    let origin = is_own_part(trial.name, &played.origin);
+    let goal = is_own_part(trial.name, &played.goal);
+    let taken = is_own_part(trial.name, &played.taken);
+    cut_moves(sets, trial.live, trial.scope, origin, goal, taken);
+    cover_free_parts(alloc, trial, played, sets, steps)?;
     Ok(())
 }
 
@@ -60,75 +55,46 @@ pub(super) fn cover_played<L: Ledger>(
 #[tactic(auto, unfolding(cql_syntax::specs::Meaning::value, crate::specs::FlatTrees::unflat))]
 fn cover_free_parts<L: Ledger>(
     alloc: Global,
-    opened: &Names,
-    name: &[u8],
+    trial: &Trial,
     played: &Played,
-    game: &Game,
-    variations: bool,
-    names: &Names,
-    live: &[bool],
     sets: &mut [u64],
     steps: &mut Steps<L>,
 ) -> Result<(), NoMemory>
-    requires tree { IsTree game.now.nodes }
-    requires asked { AreAsked (searched_tree game.now variations) live.now }
-    requires count { length sets.old ≡ length live.now }
+    requires tree { IsTree trial.now.scope.now.game.now.nodes }
+    requires asked { AreAsked (tree_in trial.now.scope.now) trial.now.live.now }
+    requires count { length sets.old ≡ length trial.now.live.now }
     requires flat { IsFlatMove (played_tree played.now) }
-    ensures cut { OnOk result (AreCut live.now (MayHold opened.now names.now name.now
-        (λ e n. spec.as_truth (meaning.played_value (searched_tree game.now variations) [] e (played_tree played.now) n))) sets.old sets.new) }
+    ensures cut { OnOk result (LeavesHolding trial.now
+        (λ e n. spec.as_truth (meaning.played_value (tree_in trial.now.scope.now) [] e (played_tree played.now) n)) sets.old sets.new) }
     ensures len { length sets.new ≡ length sets.old }
     ensures cost { steps.new ≡ steps.old }
 {
-    if !asks_without(opened, played) {
+    if !asks_without(trial.opened, played) {
         return Ok(());
     }
-    let some = with_squares(alloc, game, variations, live, sets)?;
+    let some = with_squares(alloc, trial.scope, trial.live, sets)?;
     let some = some.as_slice();
-    let wide = befores(alloc, game, variations, some)?;
+    let wide = befores(alloc, trial.scope, some)?;
     let wide = wide.as_slice();
     let origin = free_column(
         alloc,
-        opened,
+        trial.opened,
         &played.origin,
-        game,
-        variations,
-        names,
+        trial.scope,
         wide,
         steps,
     )?;
-    let goal = free_column(
-        alloc,
-        opened,
-        &played.goal,
-        game,
-        variations,
-        names,
-        some,
-        steps,
-    )?;
-    let taken = free_column(
-        alloc,
-        opened,
-        &played.taken,
-        game,
-        variations,
-        names,
-        wide,
-        steps,
-    )?;
+    let goal = free_column(alloc, trial.opened, &played.goal, trial.scope, some, steps)?;
+    let taken = free_column(alloc, trial.opened, &played.taken, trial.scope, wide, steps)?;
     let promoted = free_column(
         alloc,
-        opened,
+        trial.opened,
         &played.promoted,
-        game,
-        variations,
-        names,
+        trial.scope,
         some,
         steps,
     )?;
-    let met = moves_met(
-        alloc, game, variations, &origin, &goal, &taken, &promoted, some,
-    )?;
+    let met = moves_met(alloc, trial.scope, &origin, &goal, &taken, &promoted, some)?;
     cut_where_fails(sets, some, &FilterColumn::Truths(met));
     Ok(())
 }
@@ -147,21 +113,19 @@ fn free_column<L: Ledger>(
     alloc: Global,
     opened: &Names,
     written: &Option<Box<Filter>>,
-    game: &Game,
-    variations: bool,
-    names: &Names,
+    scope: &Scope,
     live: &[bool],
     steps: &mut Steps<L>,
 ) -> Result<Option<FilterColumn>, NoMemory>
-    requires tree { IsTree game.now.nodes }
-    requires asked { AreAsked (searched_tree game.now variations) live.now }
+    requires tree { IsTree scope.now.game.now.nodes }
+    requires asked { AreAsked (tree_in scope.now) live.now }
     requires flat { IsFlatPart (written_tree written.now) }
-    ensures asks { IfOk result (AsksNoMore (searched_tree game.now variations) opened.now names.now (written_tree written.now) live.now) }
+    ensures asks { IfOk result (AsksNoMore (tree_in scope.now) opened.now scope.now.names.now (written_tree written.now) live.now) }
     ensures cost { steps.new ≡ steps.old }
 {
     if !is_free_and_written(opened, written) {
         return Ok(None);
     }
-    let column = written_column(alloc, written, game, variations, names, live, steps)?;
+    let column = written_column(alloc, written, scope, live, steps)?;
     Ok(column)
 }

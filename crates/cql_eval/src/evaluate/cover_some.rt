@@ -1,21 +1,20 @@
 //! Squares that are worth trying where some of several filters must hold: those that are so for one of them.
-ghost use Rattle.std.specs.Prelude.{◌≡◌, ℕ, [], length, OnOk};
+ghost use Rattle.std.specs.Prelude.{◌≡◌, ℕ, length, OnOk};
 ghost use Rattle.cq_position.specs.Games.{IsTree};
-ghost use Rattle.cql_syntax.specs.Meaning as meaning;
 ghost use Rattle.cql_syntax.specs.TreeOf.{filter_tree, filters_tree};
 ghost use Rattle.cql_syntax.specs.Values as spec;
-ghost use Rattle.cql_values.specs.Trees.{searched_tree};
 ghost use Rattle.cql_eval.specs.Columns.{AreAsked};
-ghost use Rattle.cql_eval.specs.Covers.{AreAdded, AreCut, MayHold};
+ghost use Rattle.cql_eval.specs.Covers.{AreAdded, MayHold};
 ghost use Rattle.cql_eval.specs.FlatTrees.{IsFlat, AreFlat};
+ghost use Rattle.cql_eval.specs.Scopes.{tree_in, value_with, values_with};
+ghost use Rattle.cql_eval.specs.Trials.{LeavesHolding};
 
 use super::covers::cover;
+use super::trial::Trial;
 use crate::covers::{add_sets, cut, same_sets};
 use crate::filter_column::{FilterColumn, blank_sets};
 use cq_outside::{NoMemory, Steps};
 use cql_syntax::{Filter, Filters};
-use cql_values::names::Names;
-use pgn_tree::Game;
 use std::alloc::Global;
 use std::sync::ledger::Ledger;
 
@@ -23,30 +22,23 @@ use std::sync::ledger::Ledger;
 #[cycle(evaluate)]
 pub(super) fn cover_some<L: Ledger>(
     alloc: Global,
-    opened: &Names,
-    name: &[u8],
+    trial: &Trial,
     parts: &Filters,
-    game: &Game,
-    variations: bool,
-    names: &Names,
-    live: &[bool],
     sets: &mut [u64],
     steps: &mut Steps<L>,
 ) -> Result<(), NoMemory>
-    requires tree { IsTree game.now.nodes }
-    requires asked { AreAsked (searched_tree game.now variations) live.now }
-    requires count { length sets.old ≡ length live.now }
+    requires tree { IsTree trial.now.scope.now.game.now.nodes }
+    requires asked { AreAsked (tree_in trial.now.scope.now) trial.now.live.now }
+    requires count { length sets.old ≡ length trial.now.live.now }
     requires flat { AreFlat (filters_tree parts.now) }
-    ensures cut { OnOk result (AreCut live.now (MayHold opened.now names.now name.now
-        (λ e n. spec.some_holds (meaning.values (searched_tree game.now variations) [] e (filters_tree parts.now) n))) sets.old sets.new) }
+    ensures cut { OnOk result (LeavesHolding trial.now
+        (λ e n. spec.some_holds (values_with trial.now.scope.now (filters_tree parts.now) e n)) sets.old sets.new) }
     ensures len { length sets.new ≡ length sets.old }
     ensures cost { steps.new ≡ steps.old }
 {
-    let mut kept = blank_sets(alloc, live.len())?;
-    add_each(
-        alloc, opened, name, parts, game, variations, names, live, sets, &mut kept, steps,
-    )?;
-    cut(sets, live, &FilterColumn::Sets(kept));
+    let mut kept = blank_sets(alloc, trial.live.len())?;
+    add_each(alloc, trial, parts, sets, &mut kept, steps)?;
+    cut(sets, trial.live, &FilterColumn::Sets(kept));
     Ok(())
 }
 
@@ -54,31 +46,24 @@ pub(super) fn cover_some<L: Ledger>(
 #[cycle(evaluate)]
 fn add_each<L: Ledger>(
     alloc: Global,
-    opened: &Names,
-    name: &[u8],
+    trial: &Trial,
     parts: &Filters,
-    game: &Game,
-    variations: bool,
-    names: &Names,
-    live: &[bool],
     sets: &[u64],
     kept: &mut [u64],
     steps: &mut Steps<L>,
 ) -> Result<(), NoMemory>
-    requires tree { IsTree game.now.nodes }
-    requires asked { AreAsked (searched_tree game.now variations) live.now }
-    requires count { length sets.now ≡ length live.now }
-    requires kept { length kept.old ≡ length live.now }
+    requires tree { IsTree trial.now.scope.now.game.now.nodes }
+    requires asked { AreAsked (tree_in trial.now.scope.now) trial.now.live.now }
+    requires count { length sets.now ≡ length trial.now.live.now }
+    requires kept { length kept.old ≡ length trial.now.live.now }
     requires flat { AreFlat (filters_tree parts.now) }
-    ensures added { OnOk result (AreAdded live.now (MayHold opened.now names.now name.now
-        (λ e n. spec.some_holds (meaning.values (searched_tree game.now variations) [] e (filters_tree parts.now) n))) sets.now kept.old kept.new) }
+    ensures added { OnOk result (AreAdded trial.now.live.now (MayHold trial.now.opened.now trial.now.scope.now.names.now trial.now.name.now
+        (λ e n. spec.some_holds (values_with trial.now.scope.now (filters_tree parts.now) e n))) sets.now kept.old kept.new) }
     ensures len { length kept.new ≡ length kept.old }
     ensures cost { steps.new ≡ steps.old }
 {
     for part in parts.as_slice() {
-        add_covered(
-            alloc, opened, name, part, game, variations, names, live, sets, kept, steps,
-        )?;
+        add_covered(alloc, trial, part, sets, kept, steps)?;
     }
     Ok(())
 }
@@ -87,31 +72,24 @@ fn add_each<L: Ledger>(
 #[cycle(evaluate)]
 fn add_covered<L: Ledger>(
     alloc: Global,
-    opened: &Names,
-    name: &[u8],
+    trial: &Trial,
     part: &Filter,
-    game: &Game,
-    variations: bool,
-    names: &Names,
-    live: &[bool],
     sets: &[u64],
     kept: &mut [u64],
     steps: &mut Steps<L>,
 ) -> Result<(), NoMemory>
-    requires tree { IsTree game.now.nodes }
-    requires asked { AreAsked (searched_tree game.now variations) live.now }
-    requires count { length sets.now ≡ length live.now }
-    requires kept { length kept.old ≡ length live.now }
+    requires tree { IsTree trial.now.scope.now.game.now.nodes }
+    requires asked { AreAsked (tree_in trial.now.scope.now) trial.now.live.now }
+    requires count { length sets.now ≡ length trial.now.live.now }
+    requires kept { length kept.old ≡ length trial.now.live.now }
     requires flat { IsFlat (filter_tree part.now) }
-    ensures added { OnOk result (AreAdded live.now (MayHold opened.now names.now name.now
-        (λ e. meaning.value (searched_tree game.now variations) [] e (filter_tree part.now))) sets.now kept.old kept.new) }
+    ensures added { OnOk result (AreAdded trial.now.live.now (MayHold trial.now.opened.now trial.now.scope.now.names.now trial.now.name.now
+        (value_with trial.now.scope.now (filter_tree part.now))) sets.now kept.old kept.new) }
     ensures len { length kept.new ≡ length kept.old }
     ensures cost { steps.new ≡ steps.old }
 {
     let mut left = same_sets(alloc, sets)?;
-    cover(
-        alloc, opened, name, part, game, variations, names, live, &mut left, steps,
-    )?;
+    cover(alloc, trial, part, &mut left, steps)?;
     add_sets(kept, &left);
     Ok(())
 }

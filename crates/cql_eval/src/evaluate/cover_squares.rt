@@ -1,25 +1,24 @@
 //! Squares that are worth trying for what is asked of some square of a set under another name.
-ghost use Rattle.std.specs.Prelude.{◌≡◌, ℕ, [], ◌∷◌, length, false, OnOk};
+ghost use Rattle.std.specs.Prelude.{◌≡◌, ℕ, ◌∷◌, length, false, OnOk};
 ghost use Rattle.std.specs.Str.{bytes_eq};
 ghost use Rattle.cq_position.specs.Games.{IsTree};
 ghost use Rattle.cql_syntax.specs.Meaning as meaning;
 ghost use Rattle.cql_syntax.specs.TreeOf.{filter_tree};
 ghost use Rattle.cql_syntax.specs.Values as spec;
-ghost use Rattle.cql_values.specs.Trees.{searched_tree};
 ghost use Rattle.cql_eval.specs.Columns.{AreAsked};
-ghost use Rattle.cql_eval.specs.Covers.{AreCut, MayHold};
 ghost use Rattle.cql_eval.specs.FlatTrees.{IsFlat};
+ghost use Rattle.cql_eval.specs.Scopes.{tree_in, value_with};
+ghost use Rattle.cql_eval.specs.Trials.{LeavesHolding};
 
 use super::covers::cover;
 use super::evaluate;
+use super::trial::Trial;
 use crate::covers::with_squares;
 use crate::free::{is_free, is_other};
-use crate::pairs::{asks_pair, cut_paired};
+use crate::pairs::{Paired, asks_pair, cut_paired};
 use cq_geometry::Square;
 use cq_outside::{NoMemory, Steps};
 use cql_syntax::{Filter, Form};
-use cql_values::names::Names;
-use pgn_tree::Game;
 use std::alloc::Global;
 use std::sync::ledger::Ledger;
 
@@ -28,39 +27,28 @@ use std::sync::ledger::Ledger;
 #[tactic(auto, unfolding(cql_syntax::specs::Meaning::value, crate::specs::FlatTrees::unflat))]
 pub(super) fn cover_square<L: Ledger>(
     alloc: Global,
-    opened: &Names,
-    name: &[u8],
+    trial: &Trial,
     asked: &Filter,
-    game: &Game,
-    variations: bool,
-    names: &Names,
-    live: &[bool],
     sets: &mut [u64],
     steps: &mut Steps<L>,
 ) -> Result<(), NoMemory>
-    requires tree { IsTree game.now.nodes }
-    requires asked { AreAsked (searched_tree game.now variations) live.now }
-    requires count { length sets.old ≡ length live.now }
+    requires tree { IsTree trial.now.scope.now.game.now.nodes }
+    requires asked { AreAsked (tree_in trial.now.scope.now) trial.now.live.now }
+    requires count { length sets.old ≡ length trial.now.live.now }
     requires flat { IsFlat (filter_tree asked.now) }
-    ensures cut { OnOk result (AreCut live.now (MayHold opened.now names.now name.now
-        (λ e. meaning.value (searched_tree game.now variations) [] e (filter_tree asked.now))) sets.old sets.new) }
+    ensures cut { OnOk result (LeavesHolding trial.now
+        (value_with trial.now.scope.now (filter_tree asked.now)) sets.old sets.new) }
     ensures len { length sets.new ≡ length sets.old }
     ensures cost { steps.new ≡ steps.old }
 {
     match &asked.form {
         Form::Square(every, inner, squares, part) => {
             let inner = inner.as_slice();
-            if !is_other(*every, inner, name) {
+            if !is_other(*every, inner, trial.name) {
                 return Ok(());
             }
-            cover_inner(
-                alloc, opened, name, *every, inner, part, game, variations, names, live, sets,
-                steps,
-            )?;
-            cover_pair(
-                alloc, opened, name, *every, inner, squares, part, game, variations, names, live,
-                sets, steps,
-            )?;
+            cover_inner(alloc, trial, inner, part, sets, steps)?;
+            cover_pair(alloc, trial, inner, squares, part, sets, steps)?;
             Ok(())
         }
         _ => Ok(()),
@@ -71,33 +59,29 @@ pub(super) fn cover_square<L: Ledger>(
 #[cycle(evaluate)]
 fn cover_inner<L: Ledger>(
     alloc: Global,
-    opened: &Names,
-    name: &[u8],
-    every: bool,
+    trial: &Trial,
     inner: &[u8],
     part: &Filter,
-    game: &Game,
-    variations: bool,
-    names: &Names,
-    live: &[bool],
     sets: &mut [u64],
     steps: &mut Steps<L>,
 ) -> Result<(), NoMemory>
-    requires tree { IsTree game.now.nodes }
-    requires asked { AreAsked (searched_tree game.now variations) live.now }
-    requires count { length sets.old ≡ length live.now }
+    requires tree { IsTree trial.now.scope.now.game.now.nodes }
+    requires asked { AreAsked (tree_in trial.now.scope.now) trial.now.live.now }
+    requires count { length sets.old ≡ length trial.now.live.now }
     requires flat { IsFlat (filter_tree part.now) }
-    requires other { (every ≡ false) × (bytes_eq inner.now name.now ≡ false) }
-    ensures cut { OnOk result ((x : meaning.Names → ℕ → spec.Value) → AreCut live.now (MayHold opened.now names.now name.now
-        (λ e n. spec.square_of every (x e n) (λ s. spec.holds (meaning.value (searched_tree game.now variations) []
-        ((inner.now, s) ∷ e) (filter_tree part.now) n)))) sets.old sets.new) }
+    requires other { bytes_eq inner.now trial.now.name.now ≡ false }
+    ensures cut { OnOk result ((x : meaning.Names → ℕ → spec.Value) → LeavesHolding trial.now
+        (λ e n. spec.square_of false (x e n)
+        (λ s. spec.holds (value_with trial.now.scope.now (filter_tree part.now) ((inner.now, s) ∷ e) n))) sets.old sets.new) }
     ensures len { length sets.new ≡ length sets.old }
     ensures cost { steps.new ≡ steps.old }
 {
-    let wider = opened.with(alloc, inner, Square::new(0))?;
-    cover(
-        alloc, &wider, name, part, game, variations, names, live, sets, steps,
-    )?;
+    let wider = trial.opened.with(alloc, inner, Square::new(0))?;
+    let within = Trial {
+        opened: &wider,
+        ..*trial
+    };
+    cover(alloc, &within, part, sets, steps)?;
     Ok(())
 }
 
@@ -105,39 +89,40 @@ fn cover_inner<L: Ledger>(
 #[cycle(evaluate)]
 fn cover_pair<L: Ledger>(
     alloc: Global,
-    opened: &Names,
-    name: &[u8],
-    every: bool,
+    trial: &Trial,
     inner: &[u8],
     squares: &Filter,
     part: &Filter,
-    game: &Game,
-    variations: bool,
-    names: &Names,
-    live: &[bool],
     sets: &mut [u64],
     steps: &mut Steps<L>,
 ) -> Result<(), NoMemory>
-    requires tree { IsTree game.now.nodes }
-    requires asked { AreAsked (searched_tree game.now variations) live.now }
-    requires count { length sets.old ≡ length live.now }
+    requires tree { IsTree trial.now.scope.now.game.now.nodes }
+    requires asked { AreAsked (tree_in trial.now.scope.now) trial.now.live.now }
+    requires count { length sets.old ≡ length trial.now.live.now }
     requires flat { IsFlat (filter_tree squares.now) }
-    requires other { (every ≡ false) × (bytes_eq inner.now name.now ≡ false) }
-    ensures cut { OnOk result (AreCut live.now (MayHold opened.now names.now name.now
-        (λ e n. spec.square_of every (meaning.value (searched_tree game.now variations) [] e (filter_tree squares.now) n)
-        (λ s. spec.holds (meaning.value (searched_tree game.now variations) [] ((inner.now, s) ∷ e) (filter_tree part.now) n)))) sets.old sets.new) }
+    requires other { bytes_eq inner.now trial.now.name.now ≡ false }
+    ensures cut { OnOk result (LeavesHolding trial.now
+        (λ e n. spec.square_of false (value_with trial.now.scope.now (filter_tree squares.now) e n)
+        (λ s. spec.holds (value_with trial.now.scope.now (filter_tree part.now) ((inner.now, s) ∷ e) n))) sets.old sets.new) }
     ensures len { length sets.new ≡ length sets.old }
     ensures cost { steps.new ≡ steps.old }
 {
-    if !asks_pair(name, inner, part) {
+    if !asks_pair(trial.name, inner, part) {
         return Ok(());
     }
-    if !is_free(opened, squares) {
+    if !is_free(trial.opened, squares) {
         return Ok(());
     }
-    let some = with_squares(alloc, game, variations, live, sets)?;
+    let some = with_squares(alloc, trial.scope, trial.live, sets)?;
     let some = some.as_slice();
-    let column = evaluate(alloc, squares, game, variations, names, some, steps)?;
-    cut_paired(sets, some, game, variations, name, inner, part, &column);
+    let column = evaluate(alloc, squares, trial.scope, some, steps)?;
+    let paired = Paired {
+        scope: trial.scope,
+        live: some,
+        name: trial.name,
+        other: inner,
+        column: &column,
+    };
+    cut_paired(sets, &paired, part);
     Ok(())
 }

@@ -1,19 +1,21 @@
 //! Squares that are worth trying: of the squares of sets those with which what is asked may hold.
-ghost use Rattle.std.specs.Prelude.{◌≡◌, ◌⊎◌, ℕ, [], length, true, OnOk};
+ghost use Rattle.std.specs.Prelude.{◌≡◌, ◌⊎◌, ℕ, length, true, OnOk};
 ghost use Rattle.cq_position.specs.Games.{IsTree, node_at};
 ghost use Rattle.cql_syntax.specs.Meaning as meaning;
 ghost use Rattle.cql_syntax.specs.TreeOf.{filter_tree, filters_tree};
 ghost use Rattle.cql_syntax.specs.Values as spec;
 ghost use Rattle.cql_syntax.specs.declared.leaves.Pair.TheVariants.{Attacks, AttackedBy};
-ghost use Rattle.cql_values.specs.Trees.{searched_tree};
 ghost use Rattle.cql_eval.specs.Columns.{AreAsked};
-ghost use Rattle.cql_eval.specs.Covers.{AreCut, IsFree, MayHave, MayHold};
+ghost use Rattle.cql_eval.specs.Covers.{IsFree};
 ghost use Rattle.cql_eval.specs.FlatTrees.{IsFlat, AreFlat};
+ghost use Rattle.cql_eval.specs.Scopes.{tree_in, value_with, values_with};
+ghost use Rattle.cql_eval.specs.Trials.{LeavesHolding, LeavesHaving};
 
 use super::cover_moves::cover_played;
 use super::cover_some::cover_some;
 use super::cover_squares::cover_square;
 use super::evaluate;
+use super::trial::Trial;
 use crate::covers::{
     any_left, any_squares, cut, cut_related, cut_where_fails, everywhere, with_squares,
 };
@@ -23,8 +25,6 @@ use crate::free::{is_all, is_attack, is_free, is_intersection, is_or, is_own, tu
 use crate::order::{SORTS, is_of_class};
 use cq_outside::{NoMemory, Steps};
 use cql_syntax::{Chain, Filter, Filters, Form, Pair, Unary};
-use cql_values::names::Names;
-use pgn_tree::Game;
 use std::alloc::Global;
 use std::sync::ledger::Ledger;
 
@@ -33,61 +33,42 @@ use std::sync::ledger::Ledger;
 #[tactic(auto, unfolding(cql_syntax::specs::Meaning::value, crate::specs::FlatTrees::unflat))]
 pub(super) fn cover<L: Ledger>(
     alloc: Global,
-    opened: &Names,
-    name: &[u8],
+    trial: &Trial,
     asked: &Filter,
-    game: &Game,
-    variations: bool,
-    names: &Names,
-    live: &[bool],
     sets: &mut [u64],
     steps: &mut Steps<L>,
 ) -> Result<(), NoMemory>
-    requires tree { IsTree game.now.nodes }
-    requires asked { AreAsked (searched_tree game.now variations) live.now }
-    requires count { length sets.old ≡ length live.now }
+    requires tree { IsTree trial.now.scope.now.game.now.nodes }
+    requires asked { AreAsked (tree_in trial.now.scope.now) trial.now.live.now }
+    requires count { length sets.old ≡ length trial.now.live.now }
     requires flat { IsFlat (filter_tree asked.now) }
-    ensures cut { OnOk result (AreCut live.now (MayHold opened.now names.now name.now
-        (λ e. meaning.value (searched_tree game.now variations) [] e (filter_tree asked.now))) sets.old sets.new) }
+    ensures cut { OnOk result (LeavesHolding trial.now
+        (value_with trial.now.scope.now (filter_tree asked.now)) sets.old sets.new) }
     ensures len { length sets.new ≡ length sets.old }
     ensures cost { steps.new ≡ steps.old }
 {
     if !any_left(sets) {
         return Ok(());
     }
-    if is_free(opened, asked) {
-        return cover_free(
-            alloc, opened, name, asked, game, variations, names, live, sets, steps,
-        );
+    if is_free(trial.opened, asked) {
+        return cover_free(alloc, trial, asked, sets, steps);
     }
-    if is_own(name, asked) {
-        cover_set(
-            alloc, opened, name, asked, game, variations, names, live, sets, steps,
-        )?;
+    if is_own(trial.name, asked) {
+        cover_set(alloc, trial, asked, sets, steps)?;
         return Ok(());
     }
     match &asked.form {
-        Form::Chain(chain, parts) => cover_chain(
-            alloc, opened, name, *chain, parts, game, variations, names, live, sets, steps,
-        ),
-        Form::Square(..) => cover_square(
-            alloc, opened, name, asked, game, variations, names, live, sets, steps,
-        ),
+        Form::Chain(chain, parts) => cover_chain(alloc, trial, *chain, parts, sets, steps),
+        Form::Square(..) => cover_square(alloc, trial, asked, sets, steps),
         Form::Unary(word, part) => {
-            cover_elsewhere(
-                alloc, opened, name, *word, part, game, variations, names, live, sets, steps,
-            )?;
+            cover_elsewhere(alloc, trial, *word, part, sets, steps)?;
             Ok(())
         }
         Form::Played(played) => {
-            cover_played(
-                alloc, opened, name, played, game, variations, names, live, sets, steps,
-            )?;
+            cover_played(alloc, trial, played, sets, steps)?;
             Ok(())
         }
-        Form::Pair(..) => cover_turned(
-            alloc, opened, name, asked, game, variations, names, live, sets, steps,
-        ),
+        Form::Pair(..) => cover_turned(alloc, trial, asked, sets, steps),
         _ => Ok(()),
     }
 }
@@ -96,28 +77,23 @@ pub(super) fn cover<L: Ledger>(
 #[cycle(evaluate)]
 fn cover_free<L: Ledger>(
     alloc: Global,
-    opened: &Names,
-    name: &[u8],
+    trial: &Trial,
     asked: &Filter,
-    game: &Game,
-    variations: bool,
-    names: &Names,
-    live: &[bool],
     sets: &mut [u64],
     steps: &mut Steps<L>,
 ) -> Result<(), NoMemory>
-    requires tree { IsTree game.now.nodes }
-    requires asked { AreAsked (searched_tree game.now variations) live.now }
-    requires count { length sets.old ≡ length live.now }
+    requires tree { IsTree trial.now.scope.now.game.now.nodes }
+    requires asked { AreAsked (tree_in trial.now.scope.now) trial.now.live.now }
+    requires count { length sets.old ≡ length trial.now.live.now }
     requires flat { IsFlat (filter_tree asked.now) }
-    requires free { IsFree opened.now (filter_tree asked.now) }
-    ensures cut { OnOk result (AreCut live.now (MayHold opened.now names.now name.now
-        (λ e. meaning.value (searched_tree game.now variations) [] e (filter_tree asked.now))) sets.old sets.new) }
+    requires free { IsFree trial.now.opened.now (filter_tree asked.now) }
+    ensures cut { OnOk result (LeavesHolding trial.now
+        (value_with trial.now.scope.now (filter_tree asked.now)) sets.old sets.new) }
     ensures len { length sets.new ≡ length sets.old }
     ensures cost { steps.new ≡ steps.old }
 {
-    let some = with_squares(alloc, game, variations, live, sets)?;
-    let column = evaluate(alloc, asked, game, variations, names, &some, steps)?;
+    let some = with_squares(alloc, trial.scope, trial.live, sets)?;
+    let column = evaluate(alloc, asked, trial.scope, &some, steps)?;
     cut_where_fails(sets, &some, &column);
     Ok(())
 }
@@ -127,22 +103,17 @@ fn cover_free<L: Ledger>(
 #[tactic(auto, unfolding(cql_syntax::specs::Meaning::value, crate::specs::FlatTrees::unflat))]
 fn cover_turned<L: Ledger>(
     alloc: Global,
-    opened: &Names,
-    name: &[u8],
+    trial: &Trial,
     asked: &Filter,
-    game: &Game,
-    variations: bool,
-    names: &Names,
-    live: &[bool],
     sets: &mut [u64],
     steps: &mut Steps<L>,
 ) -> Result<(), NoMemory>
-    requires tree { IsTree game.now.nodes }
-    requires asked { AreAsked (searched_tree game.now variations) live.now }
-    requires count { length sets.old ≡ length live.now }
+    requires tree { IsTree trial.now.scope.now.game.now.nodes }
+    requires asked { AreAsked (tree_in trial.now.scope.now) trial.now.live.now }
+    requires count { length sets.old ≡ length trial.now.live.now }
     requires flat { IsFlat (filter_tree asked.now) }
-    ensures cut { OnOk result (AreCut live.now (MayHold opened.now names.now name.now
-        (λ e. meaning.value (searched_tree game.now variations) [] e (filter_tree asked.now))) sets.old sets.new) }
+    ensures cut { OnOk result (LeavesHolding trial.now
+        (value_with trial.now.scope.now (filter_tree asked.now)) sets.old sets.new) }
     ensures len { length sets.new ≡ length sets.old }
     ensures cost { steps.new ≡ steps.old }
 {
@@ -151,13 +122,11 @@ fn cover_turned<L: Ledger>(
             if !is_attack(*pair) {
                 return Ok(());
             }
-            if !is_own(name, second) {
+            if !is_own(trial.name, second) {
                 return Ok(());
             }
             let other = turned(*pair);
-            cover_related(
-                alloc, opened, name, other, first, game, variations, names, live, sets, steps,
-            )?;
+            cover_related(alloc, trial, other, first, sets, steps)?;
             Ok(())
         }
         _ => Ok(()),
@@ -168,38 +137,29 @@ fn cover_turned<L: Ledger>(
 #[cycle(evaluate)]
 fn cover_chain<L: Ledger>(
     alloc: Global,
-    opened: &Names,
-    name: &[u8],
+    trial: &Trial,
     chain: Chain,
     parts: &Filters,
-    game: &Game,
-    variations: bool,
-    names: &Names,
-    live: &[bool],
     sets: &mut [u64],
     steps: &mut Steps<L>,
 ) -> Result<(), NoMemory>
-    requires tree { IsTree game.now.nodes }
-    requires asked { AreAsked (searched_tree game.now variations) live.now }
-    requires count { length sets.old ≡ length live.now }
+    requires tree { IsTree trial.now.scope.now.game.now.nodes }
+    requires asked { AreAsked (tree_in trial.now.scope.now) trial.now.live.now }
+    requires count { length sets.old ≡ length trial.now.live.now }
     requires flat { AreFlat (filters_tree parts.now) }
-    ensures cut { OnOk result (AreCut live.now (MayHold opened.now names.now name.now
-        (λ e n. spec.chain_of chain (meaning.values (searched_tree game.now variations) [] e (filters_tree parts.now) n))) sets.old sets.new) }
+    ensures cut { OnOk result (LeavesHolding trial.now
+        (λ e n. spec.chain_of chain (values_with trial.now.scope.now (filters_tree parts.now) e n)) sets.old sets.new) }
     ensures len { length sets.new ≡ length sets.old }
     ensures cost { steps.new ≡ steps.old }
 {
     if is_or(chain) {
-        cover_some(
-            alloc, opened, name, parts, game, variations, names, live, sets, steps,
-        )?;
+        cover_some(alloc, trial, parts, sets, steps)?;
         return Ok(());
     }
     if !is_all(chain) {
         return Ok(());
     }
-    cover_all(
-        alloc, opened, name, parts, game, variations, names, live, sets, steps,
-    )?;
+    cover_all(alloc, trial, parts, sets, steps)?;
     Ok(())
 }
 
@@ -207,29 +167,22 @@ fn cover_chain<L: Ledger>(
 #[cycle(evaluate)]
 fn cover_all<L: Ledger>(
     alloc: Global,
-    opened: &Names,
-    name: &[u8],
+    trial: &Trial,
     parts: &Filters,
-    game: &Game,
-    variations: bool,
-    names: &Names,
-    live: &[bool],
     sets: &mut [u64],
     steps: &mut Steps<L>,
 ) -> Result<(), NoMemory>
-    requires tree { IsTree game.now.nodes }
-    requires asked { AreAsked (searched_tree game.now variations) live.now }
-    requires count { length sets.old ≡ length live.now }
+    requires tree { IsTree trial.now.scope.now.game.now.nodes }
+    requires asked { AreAsked (tree_in trial.now.scope.now) trial.now.live.now }
+    requires count { length sets.old ≡ length trial.now.live.now }
     requires flat { AreFlat (filters_tree parts.now) }
-    ensures cut { OnOk result (AreCut live.now (MayHold opened.now names.now name.now
-        (λ e n. spec.all_hold (meaning.values (searched_tree game.now variations) [] e (filters_tree parts.now) n))) sets.old sets.new) }
+    ensures cut { OnOk result (LeavesHolding trial.now
+        (λ e n. spec.all_hold (values_with trial.now.scope.now (filters_tree parts.now) e n)) sets.old sets.new) }
     ensures len { length sets.new ≡ length sets.old }
     ensures cost { steps.new ≡ steps.old }
 {
     for class in 0..SORTS {
-        cover_class(
-            alloc, opened, name, class, parts, game, variations, names, live, sets, steps,
-        )?;
+        cover_class(alloc, trial, class, parts, sets, steps)?;
     }
     Ok(())
 }
@@ -238,30 +191,23 @@ fn cover_all<L: Ledger>(
 #[cycle(evaluate)]
 fn cover_class<L: Ledger>(
     alloc: Global,
-    opened: &Names,
-    name: &[u8],
+    trial: &Trial,
     class: u32,
     parts: &Filters,
-    game: &Game,
-    variations: bool,
-    names: &Names,
-    live: &[bool],
     sets: &mut [u64],
     steps: &mut Steps<L>,
 ) -> Result<(), NoMemory>
-    requires tree { IsTree game.now.nodes }
-    requires asked { AreAsked (searched_tree game.now variations) live.now }
-    requires count { length sets.old ≡ length live.now }
+    requires tree { IsTree trial.now.scope.now.game.now.nodes }
+    requires asked { AreAsked (tree_in trial.now.scope.now) trial.now.live.now }
+    requires count { length sets.old ≡ length trial.now.live.now }
     requires flat { AreFlat (filters_tree parts.now) }
-    ensures cut { OnOk result (AreCut live.now (MayHold opened.now names.now name.now
-        (λ e n. spec.all_hold (meaning.values (searched_tree game.now variations) [] e (filters_tree parts.now) n))) sets.old sets.new) }
+    ensures cut { OnOk result (LeavesHolding trial.now
+        (λ e n. spec.all_hold (values_with trial.now.scope.now (filters_tree parts.now) e n)) sets.old sets.new) }
     ensures len { length sets.new ≡ length sets.old }
     ensures cost { steps.new ≡ steps.old }
 {
     for part in parts.as_slice() {
-        cover_if(
-            alloc, opened, name, class, part, game, variations, names, live, sets, steps,
-        )?;
+        cover_if(alloc, trial, class, part, sets, steps)?;
     }
     Ok(())
 }
@@ -270,70 +216,60 @@ fn cover_class<L: Ledger>(
 #[cycle(evaluate)]
 fn cover_if<L: Ledger>(
     alloc: Global,
-    opened: &Names,
-    name: &[u8],
+    trial: &Trial,
     class: u32,
     part: &Filter,
-    game: &Game,
-    variations: bool,
-    names: &Names,
-    live: &[bool],
     sets: &mut [u64],
     steps: &mut Steps<L>,
 ) -> Result<(), NoMemory>
-    requires tree { IsTree game.now.nodes }
-    requires asked { AreAsked (searched_tree game.now variations) live.now }
-    requires count { length sets.old ≡ length live.now }
+    requires tree { IsTree trial.now.scope.now.game.now.nodes }
+    requires asked { AreAsked (tree_in trial.now.scope.now) trial.now.live.now }
+    requires count { length sets.old ≡ length trial.now.live.now }
     requires flat { IsFlat (filter_tree part.now) }
-    ensures cut { OnOk result (AreCut live.now (MayHold opened.now names.now name.now
-        (λ e. meaning.value (searched_tree game.now variations) [] e (filter_tree part.now))) sets.old sets.new) }
+    ensures cut { OnOk result (LeavesHolding trial.now
+        (value_with trial.now.scope.now (filter_tree part.now)) sets.old sets.new) }
     ensures len { length sets.new ≡ length sets.old }
     ensures cost { steps.new ≡ steps.old }
 {
     if !is_of_class(part, class) {
         return Ok(());
     }
-    cover(
-        alloc, opened, name, part, game, variations, names, live, sets, steps,
-    )
+    cover(alloc, trial, part, sets, steps)
 }
 
 // Of what a word asks at other nodes: what may hold at one of these.
 #[cycle(evaluate)]
 fn cover_elsewhere<L: Ledger>(
     alloc: Global,
-    opened: &Names,
-    name: &[u8],
+    trial: &Trial,
     word: Unary,
     part: &Filter,
-    game: &Game,
-    variations: bool,
-    names: &Names,
-    live: &[bool],
     sets: &mut [u64],
     steps: &mut Steps<L>,
 ) -> Result<(), NoMemory>
-    requires tree { IsTree game.now.nodes }
-    requires asked { AreAsked (searched_tree game.now variations) live.now }
-    requires count { length sets.old ≡ length live.now }
+    requires tree { IsTree trial.now.scope.now.game.now.nodes }
+    requires asked { AreAsked (tree_in trial.now.scope.now) trial.now.live.now }
+    requires count { length sets.old ≡ length trial.now.live.now }
     requires flat { IsFlat (filter_tree part.now) }
-    ensures cut { OnOk result (AreCut live.now (MayHold opened.now names.now name.now
-        (λ e. meaning.unary_of (searched_tree game.now variations) word
-        (meaning.value (searched_tree game.now variations) [] e (filter_tree part.now)))) sets.old sets.new) }
+    ensures cut { OnOk result (LeavesHolding trial.now
+        (λ e. meaning.unary_of (tree_in trial.now.scope.now) word
+        (value_with trial.now.scope.now (filter_tree part.now) e)) sets.old sets.new) }
     ensures len { length sets.new ≡ length sets.old }
     ensures cost { steps.new ≡ steps.old }
 {
     if !looks_elsewhere(word) {
         return Ok(());
     }
-    let wide = looked_at(alloc, word, game, variations, live)?;
+    let wide = looked_at(alloc, word, trial.scope, trial.live)?;
     let wide = wide.as_slice();
-    let mut there = everywhere(alloc, wide, any_squares(live, sets))?;
-    cover(
-        alloc, opened, name, part, game, variations, names, wide, &mut there, steps,
-    )?;
-    let back = brought_back(alloc, word, game, there)?;
-    cut(sets, live, &FilterColumn::Sets(back));
+    let mut there = everywhere(alloc, wide, any_squares(trial.live, sets))?;
+    let elsewhere = Trial {
+        live: wide,
+        ..*trial
+    };
+    cover(alloc, &elsewhere, part, &mut there, steps)?;
+    let back = brought_back(alloc, word, trial.scope.game, there)?;
+    cut(sets, trial.live, &FilterColumn::Sets(back));
     Ok(())
 }
 
@@ -342,44 +278,31 @@ fn cover_elsewhere<L: Ledger>(
 #[tactic(auto, unfolding(cql_syntax::specs::Meaning::value, crate::specs::FlatTrees::unflat))]
 fn cover_set<L: Ledger>(
     alloc: Global,
-    opened: &Names,
-    name: &[u8],
+    trial: &Trial,
     asked: &Filter,
-    game: &Game,
-    variations: bool,
-    names: &Names,
-    live: &[bool],
     sets: &mut [u64],
     steps: &mut Steps<L>,
 ) -> Result<(), NoMemory>
-    requires tree { IsTree game.now.nodes }
-    requires asked { AreAsked (searched_tree game.now variations) live.now }
-    requires count { length sets.old ≡ length live.now }
+    requires tree { IsTree trial.now.scope.now.game.now.nodes }
+    requires asked { AreAsked (tree_in trial.now.scope.now) trial.now.live.now }
+    requires count { length sets.old ≡ length trial.now.live.now }
     requires flat { IsFlat (filter_tree asked.now) }
-    ensures cut { OnOk result (AreCut live.now (MayHave opened.now names.now name.now
-        (λ e. meaning.value (searched_tree game.now variations) [] e (filter_tree asked.now))) sets.old sets.new) }
+    ensures cut { OnOk result (LeavesHaving trial.now
+        (value_with trial.now.scope.now (filter_tree asked.now)) sets.old sets.new) }
     ensures len { length sets.new ≡ length sets.old }
     ensures cost { steps.new ≡ steps.old }
 {
-    if is_free(opened, asked) {
-        return cover_free_set(
-            alloc, opened, name, asked, game, variations, names, live, sets, steps,
-        );
+    if is_free(trial.opened, asked) {
+        return cover_free_set(alloc, trial, asked, sets, steps);
     }
     match &asked.form {
-        Form::Chain(chain, parts) => cover_common(
-            alloc, opened, name, *chain, parts, game, variations, names, live, sets, steps,
-        ),
+        Form::Chain(chain, parts) => cover_common(alloc, trial, *chain, parts, sets, steps),
         Form::Pair(pair, first, second) => {
             if !is_attack(*pair) {
                 return Ok(());
             }
-            cover_set(
-                alloc, opened, name, first, game, variations, names, live, sets, steps,
-            )?;
-            cover_related(
-                alloc, opened, name, *pair, second, game, variations, names, live, sets, steps,
-            )?;
+            cover_set(alloc, trial, first, sets, steps)?;
+            cover_related(alloc, trial, *pair, second, sets, steps)?;
             Ok(())
         }
         _ => Ok(()),
@@ -390,28 +313,23 @@ fn cover_set<L: Ledger>(
 #[cycle(evaluate)]
 fn cover_free_set<L: Ledger>(
     alloc: Global,
-    opened: &Names,
-    name: &[u8],
+    trial: &Trial,
     asked: &Filter,
-    game: &Game,
-    variations: bool,
-    names: &Names,
-    live: &[bool],
     sets: &mut [u64],
     steps: &mut Steps<L>,
 ) -> Result<(), NoMemory>
-    requires tree { IsTree game.now.nodes }
-    requires asked { AreAsked (searched_tree game.now variations) live.now }
-    requires count { length sets.old ≡ length live.now }
+    requires tree { IsTree trial.now.scope.now.game.now.nodes }
+    requires asked { AreAsked (tree_in trial.now.scope.now) trial.now.live.now }
+    requires count { length sets.old ≡ length trial.now.live.now }
     requires flat { IsFlat (filter_tree asked.now) }
-    requires free { IsFree opened.now (filter_tree asked.now) }
-    ensures cut { OnOk result (AreCut live.now (MayHave opened.now names.now name.now
-        (λ e. meaning.value (searched_tree game.now variations) [] e (filter_tree asked.now))) sets.old sets.new) }
+    requires free { IsFree trial.now.opened.now (filter_tree asked.now) }
+    ensures cut { OnOk result (LeavesHaving trial.now
+        (value_with trial.now.scope.now (filter_tree asked.now)) sets.old sets.new) }
     ensures len { length sets.new ≡ length sets.old }
     ensures cost { steps.new ≡ steps.old }
 {
-    let some = with_squares(alloc, game, variations, live, sets)?;
-    let column = evaluate(alloc, asked, game, variations, names, &some, steps)?;
+    let some = with_squares(alloc, trial.scope, trial.live, sets)?;
+    let column = evaluate(alloc, asked, trial.scope, &some, steps)?;
     cut(sets, &some, &column);
     Ok(())
 }
@@ -420,32 +338,25 @@ fn cover_free_set<L: Ledger>(
 #[cycle(evaluate)]
 fn cover_common<L: Ledger>(
     alloc: Global,
-    opened: &Names,
-    name: &[u8],
+    trial: &Trial,
     chain: Chain,
     parts: &Filters,
-    game: &Game,
-    variations: bool,
-    names: &Names,
-    live: &[bool],
     sets: &mut [u64],
     steps: &mut Steps<L>,
 ) -> Result<(), NoMemory>
-    requires tree { IsTree game.now.nodes }
-    requires asked { AreAsked (searched_tree game.now variations) live.now }
-    requires count { length sets.old ≡ length live.now }
+    requires tree { IsTree trial.now.scope.now.game.now.nodes }
+    requires asked { AreAsked (tree_in trial.now.scope.now) trial.now.live.now }
+    requires count { length sets.old ≡ length trial.now.live.now }
     requires flat { AreFlat (filters_tree parts.now) }
-    ensures cut { OnOk result (AreCut live.now (MayHave opened.now names.now name.now
-        (λ e n. spec.chain_of chain (meaning.values (searched_tree game.now variations) [] e (filters_tree parts.now) n))) sets.old sets.new) }
+    ensures cut { OnOk result (LeavesHaving trial.now
+        (λ e n. spec.chain_of chain (values_with trial.now.scope.now (filters_tree parts.now) e n)) sets.old sets.new) }
     ensures len { length sets.new ≡ length sets.old }
     ensures cost { steps.new ≡ steps.old }
 {
     if !is_intersection(chain) {
         return Ok(());
     }
-    cover_each(
-        alloc, opened, name, parts, game, variations, names, live, sets, steps,
-    )?;
+    cover_each(alloc, trial, parts, sets, steps)?;
     Ok(())
 }
 
@@ -453,29 +364,22 @@ fn cover_common<L: Ledger>(
 #[cycle(evaluate)]
 fn cover_each<L: Ledger>(
     alloc: Global,
-    opened: &Names,
-    name: &[u8],
+    trial: &Trial,
     parts: &Filters,
-    game: &Game,
-    variations: bool,
-    names: &Names,
-    live: &[bool],
     sets: &mut [u64],
     steps: &mut Steps<L>,
 ) -> Result<(), NoMemory>
-    requires tree { IsTree game.now.nodes }
-    requires asked { AreAsked (searched_tree game.now variations) live.now }
-    requires count { length sets.old ≡ length live.now }
+    requires tree { IsTree trial.now.scope.now.game.now.nodes }
+    requires asked { AreAsked (tree_in trial.now.scope.now) trial.now.live.now }
+    requires count { length sets.old ≡ length trial.now.live.now }
     requires flat { AreFlat (filters_tree parts.now) }
-    ensures cut { OnOk result (AreCut live.now (MayHave opened.now names.now name.now
-        (λ e n. spec.intersection_of (meaning.values (searched_tree game.now variations) [] e (filters_tree parts.now) n))) sets.old sets.new) }
+    ensures cut { OnOk result (LeavesHaving trial.now
+        (λ e n. spec.intersection_of (values_with trial.now.scope.now (filters_tree parts.now) e n)) sets.old sets.new) }
     ensures len { length sets.new ≡ length sets.old }
     ensures cost { steps.new ≡ steps.old }
 {
     for part in parts.as_slice() {
-        cover_set(
-            alloc, opened, name, part, game, variations, names, live, sets, steps,
-        )?;
+        cover_set(alloc, trial, part, sets, steps)?;
     }
     Ok(())
 }
@@ -484,33 +388,28 @@ fn cover_each<L: Ledger>(
 #[cycle(evaluate)]
 fn cover_related<L: Ledger>(
     alloc: Global,
-    opened: &Names,
-    name: &[u8],
+    trial: &Trial,
     pair: Pair,
     second: &Filter,
-    game: &Game,
-    variations: bool,
-    names: &Names,
-    live: &[bool],
     sets: &mut [u64],
     steps: &mut Steps<L>,
 ) -> Result<(), NoMemory>
-    requires tree { IsTree game.now.nodes }
-    requires asked { AreAsked (searched_tree game.now variations) live.now }
-    requires count { length sets.old ≡ length live.now }
+    requires tree { IsTree trial.now.scope.now.game.now.nodes }
+    requires asked { AreAsked (tree_in trial.now.scope.now) trial.now.live.now }
+    requires count { length sets.old ≡ length trial.now.live.now }
     requires flat { IsFlat (filter_tree second.now) }
     requires attack { (pair ≡ Attacks) ⊎ (pair ≡ AttackedBy) }
-    ensures cut { OnOk result ((v : meaning.Names → ℕ → spec.Value) → AreCut live.now (MayHave opened.now names.now name.now
-        (λ e n. spec.pair_of (node_at game.now.nodes n).position.men pair (v e n)
-        (meaning.value (searched_tree game.now variations) [] e (filter_tree second.now) n))) sets.old sets.new) }
+    ensures cut { OnOk result ((v : meaning.Names → ℕ → spec.Value) → LeavesHaving trial.now
+        (λ e n. spec.pair_of (node_at trial.now.scope.now.game.now.nodes n).position.men pair (v e n)
+        (value_with trial.now.scope.now (filter_tree second.now) e n)) sets.old sets.new) }
     ensures len { length sets.new ≡ length sets.old }
     ensures cost { steps.new ≡ steps.old }
 {
-    if !is_free(opened, second) {
+    if !is_free(trial.opened, second) {
         return Ok(());
     }
-    let some = with_squares(alloc, game, variations, live, sets)?;
-    let column = evaluate(alloc, second, game, variations, names, &some, steps)?;
-    cut_related(sets, &some, game, variations, pair, &column);
+    let some = with_squares(alloc, trial.scope, trial.live, sets)?;
+    let column = evaluate(alloc, second, trial.scope, &some, steps)?;
+    cut_related(sets, &some, trial.scope, pair, &column);
     Ok(())
 }

@@ -4,7 +4,6 @@ ghost use Rattle.cq_position.specs.Games.{IsTree};
 ghost use Rattle.cql_syntax.specs.Meaning as meaning;
 ghost use Rattle.cql_syntax.specs.TreeOf.{body_tree, filter_tree, line_tree, parts_tree};
 ghost use Rattle.cql_syntax.specs.Values.{as_number};
-ghost use Rattle.cql_values.specs.Trees.{searched_tree};
 ghost use Rattle.cql_eval.specs.Columns.{AreAsked, Where};
 ghost use Rattle.cql_eval.specs.Costs.{filter_cost, line_cost, parts_cost, body_cost, parts_atoms, body_atoms, searched_len};
 ghost use Rattle.cql_eval.specs.FlatTrees.{IsFlat, IsFlatLine, AreFlatParts, IsFlatBody};
@@ -12,6 +11,7 @@ ghost use Rattle.cql_lines.specs.Tables.{atoms_of, nodes_of};
 ghost use Rattle.cq_outside.specs.Spelling.{one};
 ghost use Rattle.cql_eval.specs.LineAtoms as spec;
 ghost use Rattle.cql_eval.specs.LineAtoms.{HasRoom, IsFilledIn};
+ghost use Rattle.cql_eval.specs.Scopes.{tree_in, value_in, parts_in, body_in};
 ghost use Rattle.cql_eval.specs.SpelledParts as spelled;
 ghost use Rattle.cql_eval.specs.SpelledParts.{AreTabled, IsLive, IsNever, LeadsOn, EndsHere};
 ghost use Rattle.cql_syntax.specs.TabledLines.{IsAsked};
@@ -20,14 +20,29 @@ ghost use Rattle.cq_position.specs.Search.{IsStep};
 use super::evaluate;
 use crate::nodes::{all_nodes, any_live, part_of, same};
 use crate::patterns::{empty_table, parts_pattern, put_nodes, shape_of, wide_numbers};
+use crate::scope::Scope;
 use crate::tree::{onward, reached};
 use cq_outside::{NoMemory, Steps};
 use cql_lines::{AtomTable, Automaton, line_values};
 use cql_syntax::{Body, Constituent, Constituents, Filter, Line, Mark};
-use cql_values::names::Names;
-use pgn_tree::Game;
 use std::alloc::Global;
 use std::sync::ledger::Ledger;
+
+/// Where a line is asked, and which way it goes.
+#[derive(Clone, Copy)]
+struct Way<'a> {
+    scope: &'a Scope<'a>,
+    /// From each node up.
+    back: bool,
+}
+
+/// Parts in a row, as far as their atoms are asked.
+#[derive(Drop)]
+struct Row<L: Ledger> {
+    table: AtomTable<L>,
+    /// Whether each atom that must stand holds somewhere.
+    met: bool,
+}
 
 /// The greatest length of a path from each node that a line's pattern spells. Its atoms are asked for where they may begin on a path, one
 /// after the other, and the automaton of its pattern then answers all nodes at once.
@@ -35,26 +50,26 @@ use std::sync::ledger::Ledger;
 pub(super) fn line_numbers<L: Ledger>(
     alloc: Global,
     line: &Line,
-    game: &Game,
-    variations: bool,
-    names: &Names,
+    scope: &Scope,
     live: &[bool],
     steps: &mut Steps<L>,
 ) -> Result<Vec<Option<i64>>, NoMemory>
-    requires tree { IsTree game.now.nodes }
-    requires asked { AreAsked (searched_tree game.now variations) live.now }
+    requires tree { IsTree scope.now.game.now.nodes }
+    requires asked { AreAsked (tree_in scope.now) live.now }
     requires flat { IsFlatLine (line_tree line.now) }
     ensures value { IfOk result (λ numbers. Where live.now (λ n. as_number (get_or numbers.items n None)
-        ≡ meaning.line_value (searched_tree game.now variations) [] names.now (line_tree line.now) n)) }
-    ensures cost { steps.new ≤ steps.old + line_cost (searched_len (searched_tree game.now variations)) (line_tree line.now) }
+        ≡ meaning.line_value (tree_in scope.now) [] scope.now.names.now (line_tree line.now) n)) }
+    ensures cost { steps.new ≤ steps.old + line_cost (searched_len (tree_in scope.now)) (line_tree line.now) }
     ensures rises { steps.old ≤ steps.new }
 {
     prove!(has_flat_parts(line));
     let parts = &line.parts;
-    let mut met = true;
-    let table = filled_table(
-        alloc, parts, game, variations, line.back, names, &mut met, steps,
-    )?;
+    let way = Way {
+        scope: &*scope,
+        back: line.back,
+    };
+    let row = filled_row(alloc, parts, &way, steps)?;
+    let met = row.met;
     if !met {
         // A column that ends before a node has no number there.
         return Ok(Vec::new(alloc));
@@ -62,15 +77,8 @@ pub(super) fn line_numbers<L: Ledger>(
     let mut atoms = 0;
     let pattern = parts_pattern(alloc, parts, &mut atoms)?;
     let automaton = Automaton::build(alloc, &pattern)?;
-    let shape = shape_of(
-        alloc,
-        game,
-        variations,
-        line.back,
-        line.primary,
-        &line.extent,
-    )?;
-    let values = line_values(alloc, &automaton, &table, &shape, steps)?;
+    let shape = shape_of(alloc, scope, line.back, line.primary, &line.extent)?;
+    let values = line_values(alloc, &automaton, &row.table, &shape, steps)?;
     let numbers = wide_numbers(alloc, values.as_slice())?;
     Ok(numbers)
 }
@@ -86,89 +94,68 @@ fn has_flat_parts(line: &Line) -> bool
     true
 }
 
-// The table of the atoms of parts in a row that may begin at all searched nodes. Where the row isn't met at the end, no path is spelled.
+// Parts in a row that may begin at all searched nodes. Where the row isn't met at the end, no path is spelled.
 #[cycle(evaluate)]
 #[tactic(auto, using(crate::proofs::SpelledAlike::all_tabled, crate::proofs::SpelledAlike::all_never))]
-fn filled_table<L: Ledger>(
+fn filled_row<L: Ledger>(
     alloc: Global,
     parts: &Constituents,
-    game: &Game,
-    variations: bool,
-    back: bool,
-    names: &Names,
-    met: &mut bool,
+    way: &Way,
     steps: &mut Steps<L>,
-) -> Result<AtomTable<L>, NoMemory>
-    requires tree { IsTree game.now.nodes }
+) -> Result<Row<L>, NoMemory>
+    requires tree { IsTree way.now.scope.now.game.now.nodes }
     requires flat { AreFlatParts (parts_tree parts.now) }
     requires few { parts_atoms (parts_tree parts.now) ≤ 64 }
-    ensures value { IfOk result (λ table. AreTabled (searched_tree game.now variations) back (IsAsked (searched_tree game.now variations))
-        table (0 + parts_atoms (parts_tree parts.now)) (spec.parts_numbered 0 (parts_tree parts.now))
-        (meaning.pattern (searched_tree game.now variations) [] names.now (parts_tree parts.now))) }
-    ensures never { OnOk result (met.old ≡ true → met.new ≡ false
-        → IsNever (IsStep (searched_tree game.now variations) back false) (IsAsked (searched_tree game.now variations))
-        (meaning.pattern (searched_tree game.now variations) [] names.now (parts_tree parts.now))) }
-    ensures atoms { IfOk result (λ table. atoms_of table ≡ parts_atoms (parts_tree parts.now)) }
-    ensures nodes { IfOk result (λ table. nodes_of table ≡ length game.now.nodes) }
-    ensures cost { steps.new ≤ steps.old + parts_cost (searched_len (searched_tree game.now variations)) (parts_tree parts.now) }
+    ensures value { IfOk result (λ row. AreTabled (tree_in way.now.scope.now) way.now.back (IsAsked (tree_in way.now.scope.now))
+        row.table (0 + parts_atoms (parts_tree parts.now)) (spec.parts_numbered 0 (parts_tree parts.now))
+        (parts_in way.now.scope.now (parts_tree parts.now))) }
+    ensures never { IfOk result (λ row. row.met ≡ false
+        → IsNever (IsStep (tree_in way.now.scope.now) way.now.back false) (IsAsked (tree_in way.now.scope.now))
+        (parts_in way.now.scope.now (parts_tree parts.now))) }
+    ensures atoms { IfOk result (λ row. atoms_of row.table ≡ parts_atoms (parts_tree parts.now)) }
+    ensures nodes { IfOk result (λ row. nodes_of row.table ≡ length way.now.scope.now.game.now.nodes) }
+    ensures cost { steps.new ≤ steps.old + parts_cost (searched_len (tree_in way.now.scope.now)) (parts_tree parts.now) }
     ensures rises { steps.old ≤ steps.new }
 {
-    let all = all_nodes(alloc, game, variations)?;
-    let mut table = empty_table(alloc, parts, game)?;
-    put_parts(
-        alloc, parts, 0, &mut table, game, variations, back, names, &all, met, steps,
-    )?;
-    Ok(table)
+    let all = all_nodes(alloc, way.scope)?;
+    let table = empty_table(alloc, parts, way.scope.game)?;
+    let mut row = Row { table, met: true };
+    put_row(alloc, parts, 0, way, &all, &mut row, steps)?;
+    Ok(row)
 }
 
-// Puts the atoms of parts in a row that begins at the nodes of a set into a table, with the numbers from the first on, and answers the
+// Puts the atoms of parts in a row that begins at the nodes of a set into the table, with the numbers from the first on, and answers the
 // number after them. Where an atom of the row itself holds nowhere, the row isn't met.
 #[cycle(evaluate)]
 #[tactic(auto, unfolding(crate::specs::Costs::filter_cost))]
-fn put_parts<L: Ledger>(
+fn put_row<L: Ledger>(
     alloc: Global,
     parts: &Constituents,
     first: u32,
-    table: &mut AtomTable<L>,
-    game: &Game,
-    variations: bool,
-    back: bool,
-    names: &Names,
+    way: &Way,
     live: &[bool],
-    met: &mut bool,
+    row: &mut Row<L>,
     steps: &mut Steps<L>,
 ) -> Result<u32, NoMemory>
-    requires tree { IsTree game.now.nodes }
-    requires asked { AreAsked (searched_tree game.now variations) live.now }
+    requires tree { IsTree way.now.scope.now.game.now.nodes }
+    requires asked { AreAsked (tree_in way.now.scope.now) live.now }
     requires flat { AreFlatParts (parts_tree parts.now) }
-    requires room { HasRoom (length game.now.nodes) first (first + parts_atoms (parts_tree parts.now)) table.old }
+    requires room { HasRoom (length way.now.scope.now.game.now.nodes) first (first + parts_atoms (parts_tree parts.now)) row.old.table }
     ensures next { IfOk result (λ next. next ≡ first + parts_atoms (parts_tree parts.now)) }
-    ensures value { OnOk result (AreTabled (searched_tree game.now variations) back (IsLive live.now)
-        table.new (first + parts_atoms (parts_tree parts.now)) (spec.parts_numbered first (parts_tree parts.now))
-        (meaning.pattern (searched_tree game.now variations) [] names.now (parts_tree parts.now))) }
-    ensures never { OnOk result (met.old ≡ true → met.new ≡ false
-        → IsNever (IsStep (searched_tree game.now variations) back false) (IsLive live.now)
-        (meaning.pattern (searched_tree game.now variations) [] names.now (parts_tree parts.now))) }
-    ensures others { OnOk result (IsFilledIn table.old table.new first (first + parts_atoms (parts_tree parts.now))) }
-    ensures cost { steps.new ≤ steps.old + parts_cost (searched_len (searched_tree game.now variations)) (parts_tree parts.now) }
+    ensures value { OnOk result (AreTabled (tree_in way.now.scope.now) way.now.back (IsLive live.now)
+        row.new.table (first + parts_atoms (parts_tree parts.now)) (spec.parts_numbered first (parts_tree parts.now))
+        (parts_in way.now.scope.now (parts_tree parts.now))) }
+    ensures never { OnOk result (row.old.met ≡ true → row.new.met ≡ false
+        → IsNever (IsStep (tree_in way.now.scope.now) way.now.back false) (IsLive live.now)
+        (parts_in way.now.scope.now (parts_tree parts.now))) }
+    ensures others { OnOk result (IsFilledIn row.old.table row.new.table first (first + parts_atoms (parts_tree parts.now))) }
+    ensures cost { steps.new ≤ steps.old + parts_cost (searched_len (tree_in way.now.scope.now)) (parts_tree parts.now) }
     ensures rises { steps.old ≤ steps.new }
 {
     let mut at = first;
     let mut starts = same(alloc, live)?;
     for part in parts.as_slice() {
-        at = put_part(
-            alloc,
-            part,
-            at,
-            table,
-            game,
-            variations,
-            back,
-            names,
-            &mut starts,
-            met,
-            steps,
-        )?;
+        at = put_part(alloc, part, at, way, &mut starts, row, steps)?;
     }
     Ok(at)
 }
@@ -179,37 +166,30 @@ fn put_part<L: Ledger>(
     alloc: Global,
     part: &Constituent,
     first: u32,
-    table: &mut AtomTable<L>,
-    game: &Game,
-    variations: bool,
-    back: bool,
-    names: &Names,
+    way: &Way,
     starts: &mut Vec<bool>,
-    met: &mut bool,
+    row: &mut Row<L>,
     steps: &mut Steps<L>,
 ) -> Result<u32, NoMemory>
-    requires tree { IsTree game.now.nodes }
-    requires asked { AreAsked (searched_tree game.now variations) starts.old.items }
+    requires tree { IsTree way.now.scope.now.game.now.nodes }
+    requires asked { AreAsked (tree_in way.now.scope.now) starts.old.items }
     requires flat { IsFlatBody (body_tree part.now.body) }
-    requires room { HasRoom (length game.now.nodes) first (first + body_atoms (body_tree part.now.body)) table.old }
+    requires room { HasRoom (length way.now.scope.now.game.now.nodes) first (first + body_atoms (body_tree part.now.body)) row.old.table }
     ensures next { IfOk result (λ next. next ≡ first + body_atoms (body_tree part.now.body)) }
-    ensures leads { OnOk result (LeadsOn (searched_tree game.now variations) back starts.old.items starts.new.items
-        table.new (first + body_atoms (body_tree part.now.body))
+    ensures leads { OnOk result (LeadsOn (tree_in way.now.scope.now) way.now.back starts.old.items starts.new.items
+        row.new.table (first + body_atoms (body_tree part.now.body))
         (meaning.marked part.now.mark (spec.body_numbered first (body_tree part.now.body)))
-        (meaning.marked part.now.mark (meaning.body_pattern (searched_tree game.now variations) [] names.now (body_tree part.now.body)))) }
-    ensures ends { OnOk result (met.old ≡ true → met.new ≡ false → EndsHere (searched_tree game.now variations) back starts.old.items
-        (meaning.marked part.now.mark (meaning.body_pattern (searched_tree game.now variations) [] names.now (body_tree part.now.body)))) }
-    ensures others { OnOk result (IsFilledIn table.old table.new first (first + body_atoms (body_tree part.now.body))) }
-    ensures cost { steps.new ≤ steps.old + body_cost (searched_len (searched_tree game.now variations)) (body_tree part.now.body) }
+        (meaning.marked part.now.mark (body_in way.now.scope.now (body_tree part.now.body)))) }
+    ensures ends { OnOk result (row.old.met ≡ true → row.new.met ≡ false
+        → EndsHere (tree_in way.now.scope.now) way.now.back starts.old.items
+        (meaning.marked part.now.mark (body_in way.now.scope.now (body_tree part.now.body)))) }
+    ensures others { OnOk result (IsFilledIn row.old.table row.new.table first (first + body_atoms (body_tree part.now.body))) }
+    ensures cost { steps.new ≤ steps.old + body_cost (searched_len (tree_in way.now.scope.now)) (body_tree part.now.body) }
     ensures rises { steps.old ≤ steps.new }
 {
     match part.mark {
-        Mark::Once => put_once(
-            alloc, &part.body, first, table, game, variations, back, names, starts, met, steps,
-        ),
-        _ => put_marked(
-            alloc, part, first, table, game, variations, back, names, starts, met, steps,
-        ),
+        Mark::Once => put_once(alloc, &part.body, first, way, starts, row, steps),
+        _ => put_marked(alloc, part, first, way, starts, row, steps),
     }
 }
 
@@ -219,38 +199,34 @@ fn put_marked<L: Ledger>(
     alloc: Global,
     part: &Constituent,
     first: u32,
-    table: &mut AtomTable<L>,
-    game: &Game,
-    variations: bool,
-    back: bool,
-    names: &Names,
+    way: &Way,
     starts: &mut Vec<bool>,
-    met: &mut bool,
+    row: &mut Row<L>,
     steps: &mut Steps<L>,
 ) -> Result<u32, NoMemory>
-    requires tree { IsTree game.now.nodes }
-    requires asked { AreAsked (searched_tree game.now variations) starts.old.items }
+    requires tree { IsTree way.now.scope.now.game.now.nodes }
+    requires asked { AreAsked (tree_in way.now.scope.now) starts.old.items }
     requires flat { IsFlatBody (body_tree part.now.body) }
-    requires room { HasRoom (length game.now.nodes) first (first + body_atoms (body_tree part.now.body)) table.old }
+    requires room { HasRoom (length way.now.scope.now.game.now.nodes) first (first + body_atoms (body_tree part.now.body)) row.old.table }
     ensures next { IfOk result (λ next. next ≡ first + body_atoms (body_tree part.now.body)) }
-    ensures leads { OnOk result (LeadsOn (searched_tree game.now variations) back starts.old.items starts.new.items
-        table.new (first + body_atoms (body_tree part.now.body))
+    ensures leads { OnOk result (LeadsOn (tree_in way.now.scope.now) way.now.back starts.old.items starts.new.items
+        row.new.table (first + body_atoms (body_tree part.now.body))
         (meaning.marked part.now.mark (spec.body_numbered first (body_tree part.now.body)))
-        (meaning.marked part.now.mark (meaning.body_pattern (searched_tree game.now variations) [] names.now (body_tree part.now.body)))) }
-    ensures ends { OnOk result (met.old ≡ true → met.new ≡ false → EndsHere (searched_tree game.now variations) back starts.old.items
-        (meaning.marked part.now.mark (meaning.body_pattern (searched_tree game.now variations) [] names.now (body_tree part.now.body)))) }
-    ensures others { OnOk result (IsFilledIn table.old table.new first (first + body_atoms (body_tree part.now.body))) }
-    ensures cost { steps.new ≤ steps.old + body_cost (searched_len (searched_tree game.now variations)) (body_tree part.now.body) }
+        (meaning.marked part.now.mark (body_in way.now.scope.now (body_tree part.now.body)))) }
+    ensures ends { OnOk result (row.old.met ≡ true → row.new.met ≡ false
+        → EndsHere (tree_in way.now.scope.now) way.now.back starts.old.items
+        (meaning.marked part.now.mark (body_in way.now.scope.now (body_tree part.now.body)))) }
+    ensures others { OnOk result (IsFilledIn row.old.table row.new.table first (first + body_atoms (body_tree part.now.body))) }
+    ensures cost { steps.new ≤ steps.old + body_cost (searched_len (tree_in way.now.scope.now)) (body_tree part.now.body) }
     ensures rises { steps.old ≤ steps.new }
 {
-    let wide = reached(alloc, game, variations, back, starts)?;
-    let mut inner = true;
-    let next = put_body(
-        alloc, &part.body, first, table, game, variations, back, names, &wide, &mut inner, steps,
-    )?;
+    let wide = reached(alloc, way.scope, way.back, starts)?;
+    let met = row.met;
+    row.met = true;
+    let next = put_wherever(alloc, &part.body, first, way, &wide, row, steps)?;
     let needed = is_needed(part.mark);
     *starts = wide;
-    *met = goes_on(*met, inner, needed);
+    row.met = goes_on(met, row.met, needed);
     Ok(next)
 }
 
@@ -286,42 +262,34 @@ fn put_once<L: Ledger>(
     alloc: Global,
     body: &Body,
     first: u32,
-    table: &mut AtomTable<L>,
-    game: &Game,
-    variations: bool,
-    back: bool,
-    names: &Names,
+    way: &Way,
     starts: &mut Vec<bool>,
-    met: &mut bool,
+    row: &mut Row<L>,
     steps: &mut Steps<L>,
 ) -> Result<u32, NoMemory>
-    requires tree { IsTree game.now.nodes }
-    requires asked { AreAsked (searched_tree game.now variations) starts.old.items }
+    requires tree { IsTree way.now.scope.now.game.now.nodes }
+    requires asked { AreAsked (tree_in way.now.scope.now) starts.old.items }
     requires flat { IsFlatBody (body_tree body.now) }
-    requires room { HasRoom (length game.now.nodes) first (first + body_atoms (body_tree body.now)) table.old }
+    requires room { HasRoom (length way.now.scope.now.game.now.nodes) first (first + body_atoms (body_tree body.now)) row.old.table }
     ensures next { IfOk result (λ next. next ≡ first + body_atoms (body_tree body.now)) }
-    ensures leads { OnOk result (LeadsOn (searched_tree game.now variations) back starts.old.items starts.new.items
-        table.new (first + body_atoms (body_tree body.now)) (spec.body_numbered first (body_tree body.now))
-        (meaning.body_pattern (searched_tree game.now variations) [] names.now (body_tree body.now))) }
-    ensures ends { OnOk result (met.old ≡ true → met.new ≡ false → EndsHere (searched_tree game.now variations) back starts.old.items
-        (meaning.body_pattern (searched_tree game.now variations) [] names.now (body_tree body.now))) }
-    ensures others { OnOk result (IsFilledIn table.old table.new first (first + body_atoms (body_tree body.now))) }
-    ensures cost { steps.new ≤ steps.old + body_cost (searched_len (searched_tree game.now variations)) (body_tree body.now) }
+    ensures leads { OnOk result (LeadsOn (tree_in way.now.scope.now) way.now.back starts.old.items starts.new.items
+        row.new.table (first + body_atoms (body_tree body.now)) (spec.body_numbered first (body_tree body.now))
+        (body_in way.now.scope.now (body_tree body.now))) }
+    ensures ends { OnOk result (row.old.met ≡ true → row.new.met ≡ false
+        → EndsHere (tree_in way.now.scope.now) way.now.back starts.old.items (body_in way.now.scope.now (body_tree body.now))) }
+    ensures others { OnOk result (IsFilledIn row.old.table row.new.table first (first + body_atoms (body_tree body.now))) }
+    ensures cost { steps.new ≤ steps.old + body_cost (searched_len (tree_in way.now.scope.now)) (body_tree body.now) }
     ensures rises { steps.old ≤ steps.new }
 {
     match body {
         Body::Atom(filter) => {
-            let behind = put_atom(
-                alloc, filter, first, table, game, variations, back, names, starts, met, steps,
-            )?;
+            let behind = put_atom_once(alloc, filter, first, way, starts, row, steps)?;
             *starts = behind;
             Ok(first + 1)
         }
         Body::Group(parts) => {
-            let next = put_parts(
-                alloc, parts, first, table, game, variations, back, names, starts, met, steps,
-            )?;
-            *starts = reached(alloc, game, variations, back, starts)?;
+            let next = put_row(alloc, parts, first, way, starts, row, steps)?;
+            *starts = reached(alloc, way.scope, way.back, starts)?;
             Ok(next)
         }
     }
@@ -329,88 +297,78 @@ fn put_once<L: Ledger>(
 
 // Puts an atom that stands once, and answers where the next part may begin; where it holds nowhere, the row isn't met.
 #[cycle(evaluate)]
-fn put_atom<L: Ledger>(
+fn put_atom_once<L: Ledger>(
     alloc: Global,
     filter: &Filter,
     first: u32,
-    table: &mut AtomTable<L>,
-    game: &Game,
-    variations: bool,
-    back: bool,
-    names: &Names,
+    way: &Way,
     live: &[bool],
-    met: &mut bool,
+    row: &mut Row<L>,
     steps: &mut Steps<L>,
 ) -> Result<Vec<bool>, NoMemory>
-    requires tree { IsTree game.now.nodes }
-    requires asked { AreAsked (searched_tree game.now variations) live.now }
+    requires tree { IsTree way.now.scope.now.game.now.nodes }
+    requires asked { AreAsked (tree_in way.now.scope.now) live.now }
     requires flat { IsFlat (filter_tree filter.now) }
-    requires room { HasRoom (length game.now.nodes) first (first + 1) table.old }
-    ensures leads { IfOk result (λ behind. LeadsOn (searched_tree game.now variations) back live.now behind.items
-        table.new (first + 1) (one first) (one (meaning.value (searched_tree game.now variations) [] names.now (filter_tree filter.now)))) }
-    ensures ends { OnOk result (met.old ≡ true → met.new ≡ false → EndsHere (searched_tree game.now variations) back live.now
-        (one (meaning.value (searched_tree game.now variations) [] names.now (filter_tree filter.now)))) }
-    ensures others { OnOk result (IsFilledIn table.old table.new first (first + 1)) }
-    ensures cost { steps.new ≤ steps.old + filter_cost (searched_len (searched_tree game.now variations)) (filter_tree filter.now) }
+    requires room { HasRoom (length way.now.scope.now.game.now.nodes) first (first + 1) row.old.table }
+    ensures leads { IfOk result (λ behind. LeadsOn (tree_in way.now.scope.now) way.now.back live.now behind.items
+        row.new.table (first + 1) (one first) (one (value_in way.now.scope.now (filter_tree filter.now)))) }
+    ensures ends { OnOk result (row.old.met ≡ true → row.new.met ≡ false
+        → EndsHere (tree_in way.now.scope.now) way.now.back live.now (one (value_in way.now.scope.now (filter_tree filter.now)))) }
+    ensures others { OnOk result (IsFilledIn row.old.table row.new.table first (first + 1)) }
+    ensures cost { steps.new ≤ steps.old + filter_cost (searched_len (tree_in way.now.scope.now)) (filter_tree filter.now) }
     ensures rises { steps.old ≤ steps.new }
 {
     if !any_live(live) {
-        *met = false;
+        row.met = false;
         return same(alloc, live);
     }
-    let column = evaluate(alloc, filter, game, variations, names, live, steps)?;
-    let held = part_of(alloc, game, variations, live, &column, true)?;
-    put_nodes(table, first, game, &held);
+    let column = evaluate(alloc, filter, way.scope, live, steps)?;
+    let held = part_of(alloc, way.scope, live, &column, true)?;
+    put_nodes(&mut row.table, first, way.scope.game, &held);
     if !any_live(&held) {
-        *met = false;
+        row.met = false;
         return Ok(held);
     }
-    let behind = onward(alloc, game, variations, back, &held)?;
+    let behind = onward(alloc, way.scope, way.back, &held)?;
     Ok(behind)
 }
 
 // Puts the atoms of what may begin at any node of a set, again and again.
 #[cycle(evaluate)]
 #[tactic(auto, unfolding(cql_syntax::specs::Meaning::value, crate::specs::Costs::filter_cost, crate::specs::FlatTrees::unflat))]
-fn put_body<L: Ledger>(
+fn put_wherever<L: Ledger>(
     alloc: Global,
     body: &Body,
     first: u32,
-    table: &mut AtomTable<L>,
-    game: &Game,
-    variations: bool,
-    back: bool,
-    names: &Names,
+    way: &Way,
     live: &[bool],
-    met: &mut bool,
+    row: &mut Row<L>,
     steps: &mut Steps<L>,
 ) -> Result<u32, NoMemory>
-    requires tree { IsTree game.now.nodes }
-    requires asked { AreAsked (searched_tree game.now variations) live.now }
+    requires tree { IsTree way.now.scope.now.game.now.nodes }
+    requires asked { AreAsked (tree_in way.now.scope.now) live.now }
     requires flat { IsFlatBody (body_tree body.now) }
-    requires room { HasRoom (length game.now.nodes) first (first + body_atoms (body_tree body.now)) table.old }
+    requires room { HasRoom (length way.now.scope.now.game.now.nodes) first (first + body_atoms (body_tree body.now)) row.old.table }
     ensures next { IfOk result (λ next. next ≡ first + body_atoms (body_tree body.now)) }
-    ensures value { OnOk result (AreTabled (searched_tree game.now variations) back (IsLive live.now)
-        table.new (first + body_atoms (body_tree body.now)) (spec.body_numbered first (body_tree body.now))
-        (meaning.body_pattern (searched_tree game.now variations) [] names.now (body_tree body.now))) }
-    ensures never { OnOk result (met.old ≡ true → met.new ≡ false
-        → IsNever (IsStep (searched_tree game.now variations) back false) (IsLive live.now)
-        (meaning.body_pattern (searched_tree game.now variations) [] names.now (body_tree body.now))) }
-    ensures others { OnOk result (IsFilledIn table.old table.new first (first + body_atoms (body_tree body.now))) }
-    ensures cost { steps.new ≤ steps.old + body_cost (searched_len (searched_tree game.now variations)) (body_tree body.now) }
+    ensures value { OnOk result (AreTabled (tree_in way.now.scope.now) way.now.back (IsLive live.now)
+        row.new.table (first + body_atoms (body_tree body.now)) (spec.body_numbered first (body_tree body.now))
+        (body_in way.now.scope.now (body_tree body.now))) }
+    ensures never { OnOk result (row.old.met ≡ true → row.new.met ≡ false
+        → IsNever (IsStep (tree_in way.now.scope.now) way.now.back false) (IsLive live.now)
+        (body_in way.now.scope.now (body_tree body.now))) }
+    ensures others { OnOk result (IsFilledIn row.old.table row.new.table first (first + body_atoms (body_tree body.now))) }
+    ensures cost { steps.new ≤ steps.old + body_cost (searched_len (tree_in way.now.scope.now)) (body_tree body.now) }
     ensures rises { steps.old ≤ steps.new }
 {
     match body {
         Body::Atom(filter) => {
-            let column = evaluate(alloc, filter, game, variations, names, live, steps)?;
-            let held = part_of(alloc, game, variations, live, &column, true)?;
-            put_nodes(table, first, game, &held);
+            let column = evaluate(alloc, filter, way.scope, live, steps)?;
+            let held = part_of(alloc, way.scope, live, &column, true)?;
+            put_nodes(&mut row.table, first, way.scope.game, &held);
             let some = any_live(&held);
-            *met = both(*met, some);
+            row.met = both(row.met, some);
             Ok(first + 1)
         }
-        Body::Group(parts) => put_parts(
-            alloc, parts, first, table, game, variations, back, names, live, met, steps,
-        ),
+        Body::Group(parts) => put_row(alloc, parts, first, way, live, row, steps),
     }
 }

@@ -4,19 +4,18 @@ ghost use Rattle.cq_position.specs.Games.{IsTree};
 ghost use Rattle.cql_syntax.specs.Meaning as meaning;
 ghost use Rattle.cql_syntax.specs.TreeOf.{filter_tree, played_tree, written_tree};
 ghost use Rattle.cql_syntax.specs.Values.{as_truth};
-ghost use Rattle.cql_values.specs.Trees.{searched_tree};
 ghost use Rattle.cql_eval.specs.Columns.{AreAsked, AreTruths, Where, shown};
 ghost use Rattle.cql_eval.specs.Costs.{played_cost, written_cost, searched_len};
 ghost use Rattle.cql_eval.specs.FlatTrees.{IsFlatMove, IsFlatPart};
+ghost use Rattle.cql_eval.specs.Scopes.{tree_in};
 
 use super::evaluate;
 use crate::filter_column::FilterColumn;
 use crate::moves::{moves_met, promoting};
+use crate::scope::Scope;
 use crate::tree::befores;
 use cq_outside::{NoMemory, Steps};
 use cql_syntax::{Filter, Played};
-use cql_values::names::Names;
-use pgn_tree::Game;
 use std::alloc::Global;
 use std::sync::ledger::Ledger;
 
@@ -27,39 +26,27 @@ use std::sync::ledger::Ledger;
 pub(super) fn played_truths<L: Ledger>(
     alloc: Global,
     played: &Played,
-    game: &Game,
-    variations: bool,
-    names: &Names,
+    scope: &Scope,
     live: &[bool],
     steps: &mut Steps<L>,
 ) -> Result<Vec<bool>, NoMemory>
-    requires tree { IsTree game.now.nodes }
-    requires asked { AreAsked (searched_tree game.now variations) live.now }
+    requires tree { IsTree scope.now.game.now.nodes }
+    requires asked { AreAsked (tree_in scope.now) live.now }
     requires flat { IsFlatMove (played_tree played.now) }
     ensures value { IfOk result (λ truths. AreTruths truths.items live.now
-        (λ n. as_truth (meaning.played_value (searched_tree game.now variations) [] names.now (played_tree played.now) n))) }
-    ensures cost { steps.new ≤ steps.old + played_cost (searched_len (searched_tree game.now variations)) (played_tree played.now) }
+        (λ n. as_truth (meaning.played_value (tree_in scope.now) [] scope.now.names.now (played_tree played.now) n))) }
+    ensures cost { steps.new ≤ steps.old + played_cost (searched_len (tree_in scope.now)) (played_tree played.now) }
     ensures rises { steps.old ≤ steps.new }
 {
     let promotes = played.promoted.is_some();
-    let some = promoting(alloc, game, variations, promotes, live)?;
+    let some = promoting(alloc, scope, promotes, live)?;
     let some = some.as_slice();
-    let wide = befores(alloc, game, variations, some)?;
-    let origin = written_column(alloc, &played.origin, game, variations, names, &wide, steps)?;
-    let goal = written_column(alloc, &played.goal, game, variations, names, some, steps)?;
-    let taken = written_column(alloc, &played.taken, game, variations, names, &wide, steps)?;
-    let promoted = written_column(
-        alloc,
-        &played.promoted,
-        game,
-        variations,
-        names,
-        some,
-        steps,
-    )?;
-    let truths = moves_met(
-        alloc, game, variations, &origin, &goal, &taken, &promoted, some,
-    )?;
+    let wide = befores(alloc, scope, some)?;
+    let origin = written_column(alloc, &played.origin, scope, &wide, steps)?;
+    let goal = written_column(alloc, &played.goal, scope, some, steps)?;
+    let taken = written_column(alloc, &played.taken, scope, &wide, steps)?;
+    let promoted = written_column(alloc, &played.promoted, scope, some, steps)?;
+    let truths = moves_met(alloc, scope, &origin, &goal, &taken, &promoted, some)?;
     Ok(truths)
 }
 
@@ -69,23 +56,21 @@ pub(super) fn played_truths<L: Ledger>(
 pub(super) fn written_column<L: Ledger>(
     alloc: Global,
     written: &Option<Box<Filter>>,
-    game: &Game,
-    variations: bool,
-    names: &Names,
+    scope: &Scope,
     live: &[bool],
     steps: &mut Steps<L>,
 ) -> Result<Option<FilterColumn>, NoMemory>
-    requires tree { IsTree game.now.nodes }
-    requires asked { AreAsked (searched_tree game.now variations) live.now }
+    requires tree { IsTree scope.now.game.now.nodes }
+    requires asked { AreAsked (tree_in scope.now) live.now }
     requires flat { IsFlatPart (written_tree written.now) }
     ensures value { IfOk result (λ column. Where live.now (λ n. option_map (λ c. shown c n) column
-        ≡ meaning.written_value (searched_tree game.now variations) [] names.now (written_tree written.now) n)) }
-    ensures cost { steps.new ≤ steps.old + written_cost (searched_len (searched_tree game.now variations)) (written_tree written.now) }
+        ≡ meaning.written_value (tree_in scope.now) [] scope.now.names.now (written_tree written.now) n)) }
+    ensures cost { steps.new ≤ steps.old + written_cost (searched_len (tree_in scope.now)) (written_tree written.now) }
     ensures rises { steps.old ≤ steps.new }
 {
     match written {
         Some(filter) => {
-            let column = evaluate(alloc, filter, game, variations, names, live, steps)?;
+            let column = evaluate(alloc, filter, scope, live, steps)?;
             Ok(Some(column))
         }
         None => Ok(None),

@@ -1,69 +1,72 @@
 //! What is asked of the squares of a set, one by one.
-ghost use Rattle.std.specs.Prelude.{◌≡◌, ℕ, ◌≤◌, ◌+◌, ◌*◌, ◌∷◌, [], length, true, get_or, IfOk};
+ghost use Rattle.std.specs.Prelude.{◌≡◌, ℕ, ◌≤◌, ◌+◌, ◌*◌, ◌∷◌, [], length, true, false, get_or, IfOk};
 ghost use Rattle.cq_position.specs.Games.{IsTree};
-ghost use Rattle.cql_syntax.specs.Meaning as meaning;
 ghost use Rattle.cql_syntax.specs.TreeOf.{filter_tree};
 ghost use Rattle.cql_syntax.specs.Values as spec;
-ghost use Rattle.cql_values.specs.Trees.{searched_tree};
 ghost use Rattle.cql_eval.specs.Asked.{AreUnsettled, AreWanted};
+ghost use Rattle.cql_eval.specs.Bindings.{holds_with};
 ghost use Rattle.cql_eval.specs.Columns.{AreAsked, AreTruths, shown};
 ghost use Rattle.cql_eval.specs.Costs.{filter_cost, searched_len};
 ghost use Rattle.cql_eval.specs.Covers.{AreWorthTrying};
 ghost use Rattle.cql_eval.specs.FlatTrees.{IsFlat};
+ghost use Rattle.cql_eval.specs.Scopes.{tree_in};
 
 use super::covers::cover;
 use super::evaluate;
+use super::trial::Trial;
 use crate::attacks::{attack_truths, attacked_part};
 use crate::covers::sets_of;
 use crate::filter_column::FilterColumn;
 use crate::free::only_name;
 use crate::nodes::{any_live, same};
+use crate::scope::Scope;
 use crate::squares::{decided, having, unsettled, wanted_squares};
 use cq_geometry::Square;
 use cq_outside::{NoMemory, Steps};
 use cql_syntax::Filter;
-use cql_values::names::Names;
 use cql_values::sets::has_square;
-use pgn_tree::Game;
 use std::alloc::Global;
 use std::sync::ledger::Ledger;
+
+/// Where a name is bound to the squares of a column, one by one.
+#[derive(Clone, Copy)]
+pub(crate) struct Binding<'a> {
+    pub(crate) scope: &'a Scope<'a>,
+    /// Whether what is asked must hold of every square, or of some.
+    pub(crate) every: bool,
+    pub(crate) name: &'a [u8],
+    pub(crate) squares: &'a FilterColumn,
+}
 
 /// Whether what is asked of a square holds of every square of a set, or of some: of some, where only those squares are tried with which it
 /// may hold.
 #[cycle(evaluate)]
 pub(super) fn asked_truths<L: Ledger>(
     alloc: Global,
-    every: bool,
-    name: &[u8],
-    squares: &FilterColumn,
+    binding: &Binding,
     asked: &Filter,
-    game: &Game,
-    variations: bool,
-    names: &Names,
     live: &[bool],
     steps: &mut Steps<L>,
 ) -> Result<Vec<bool>, NoMemory>
-    requires tree { IsTree game.now.nodes }
-    requires asked { AreAsked (searched_tree game.now variations) live.now }
+    requires tree { IsTree binding.now.scope.now.game.now.nodes }
+    requires asked { AreAsked (tree_in binding.now.scope.now) live.now }
     requires flat { IsFlat (filter_tree asked.now) }
-    ensures value { IfOk result (λ truths. AreTruths truths.items live.now (λ n. spec.square_of every (shown squares.now n)
-        (λ s. spec.holds (meaning.value (searched_tree game.now variations) []
-        ((name.now, s) ∷ names.now) (filter_tree asked.now) n)))) }
-    ensures cost { steps.new ≤ steps.old + 64 * filter_cost (searched_len (searched_tree game.now variations)) (filter_tree asked.now) }
+    ensures value { IfOk result (λ truths. AreTruths truths.items live.now
+        (λ n. spec.square_of binding.now.every (shown binding.now.squares.now n) (holds_with binding.now (filter_tree asked.now) n))) }
+    ensures cost { steps.new ≤ steps.old + 64 * filter_cost (searched_len (tree_in binding.now.scope.now)) (filter_tree asked.now) }
     ensures rises { steps.old ≤ steps.new }
 {
+    let every = binding.every;
     if every {
-        return square_truths(
-            alloc, every, name, squares, asked, game, variations, names, live, steps,
-        );
+        return square_truths(alloc, binding, asked, live, steps);
     }
-    let sets = covered_sets(
-        alloc, name, squares, asked, game, variations, names, live, steps,
-    )?;
+    let sets = covered_sets(alloc, binding, asked, live, steps)?;
     let worth = FilterColumn::Sets(sets);
-    let truths = square_truths(
-        alloc, every, name, &worth, asked, game, variations, names, live, steps,
-    )?;
+    let among = Binding {
+        squares: &worth,
+        ..*binding
+    };
+    let truths = square_truths(alloc, &among, asked, live, steps)?;
     Ok(truths)
 }
 
@@ -71,27 +74,27 @@ pub(super) fn asked_truths<L: Ledger>(
 #[cycle(evaluate)]
 fn covered_sets<L: Ledger>(
     alloc: Global,
-    name: &[u8],
-    squares: &FilterColumn,
+    binding: &Binding,
     asked: &Filter,
-    game: &Game,
-    variations: bool,
-    names: &Names,
     live: &[bool],
     steps: &mut Steps<L>,
 ) -> Result<Vec<u64>, NoMemory>
-    requires tree { IsTree game.now.nodes }
-    requires asked { AreAsked (searched_tree game.now variations) live.now }
+    requires tree { IsTree binding.now.scope.now.game.now.nodes }
+    requires asked { AreAsked (tree_in binding.now.scope.now) live.now }
     requires flat { IsFlat (filter_tree asked.now) }
-    ensures worth { IfOk result (λ sets. AreWorthTrying (shown squares.now) live.now (λ n s. spec.holds (meaning.value (searched_tree game.now variations) []
-        ((name.now, s) ∷ names.now) (filter_tree asked.now) n)) sets.items) }
+    ensures worth { IfOk result (λ sets. AreWorthTrying (shown binding.now.squares.now) live.now
+        (holds_with binding.now (filter_tree asked.now)) sets.items) }
     ensures cost { steps.new ≡ steps.old }
 {
-    let mut sets = sets_of(alloc, live, squares)?;
-    let opened = only_name(alloc, name)?;
-    cover(
-        alloc, &opened, name, asked, game, variations, names, live, &mut sets, steps,
-    )?;
+    let mut sets = sets_of(alloc, live, binding.squares)?;
+    let opened = only_name(alloc, binding.name)?;
+    let trial = Trial {
+        scope: binding.scope,
+        opened: &opened,
+        name: binding.name,
+        live,
+    };
+    cover(alloc, &trial, asked, &mut sets, steps)?;
     Ok(sets)
 }
 
@@ -99,39 +102,30 @@ fn covered_sets<L: Ledger>(
 #[cycle(evaluate)]
 fn square_truths<L: Ledger>(
     alloc: Global,
-    every: bool,
-    name: &[u8],
-    squares: &FilterColumn,
+    binding: &Binding,
     asked: &Filter,
-    game: &Game,
-    variations: bool,
-    names: &Names,
     live: &[bool],
     steps: &mut Steps<L>,
 ) -> Result<Vec<bool>, NoMemory>
-    requires tree { IsTree game.now.nodes }
-    requires asked { AreAsked (searched_tree game.now variations) live.now }
+    requires tree { IsTree binding.now.scope.now.game.now.nodes }
+    requires asked { AreAsked (tree_in binding.now.scope.now) live.now }
     requires flat { IsFlat (filter_tree asked.now) }
-    ensures value { IfOk result (λ truths. AreTruths truths.items live.now (λ n. spec.square_of every (shown squares.now n)
-        (λ s. spec.holds (meaning.value (searched_tree game.now variations) []
-        ((name.now, s) ∷ names.now) (filter_tree asked.now) n)))) }
-    ensures cost { steps.new ≤ steps.old + 64 * filter_cost (searched_len (searched_tree game.now variations)) (filter_tree asked.now) }
+    ensures value { IfOk result (λ truths. AreTruths truths.items live.now
+        (λ n. spec.square_of binding.now.every (shown binding.now.squares.now n) (holds_with binding.now (filter_tree asked.now) n))) }
+    ensures cost { steps.new ≤ steps.old + 64 * filter_cost (searched_len (tree_in binding.now.scope.now)) (filter_tree asked.now) }
     ensures rises { steps.old ≤ steps.new }
 {
-    match attacked_part(every, name, asked) {
-        Some(d) => return attack_truths(alloc, squares, d, game, variations, live),
+    match attacked_part(binding.every, binding.name, asked) {
+        Some(d) => return attack_truths(alloc, binding.squares, d, binding.scope, live),
         None => {}
     }
     let mut left = same(alloc, live)?;
-    let wanted = wanted_squares(live, squares);
+    let wanted = wanted_squares(live, binding.squares);
     for number in 0..64 {
         let square = Square::new(number);
-        left = square_turn(
-            alloc, every, name, square, wanted, squares, asked, game, variations, names, left,
-            steps,
-        )?;
+        left = square_turn(alloc, binding, square, wanted, asked, left, steps)?;
     }
-    let truths = decided(alloc, every, left)?;
+    let truths = decided(alloc, binding.every, left)?;
     Ok(truths)
 }
 
@@ -139,37 +133,35 @@ fn square_truths<L: Ledger>(
 #[cycle(evaluate)]
 fn square_turn<L: Ledger>(
     alloc: Global,
-    every: bool,
-    name: &[u8],
+    binding: &Binding,
     square: Square,
     wanted: u64,
-    squares: &FilterColumn,
     asked: &Filter,
-    game: &Game,
-    variations: bool,
-    names: &Names,
     left: Vec<bool>,
     steps: &mut Steps<L>,
 ) -> Result<Vec<bool>, NoMemory>
-    requires tree { IsTree game.now.nodes }
-    requires asked { AreAsked (searched_tree game.now variations) left.items }
-    requires wanted { AreWanted (shown squares.now) left.items wanted }
+    requires tree { IsTree binding.now.scope.now.game.now.nodes }
+    requires asked { AreAsked (tree_in binding.now.scope.now) left.items }
+    requires wanted { AreWanted (shown binding.now.squares.now) left.items wanted }
     requires flat { IsFlat (filter_tree asked.now) }
-    ensures value { IfOk result (λ later. AreUnsettled every (shown squares.now)
-        (λ n. spec.holds (meaning.value (searched_tree game.now variations) []
-        ((name.now, square) ∷ names.now) (filter_tree asked.now) n)) square left.items later.items) }
-    ensures cost { steps.new ≤ steps.old + filter_cost (searched_len (searched_tree game.now variations)) (filter_tree asked.now) }
+    ensures value { IfOk result (λ later. AreUnsettled binding.now.every (shown binding.now.squares.now)
+        (λ n. holds_with binding.now (filter_tree asked.now) n square) square left.items later.items) }
+    ensures cost { steps.new ≤ steps.old + filter_cost (searched_len (tree_in binding.now.scope.now)) (filter_tree asked.now) }
     ensures rises { steps.old ≤ steps.new }
 {
     if !has_square(wanted, square) {
         return Ok(left);
     }
-    let there = having(alloc, &left, squares, square)?;
+    let there = having(alloc, &left, binding.squares, square)?;
     if !any_live(&there) {
         return Ok(left);
     }
-    let inner = names.with(alloc, name, square)?;
-    let column = evaluate(alloc, asked, game, variations, &inner, &there, steps)?;
-    let later = unsettled(every, left, &there, &column);
+    let names = binding.scope.names.with(alloc, binding.name, square)?;
+    let inner = Scope {
+        names: &names,
+        ..*binding.scope
+    };
+    let column = evaluate(alloc, asked, &inner, &there, steps)?;
+    let later = unsettled(binding.every, left, &there, &column);
     Ok(later)
 }

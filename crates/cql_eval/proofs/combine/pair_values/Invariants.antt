@@ -8,4 +8,4 @@ use Rattle.cql_eval.proofs.Filling.{FilledTo}
 use Rattle.cql_eval.proofs.combine.pair_values.Given as goal
 
 abbrev pub invariant-loop-n : goal.invariant-loop-n
-invariant-loop-n l = FilledTo meant (Truth false) l.live (λ n. pair_of (node_at l.game.nodes n).position.men l.pair (shown l.first n) (shown l.second n)) l.end l.n l.values.items
+invariant-loop-n l = FilledTo meant (Truth false) l.live (λ n. pair_of (node_at l.scope.game.now.nodes n).position.men l.pair (shown l.first n) (shown l.second n)) l.end l.n l.values.items

@@ -8,4 +8,4 @@ use Rattle.cql_eval.proofs.Filling.{FilledTo}
 use Rattle.cql_eval.proofs.combine.unary_values.Given as goal
 
 abbrev pub invariant-loop-n : goal.invariant-loop-n
-invariant-loop-n l = FilledTo meant (Truth false) l.live (λ n. of_value (node_at l.game.nodes n).position.men l.word (shown l.column n)) l.end l.n l.values.items
+invariant-loop-n l = FilledTo meant (Truth false) l.live (λ n. of_value (node_at l.scope.game.now.nodes n).position.men l.word (shown l.column n)) l.end l.n l.values.items

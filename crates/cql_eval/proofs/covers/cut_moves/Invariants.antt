@@ -4,4 +4,4 @@ use Rattle.cql_eval.proofs.CoverLaw.{CutTo}
 use Rattle.cql_eval.proofs.covers.cut_moves.Given as goal
 
 abbrev pub invariant-loop-n : goal.invariant-loop-n
-invariant-loop-n l = CutTo l.live (λ n. IsOfMove (led_to l.game.nodes n) l.origin l.goal l.taken) l.fn.sets l.n l.sets
+invariant-loop-n l = CutTo l.live (λ n. IsOfMove (led_to l.scope.game.now.nodes n) l.origin l.goal l.taken) l.fn.sets l.n l.sets

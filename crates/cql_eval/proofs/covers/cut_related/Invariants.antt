@@ -5,4 +5,4 @@ use Rattle.cql_eval.proofs.CoverLaw.{CutTo}
 use Rattle.cql_eval.proofs.covers.cut_related.Given as goal
 
 abbrev pub invariant-loop-n : goal.invariant-loop-n
-invariant-loop-n l = CutTo l.live (λ n. IsSoRelated (node_at l.game.nodes n).position.men l.pair (shown l.column n)) l.fn.sets l.n l.sets
+invariant-loop-n l = CutTo l.live (λ n. IsSoRelated (node_at l.scope.game.now.nodes n).position.men l.pair (shown l.column n)) l.fn.sets l.n l.sets

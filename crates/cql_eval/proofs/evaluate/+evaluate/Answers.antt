@@ -8,7 +8,7 @@ use Rattle.cql_syntax.specs.Meaning.{value}
 use Rattle.cql_syntax.specs.TreeOf.{filter_tree, form_tree, filters_tree}
 use Rattle.cql_syntax.specs.Trees.{filter_at, unary, square, if_}
 use Rattle.cql_syntax.specs.Values.{holds, square_of}
-use Rattle.cql_values.specs.Trees.{searched_tree}
+use Rattle.cql_eval.specs.Scopes.{tree_in, value_in}
 use Rattle.cql_values.proofs.Evaluated.{word_here}
 use Rattle.cql_eval.specs.Columns.{IsColumn, shown}
 use Rattle.cql_eval.proofs.Chains.{if_open, unary_form, square_form, if_form}
@@ -83,6 +83,39 @@ chains::ask_if-returns-clause-cost = chains.chains::ask_if-returns-clause-cost
 pub chains::ask_if-returns-in_err-column-clause-cost : goal.chains::ask_if-returns-in_err-column-clause-cost
 chains::ask_if-returns-in_err-column-clause-cost = chains.chains::ask_if-returns-in_err-column-clause-cost
 
+pub chains::no_member_holds-returns-then-is_large-clause-value : goal.chains::no_member_holds-returns-then-is_large-clause-value
+chains::no_member_holds-returns-then-is_large-clause-value = chains.chains::no_member_holds-returns-then-is_large-clause-value
+
+pub chains::no_member_holds-returns-then-is_large-clause-cost : goal.chains::no_member_holds-returns-then-is_large-clause-cost
+chains::no_member_holds-returns-then-is_large-clause-cost = chains.chains::no_member_holds-returns-then-is_large-clause-cost
+
+pub chains::no_member_holds-returns-in_err-left-clause-cost : goal.chains::no_member_holds-returns-in_err-left-clause-cost
+chains::no_member_holds-returns-in_err-left-clause-cost = chains.chains::no_member_holds-returns-in_err-left-clause-cost
+
+pub chains::ask_each-loop-filter-init : goal.chains::ask_each-loop-filter-init
+chains::ask_each-loop-filter-init = chains.chains::ask_each-loop-filter-init
+
+pub chains::ask_each-loop-filter-preserved : goal.chains::ask_each-loop-filter-preserved
+chains::ask_each-loop-filter-preserved = chains.chains::ask_each-loop-filter-preserved
+
+pub chains::ask_each-returns-clause-left : goal.chains::ask_each-returns-clause-left
+chains::ask_each-returns-clause-left = chains.chains::ask_each-returns-clause-left
+
+pub chains::ask_each-returns-in_err-ask_unless-clause-cost : goal.chains::ask_each-returns-in_err-ask_unless-clause-cost
+chains::ask_each-returns-in_err-ask_unless-clause-cost = chains.chains::ask_each-returns-in_err-ask_unless-clause-cost
+
+pub chains::ask_unless-returns-then-holds_nowhere-clause-left : goal.chains::ask_unless-returns-then-holds_nowhere-clause-left
+chains::ask_unless-returns-then-holds_nowhere-clause-left = chains.chains::ask_unless-returns-then-holds_nowhere-clause-left
+
+pub chains::ask_unless-returns-clause-left : goal.chains::ask_unless-returns-clause-left
+chains::ask_unless-returns-clause-left = chains.chains::ask_unless-returns-clause-left
+
+pub chains::ask_unless-returns-clause-cost : goal.chains::ask_unless-returns-clause-cost
+chains::ask_unless-returns-clause-cost = chains.chains::ask_unless-returns-clause-cost
+
+pub chains::ask_unless-returns-in_err-column-clause-cost : goal.chains::ask_unless-returns-in_err-column-clause-cost
+chains::ask_unless-returns-in_err-column-clause-cost = chains.chains::ask_unless-returns-in_err-column-clause-cost
+
 pub squares::square_truths-loop-number-init : goal.squares::square_truths-loop-number-init
 squares::square_truths-loop-number-init = squares.squares::square_truths-loop-number-init
 
@@ -106,18 +139,18 @@ squares::square_turn-returns-then-not-has_square-clause-value = squares.squares:
 
 pub unary_column-returns-in_ok-set-in-Find-clause-value : goal.unary_column-returns-in_ok-set-in-Find-clause-value
 unary_column-returns-in_ok-set-in-Find-clause-value g t c = rw c.in-Find.is (λ n l.
-    find_is (searched_tree c.args.game.now c.args.variations) c.args.live.now c.in_ok-wide-in-Find.wide.items c.deref.result.now
-    c.deref-in-Find.result.now c.in_ok-set-in-Find.set.items c.raised-found.result.items c.in_ok-column-in-Find.column
-    (value (searched_tree c.args.game.now c.args.variations) [] c.args.names.now
+    find_is (tree_in c.args.scope.now) c.args.live.now c.in_ok-wide-in-Find.wide.items c.deref.result.now
+    c.deref-in-Find.result.now c.in_ok-set-in-Find.set.items c.raised.result.items c.in_ok-column-in-Find.column
+    (value_in c.args.scope.now
     (filter_tree c.args.part.now)) c.in_ok-wide-in-Find.ensures c.deref.ensures.value c.deref-in-Find.ensures.value
-    c.in_ok-column-in-Find.ensures.value c.in_ok-set-in-Find.ensures c.raised-found.ensures n l)
+    c.in_ok-column-in-Find.ensures.value c.in_ok-set-in-Find.ensures c.raised.ensures n l)
 
 pub unary_column-returns-in_ok-values-in_default-clause-value : goal.unary_column-returns-in_ok-values-in_default-clause-value
 unary_column-returns-in_ok-values-in_default-clause-value g t c = λ n l.
     let other = c.in_default in
     c.in_ok-values-in_default.ensures n l
-    ∙ word_here (searched_tree c.args.game.now c.args.variations) c.args.word
-    (value (searched_tree c.args.game.now c.args.variations) [] c.args.names.now (filter_tree c.args.part.now)) n
+    ∙ word_here (tree_in c.args.scope.now) c.args.word
+    (value_in c.args.scope.now (filter_tree c.args.part.now)) n
     (shown c.in_ok-column-in_default.column n) other.not-Find other.not-FindUp other.not-Child other.not-Parent
     (c.in_ok-column-in_default.ensures.value n l)
 
@@ -126,7 +159,7 @@ evaluate-returns-in-Unary-clause-value g t c =
     let f = c.args.f.now in
     let part = c.deref.result.now in
     subst (λ v. IfOk c.unary_column.result (λ x. IsColumn x c.args.live.now v))
-    (unary_form (searched_tree c.args.game.now c.args.variations) c.args.names.now (filter_tree f) (filter_tree part) f.at c.in-Unary.word
+    (unary_form (tree_in c.args.scope.now) c.args.scope.now.names.now (filter_tree f) (filter_tree part) f.at c.in-Unary.word
     (ap (λ form. filter_at f.at (form_tree form)) c.in-Unary.is ∙ ap (λ p. filter_at f.at (unary c.in-Unary.word (filter_tree p))) (sym c.deref.ensures)))
     c.unary_column.ensures.value
 
@@ -138,9 +171,9 @@ evaluate-returns-in_ok-truths-in-Square-clause-value g t c = λ n l.
     let a = c.deref-in-Square.result.now in
     let b = c.deref-in-Square-2.result.now in
     c.in_ok-truths-in-Square.ensures.value n l
-    ∙ ap (λ x. square_of every x (λ s. holds (value (searched_tree c.args.game.now c.args.variations) [] ((text, s) ∷ c.args.names.now)
+    ∙ ap (λ x. square_of every x (λ s. holds (value (tree_in c.args.scope.now) [] ((text, s) ∷ c.args.scope.now.names.now)
     (filter_tree b) n))) (c.in_ok-squares-in-Square.ensures.value n l)
-    ∙ square_form (searched_tree c.args.game.now c.args.variations) c.args.names.now (filter_tree f) (filter_tree a) (filter_tree b) f.at every text
+    ∙ square_form (tree_in c.args.scope.now) c.args.scope.now.names.now (filter_tree f) (filter_tree a) (filter_tree b) f.at every text
     (ap (λ form. filter_at f.at (form_tree form)) c.in-Square.is
     ∙ ap (λ x. filter_at f.at (square every x (filter_tree c.in-Square.squares.value) (filter_tree c.in-Square.asked.value))) (sym c.as_slice-in-Square.ensures)
     ∙ ap₂ (λ p q. filter_at f.at (square every text (filter_tree p) (filter_tree q))) (sym c.deref-in-Square.ensures) (sym c.deref-in-Square-2.ensures)) n
@@ -154,12 +187,12 @@ evaluate-returns-in_ok-truths-in-If-clause-value g t c = λ n l.
     c.in_ok-truths-in-If.ensures n l
     ∙ if_open c.args.live.now c.in_ok-held-in-If.held.items c.in_ok-failed-in-If.failed.items c.deref-in-If-3.result.now c.deref-in-If-5.result.now
     c.in_ok-first-in-If.first c.in_ok-second-in-If.second c.in_ok-third-in-If.third
-    (value (searched_tree c.args.game.now c.args.variations) [] c.args.names.now (filter_tree x))
-    (value (searched_tree c.args.game.now c.args.variations) [] c.args.names.now (filter_tree y))
-    (value (searched_tree c.args.game.now c.args.variations) [] c.args.names.now (filter_tree z))
+    (value_in c.args.scope.now (filter_tree x))
+    (value_in c.args.scope.now (filter_tree y))
+    (value_in c.args.scope.now (filter_tree z))
     c.deref-in-If-3.ensures.value c.deref-in-If-5.ensures.value c.in_ok-first-in-If.ensures.value c.in_ok-held-in-If.ensures.narrowed
     c.in_ok-failed-in-If.ensures.narrowed c.in_ok-second-in-If.ensures.value c.in_ok-third-in-If.ensures.value n l
-    ∙ if_form (searched_tree c.args.game.now c.args.variations) c.args.names.now (filter_tree f) (filter_tree x) (filter_tree y) (filter_tree z) f.at
+    ∙ if_form (tree_in c.args.scope.now) c.args.scope.now.names.now (filter_tree f) (filter_tree x) (filter_tree y) (filter_tree z) f.at
     (ap (λ form. filter_at f.at (form_tree form)) c.in-If.is
     ∙ ap (λ p. filter_at f.at (if_ (filter_tree p) (filter_tree c.in-If.then.value) (filter_tree c.in-If.otherwise.value))) (sym c.deref-in-If.ensures)
     ∙ ap₂ (λ p q. filter_at f.at (if_ (filter_tree x) (filter_tree p) (filter_tree q))) (sym c.deref-in-If-2.ensures) (sym c.deref-in-If-4.ensures)) n
@@ -190,38 +223,41 @@ chains::terms_of-returns-in_err-column-clause-cost = chains.chains::terms_of-ret
 
 -- lines
 
-pub lines::put_parts-loop-part-init : goal.lines::put_parts-loop-part-init
-lines::put_parts-loop-part-init = lines.lines::put_parts-loop-part-init
+pub lines::filled_row-returns-clause-never : goal.lines::filled_row-returns-clause-never
+lines::filled_row-returns-clause-never = lines.lines::filled_row-returns-clause-never
 
-pub lines::put_parts-loop-part-preserved : goal.lines::put_parts-loop-part-preserved
-lines::put_parts-loop-part-preserved = lines.lines::put_parts-loop-part-preserved
+pub lines::put_row-loop-part-init : goal.lines::put_row-loop-part-init
+lines::put_row-loop-part-init = lines.lines::put_row-loop-part-init
 
-pub lines::put_parts-returns-clause-next : goal.lines::put_parts-returns-clause-next
-lines::put_parts-returns-clause-next = lines.lines::put_parts-returns-clause-next
+pub lines::put_row-loop-part-preserved : goal.lines::put_row-loop-part-preserved
+lines::put_row-loop-part-preserved = lines.lines::put_row-loop-part-preserved
 
-pub lines::put_parts-returns-clause-value : goal.lines::put_parts-returns-clause-value
-lines::put_parts-returns-clause-value = lines.lines::put_parts-returns-clause-value
+pub lines::put_row-returns-clause-next : goal.lines::put_row-returns-clause-next
+lines::put_row-returns-clause-next = lines.lines::put_row-returns-clause-next
 
-pub lines::put_parts-returns-clause-never : goal.lines::put_parts-returns-clause-never
-lines::put_parts-returns-clause-never = lines.lines::put_parts-returns-clause-never
+pub lines::put_row-returns-clause-value : goal.lines::put_row-returns-clause-value
+lines::put_row-returns-clause-value = lines.lines::put_row-returns-clause-value
 
-pub lines::put_parts-returns-clause-others : goal.lines::put_parts-returns-clause-others
-lines::put_parts-returns-clause-others = lines.lines::put_parts-returns-clause-others
+pub lines::put_row-returns-clause-never : goal.lines::put_row-returns-clause-never
+lines::put_row-returns-clause-never = lines.lines::put_row-returns-clause-never
 
-pub lines::put_parts-returns-in_err-at-clause-cost : goal.lines::put_parts-returns-in_err-at-clause-cost
-lines::put_parts-returns-in_err-at-clause-cost = lines.lines::put_parts-returns-in_err-at-clause-cost
+pub lines::put_row-returns-clause-others : goal.lines::put_row-returns-clause-others
+lines::put_row-returns-clause-others = lines.lines::put_row-returns-clause-others
 
-pub lines::put_body-put_nodes-requires-clause-atom : goal.lines::put_body-put_nodes-requires-clause-atom
-lines::put_body-put_nodes-requires-clause-atom = lines.lines::put_body-put_nodes-requires-clause-atom
+pub lines::put_row-returns-in_err-at-clause-cost : goal.lines::put_row-returns-in_err-at-clause-cost
+lines::put_row-returns-in_err-at-clause-cost = lines.lines::put_row-returns-in_err-at-clause-cost
 
-pub lines::put_body-put_nodes-requires-clause-clear : goal.lines::put_body-put_nodes-requires-clause-clear
-lines::put_body-put_nodes-requires-clause-clear = lines.lines::put_body-put_nodes-requires-clause-clear
+pub lines::put_wherever-put_nodes-requires-clause-atom : goal.lines::put_wherever-put_nodes-requires-clause-atom
+lines::put_wherever-put_nodes-requires-clause-atom = lines.lines::put_wherever-put_nodes-requires-clause-atom
 
-pub lines::put_body-returns-in_ok-held-in-Atom-clause-value : goal.lines::put_body-returns-in_ok-held-in-Atom-clause-value
-lines::put_body-returns-in_ok-held-in-Atom-clause-value = lines.lines::put_body-returns-in_ok-held-in-Atom-clause-value
+pub lines::put_wherever-put_nodes-requires-clause-clear : goal.lines::put_wherever-put_nodes-requires-clause-clear
+lines::put_wherever-put_nodes-requires-clause-clear = lines.lines::put_wherever-put_nodes-requires-clause-clear
 
-pub lines::put_body-returns-in_ok-held-in-Atom-clause-never : goal.lines::put_body-returns-in_ok-held-in-Atom-clause-never
-lines::put_body-returns-in_ok-held-in-Atom-clause-never = lines.lines::put_body-returns-in_ok-held-in-Atom-clause-never
+pub lines::put_wherever-returns-in_ok-held-in-Atom-clause-value : goal.lines::put_wherever-returns-in_ok-held-in-Atom-clause-value
+lines::put_wherever-returns-in_ok-held-in-Atom-clause-value = lines.lines::put_wherever-returns-in_ok-held-in-Atom-clause-value
+
+pub lines::put_wherever-returns-in_ok-held-in-Atom-clause-never : goal.lines::put_wherever-returns-in_ok-held-in-Atom-clause-never
+lines::put_wherever-returns-in_ok-held-in-Atom-clause-never = lines.lines::put_wherever-returns-in_ok-held-in-Atom-clause-never
 
 pub lines::put_marked-returns-clause-leads : goal.lines::put_marked-returns-clause-leads
 lines::put_marked-returns-clause-leads = lines.lines::put_marked-returns-clause-leads
@@ -244,8 +280,8 @@ lines::put_once-returns-in_ok-starts-in-Group-clause-ends = lines.lines::put_onc
 pub lines::put_part-returns-in-Once-clause-ends : goal.lines::put_part-returns-in-Once-clause-ends
 lines::put_part-returns-in-Once-clause-ends = lines.lines::put_part-returns-in-Once-clause-ends
 
-pub lines::put_atom-returns-clause-leads : goal.lines::put_atom-returns-clause-leads
-lines::put_atom-returns-clause-leads = lines.lines::put_atom-returns-clause-leads
+pub lines::put_atom_once-returns-clause-leads : goal.lines::put_atom_once-returns-clause-leads
+lines::put_atom_once-returns-clause-leads = lines.lines::put_atom_once-returns-clause-leads
 
 pub lines::line_numbers-returns-then-not-met-clause-value : goal.lines::line_numbers-returns-then-not-met-clause-value
 lines::line_numbers-returns-then-not-met-clause-value = lines.lines::line_numbers-returns-then-not-met-clause-value
@@ -253,11 +289,11 @@ lines::line_numbers-returns-then-not-met-clause-value = lines.lines::line_number
 pub lines::line_numbers-returns-then-not-met-clause-cost : goal.lines::line_numbers-returns-then-not-met-clause-cost
 lines::line_numbers-returns-then-not-met-clause-cost = lines.lines::line_numbers-returns-then-not-met-clause-cost
 
-pub lines::put_atom-put_nodes-requires-clause-atom : goal.lines::put_atom-put_nodes-requires-clause-atom
-lines::put_atom-put_nodes-requires-clause-atom = lines.lines::put_atom-put_nodes-requires-clause-atom
+pub lines::put_atom_once-put_nodes-requires-clause-atom : goal.lines::put_atom_once-put_nodes-requires-clause-atom
+lines::put_atom_once-put_nodes-requires-clause-atom = lines.lines::put_atom_once-put_nodes-requires-clause-atom
 
-pub lines::put_atom-put_nodes-requires-clause-clear : goal.lines::put_atom-put_nodes-requires-clause-clear
-lines::put_atom-put_nodes-requires-clause-clear = lines.lines::put_atom-put_nodes-requires-clause-clear
+pub lines::put_atom_once-put_nodes-requires-clause-clear : goal.lines::put_atom_once-put_nodes-requires-clause-clear
+lines::put_atom_once-put_nodes-requires-clause-clear = lines.lines::put_atom_once-put_nodes-requires-clause-clear
 
 pub lines::line_numbers-parts_pattern-requires : goal.lines::line_numbers-parts_pattern-requires
 lines::line_numbers-parts_pattern-requires = lines.lines::line_numbers-parts_pattern-requires
@@ -292,8 +328,8 @@ lines::line_numbers-returns-in_err-pattern-clause-cost = lines.lines::line_numbe
 pub lines::line_numbers-returns-in_err-automaton-clause-cost : goal.lines::line_numbers-returns-in_err-automaton-clause-cost
 lines::line_numbers-returns-in_err-automaton-clause-cost = lines.lines::line_numbers-returns-in_err-automaton-clause-cost
 
-pub lines::line_numbers-returns-in_err-table-clause-cost : goal.lines::line_numbers-returns-in_err-table-clause-cost
-lines::line_numbers-returns-in_err-table-clause-cost = lines.lines::line_numbers-returns-in_err-table-clause-cost
+pub lines::line_numbers-returns-in_err-row-clause-cost : goal.lines::line_numbers-returns-in_err-row-clause-cost
+lines::line_numbers-returns-in_err-row-clause-cost = lines.lines::line_numbers-returns-in_err-row-clause-cost
 
 -- where no node is asked for
 
@@ -310,30 +346,30 @@ evaluate-returns-in-Transform-clause-value g t c =
 
 pub unary_column-returns-in_ok-found-in-FindUp-clause-value : goal.unary_column-returns-in_ok-found-in-FindUp-clause-value
 unary_column-returns-in_ok-found-in-FindUp-clause-value g t c = rw c.in-FindUp.is (λ n l.
-    find_up_is (searched_tree c.args.game.now c.args.variations) c.args.live.now c.in_ok-wide-in-FindUp.wide.items c.deref-in-FindUp.result.now
+    find_up_is (tree_in c.args.scope.now) c.args.live.now c.in_ok-wide-in-FindUp.wide.items c.deref-in-FindUp.result.now
     c.deref-in-FindUp-2.result.now c.deref-in-FindUp-3.result.now
     c.in_ok-set-in-FindUp.set.items c.in_ok-found-in-FindUp.found.items c.in_ok-column-in-FindUp.column
-    (value (searched_tree c.args.game.now c.args.variations) [] c.args.names.now (filter_tree c.args.part.now))
+    (value_in c.args.scope.now (filter_tree c.args.part.now))
     c.in_ok-wide-in-FindUp.ensures c.deref-in-FindUp.ensures.value c.deref-in-FindUp-2.ensures.value c.deref-in-FindUp-3.ensures.value
     c.in_ok-column-in-FindUp.ensures.value c.in_ok-set-in-FindUp.ensures c.in_ok-found-in-FindUp.ensures n
     (omega (arith, live_below c.args.live.now n l, c.requires.asked.count)) l)
 
 pub unary_column-returns-in_ok-start-in-Child-clause-value : goal.unary_column-returns-in_ok-start-in-Child-clause-value
 unary_column-returns-in_ok-start-in-Child-clause-value g t c = rw c.in-Child.is (λ n l.
-    child_holds_is (searched_tree c.args.game.now c.args.variations) c.args.live.now c.in_ok-wide-in-Child.wide.items c.deref-in-Child.result.now
+    child_holds_is (tree_in c.args.scope.now) c.args.live.now c.in_ok-wide-in-Child.wide.items c.deref-in-Child.result.now
     c.deref-in-Child-2.result.now c.deref-in-Child-3.result.now
-    c.in_ok-set-in-Child.set.items c.in_ok-start-in-Child.start.items c.with_parents-found.result.items
-    (length c.args.game.now.nodes) c.in_ok-column-in-Child.column
-    (value (searched_tree c.args.game.now c.args.variations) [] c.args.names.now (filter_tree c.args.part.now))
+    c.in_ok-set-in-Child.set.items c.in_ok-start-in-Child.start.items c.with_parents.result.items
+    (length c.args.scope.now.game.now.nodes) c.in_ok-column-in-Child.column
+    (value_in c.args.scope.now (filter_tree c.args.part.now))
     c.in_ok-wide-in-Child.ensures c.deref-in-Child.ensures.value c.deref-in-Child-2.ensures.value c.deref-in-Child-3.ensures.value
-    c.in_ok-column-in-Child.ensures.value c.in_ok-set-in-Child.ensures c.in_ok-start-in-Child.ensures c.with_parents-found.ensures n l)
+    c.in_ok-column-in-Child.ensures.value c.in_ok-set-in-Child.ensures c.in_ok-start-in-Child.ensures c.with_parents.ensures n l)
 
 pub unary_column-returns-in_ok-found-in-Parent-clause-value : goal.unary_column-returns-in_ok-found-in-Parent-clause-value
 unary_column-returns-in_ok-found-in-Parent-clause-value g t c = rw c.in-Parent.is (λ n l.
-    parent_holds_is (searched_tree c.args.game.now c.args.variations) c.args.live.now c.in_ok-wide-in-Parent.wide.items
+    parent_holds_is (tree_in c.args.scope.now) c.args.live.now c.in_ok-wide-in-Parent.wide.items
     c.deref-in-Parent.result.now c.deref-in-Parent-2.result.now c.deref-in-Parent-3.result.now
     c.in_ok-set-in-Parent.set.items c.in_ok-found-in-Parent.found.items c.in_ok-column-in-Parent.column
-    (value (searched_tree c.args.game.now c.args.variations) [] c.args.names.now (filter_tree c.args.part.now))
+    (value_in c.args.scope.now (filter_tree c.args.part.now))
     c.in_ok-wide-in-Parent.ensures c.deref-in-Parent.ensures.value c.deref-in-Parent-2.ensures.value c.deref-in-Parent-3.ensures.value
     c.in_ok-column-in-Parent.ensures.value c.in_ok-set-in-Parent.ensures c.in_ok-found-in-Parent.ensures n
     (omega (arith, live_below c.args.live.now n l, c.requires.asked.count)) l)
@@ -344,7 +380,7 @@ pub evaluate-returns-in-Chain-clause-value : goal.evaluate-returns-in-Chain-clau
 evaluate-returns-in-Chain-clause-value g t c =
     let f = c.args.f.now in
     subst (λ v. IfOk c.chain_column.result (λ x. IsColumn x c.args.live.now v))
-    (chain_form (searched_tree c.args.game.now c.args.variations) c.args.names.now (filter_tree f) f.at c.in-Chain.chain (filters_tree c.in-Chain.parts)
+    (chain_form (tree_in c.args.scope.now) c.args.scope.now.names.now (filter_tree f) f.at c.in-Chain.chain (filters_tree c.in-Chain.parts)
     (ap (λ form. filter_at f.at (form_tree form)) c.in-Chain.is))
     c.chain_column.ensures.value
 
@@ -352,7 +388,7 @@ pub evaluate-returns-in-Any-clause-value : goal.evaluate-returns-in-Any-clause-v
 evaluate-returns-in-Any-clause-value g t c =
     let f = c.args.f.now in
     subst (λ v. IfOk c.any_column.result (λ x. IsColumn x c.args.live.now v))
-    (any_form (searched_tree c.args.game.now c.args.variations) c.args.names.now (filter_tree f) f.at c.in-Any.kind (filters_tree c.in-Any.parts)
+    (any_form (tree_in c.args.scope.now) c.args.scope.now.names.now (filter_tree f) f.at c.in-Any.kind (filters_tree c.in-Any.parts)
     (ap (λ form. filter_at f.at (form_tree form)) c.in-Any.is))
     c.any_column.ensures.value
 
@@ -360,22 +396,22 @@ evaluate-returns-in-Any-clause-value g t c =
 
 pub played::played_truths-returns-clause-value : goal.played::played_truths-returns-clause-value
 played::played_truths-returns-clause-value g t c = λ n l.
-    let looked : ArePromoting (searched_tree c.args.game.now c.args.variations) c.is_some-promotes.result c.args.live.now c.as_slice-some.result.now
-    = subst (ArePromoting (searched_tree c.args.game.now c.args.variations) c.is_some-promotes.result c.args.live.now) (sym c.as_slice-some.ensures.value) c.in_ok-some.ensures in
-    met_is (searched_tree c.args.game.now c.args.variations) c.args.names.now c.args.played.now c.args.live.now c.as_slice-some.result.now c.is_some-promotes.result
+    let looked : ArePromoting (tree_in c.args.scope.now) c.is_some-promotes.result c.args.live.now c.as_slice-some.result.now
+    = subst (ArePromoting (tree_in c.args.scope.now) c.is_some-promotes.result c.args.live.now) (sym c.as_slice-some.ensures.value) c.in_ok-some.ensures in
+    met_is (tree_in c.args.scope.now) c.args.scope.now.names.now c.args.played.now c.args.live.now c.as_slice-some.result.now c.is_some-promotes.result
     _ _ n c.is_some-promotes.ensures looked l (c.in_ok-truths.ensures n)
-    (move_is (searched_tree c.args.game.now c.args.variations) c.args.names.now c.args.played.now c.as_slice-some.result.now c.in_ok-wide.wide.items c.deref.result.now c.deref-2.result.now
+    (move_is (tree_in c.args.scope.now) c.args.scope.now.names.now c.args.played.now c.as_slice-some.result.now c.in_ok-wide.wide.items c.deref.result.now c.deref-2.result.now
     c.in_ok-origin.origin c.in_ok-goal.goal c.in_ok-taken.taken c.in_ok-promoted.promoted c.in_ok-wide.ensures c.deref.ensures.value c.deref-2.ensures.value
     c.in_ok-origin.ensures.value c.in_ok-goal.ensures.value c.in_ok-taken.ensures.value c.in_ok-promoted.ensures.value n)
 
 pub played::written_column-returns-in_ok-column-in-Some-clause-value : goal.played::written_column-returns-in_ok-column-in-Some-clause-value
 played::written_column-returns-in_ok-column-in-Some-clause-value g t c =
-    part_is (searched_tree c.args.game.now c.args.variations) c.args.names.now c.args.live.now c.args.written.now c.in-Some.filter c.deref.result.now c.in_ok-column-in-Some.column
+    part_is (tree_in c.args.scope.now) c.args.scope.now.names.now c.args.live.now c.args.written.now c.in-Some.filter c.deref.result.now c.in_ok-column-in-Some.column
     c.in-Some.is c.deref.ensures c.in_ok-column-in-Some.ensures.value
 
 pub played::written_column-returns-in-None-clause-value : goal.played::written_column-returns-in-None-clause-value
 played::written_column-returns-in-None-clause-value g t c =
-    no_part_is (searched_tree c.args.game.now c.args.variations) c.args.names.now c.args.live.now c.args.written.now c.in-None.is
+    no_part_is (tree_in c.args.scope.now) c.args.scope.now.names.now c.args.live.now c.args.written.now c.in-None.is
 
 pub chains::columns_of-returns-in_err-push-clause-cost : goal.chains::columns_of-returns-in_err-push-clause-cost
 chains::columns_of-returns-in_err-push-clause-cost = chains.chains::columns_of-returns-in_err-push-clause-cost

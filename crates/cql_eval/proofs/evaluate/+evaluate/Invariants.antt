@@ -1,13 +1,14 @@
-use Rattle.std.specs.Prelude.{◌≡◌, ℕ, ◌<◌, get_or, [], ◌∷◌, take, drop, length, ◌+◌, ◌-◌, ◌*◌, ◌≤◌}
+use Rattle.std.specs.Prelude.{◌≡◌, ℕ, ◌<◌, get_or, [], ◌∷◌, take, drop, length, ◌+◌, ◌-◌, ◌*◌, ◌≤◌, false}
 use Rattle.cql_syntax.specs.Meaning.{value, values, term_values}
 use Rattle.cql_syntax.specs.TreeOf.{filter_tree, filter_trees, filters_tree, term_trees, part_trees, body_tree}
 use Rattle.cql_syntax.specs.Values.{holds, all_hold, intersection_of}
-use Rattle.cql_values.specs.Trees.{searched_tree}
+use Rattle.cql_eval.specs.Scopes.{tree_in}
 use Rattle.cql_eval.specs.Asked.{AreWanted}
-use Rattle.cql_eval.specs.Classes.{is_of, is_before, are_so, cost_of, IsLeft}
+use Rattle.cql_eval.specs.Classes.{all_classes, is_of, is_before, are_so, cost_of, IsLeft}
 use Rattle.cql_eval.specs.Columns.{AreAsked, Where, shown, all_shown, terms_shown}
 use Rattle.cql_eval.specs.Costs.{filter_cost, filters_cost, terms_cost, parts_cost, body_atoms, searched_len}
 use Rattle.cql_eval.specs.Covers.{AreCut, MayHave, MayHold}
+use Rattle.cql_eval.specs.Ever.{AreEver}
 use Rattle.cql_eval.specs.FlatTrees.{IsFlat, IsFlatBody}
 use Rattle.cql_eval.specs.LineAtoms.{HasRoom}
 use Rattle.cql_syntax.specs.declared.tree.Constituent.{Constituent}
@@ -20,18 +21,30 @@ use Rattle.cql_eval.proofs.evaluate.+evaluate.Given as goal
 
 abbrev pub invariant-chains::left_by-loop-class : goal.invariant-chains::left_by-loop-class
 invariant-chains::left_by-loop-class g l = record {
-  left : IsLeft (searched_tree l.game l.variations) l.live (are_so (is_before l.class) (searched_tree l.game l.variations) l.names l.want (filters_tree l.filters)) l.left.items;
-  cost : l.steps ≤ l.fn.steps + cost_of (is_before l.class) (searched_len (searched_tree l.game l.variations)) (filters_tree l.filters);
+  left : IsLeft (tree_in l.scope) l.live (are_so (is_before l.class) (tree_in l.scope) l.scope.names.now l.want (filters_tree l.filters)) l.left.items;
+  cost : l.steps ≤ l.fn.steps + cost_of (is_before l.class) (searched_len (tree_in l.scope)) (filters_tree l.filters);
   rises : l.fn.steps ≤ l.steps;
 }
 
 abbrev pub invariant-chains::ask_class-loop-filter : goal.invariant-chains::ask_class-loop-filter
 invariant-chains::ask_class-loop-filter g l = record {
   len : length l.left ≡ length l.fn.left;
-  left : IsLeft (searched_tree l.game l.variations) l.fn.left
-      (are_so (is_of l.class) (searched_tree l.game l.variations) l.names l.want (filter_trees (take l.filter-index l.filter-items))) l.left;
-  cost : l.steps + cost_of (is_of l.class) (searched_len (searched_tree l.game l.variations)) (filter_trees (drop l.filter-index l.filter-items))
-      ≤ l.fn.steps + cost_of (is_of l.class) (searched_len (searched_tree l.game l.variations)) (filter_trees l.filter-items);
+  left : IsLeft (tree_in l.scope) l.fn.left
+      (are_so (is_of l.class) (tree_in l.scope) l.scope.names.now l.want (filter_trees (take l.filter-index l.filter-items))) l.left;
+  cost : l.steps + cost_of (is_of l.class) (searched_len (tree_in l.scope)) (filter_trees (drop l.filter-index l.filter-items))
+      ≤ l.fn.steps + cost_of (is_of l.class) (searched_len (tree_in l.scope)) (filter_trees l.filter-items);
+  rises : l.fn.steps ≤ l.steps;
+  flat : (i : ℕ) (f : Filter) → i < length l.filter-items → f ≡ get_or l.filter-items i f → IsFlat (filter_tree f);
+}
+
+abbrev pub invariant-chains::ask_each-loop-filter : goal.invariant-chains::ask_each-loop-filter
+invariant-chains::ask_each-loop-filter g l = record {
+  len : length l.left ≡ length l.fn.left;
+  left : IsLeft (tree_in l.scope) l.fn.left
+      (are_so (is_before all_classes) (tree_in l.scope) l.scope.names.now false (filter_trees (take l.filter-index l.filter-items))) l.left;
+  evers : AreEver (tree_in l.scope) l.left l.evers;
+  cost : l.steps + cost_of (is_before all_classes) (searched_len (tree_in l.scope)) (filter_trees (drop l.filter-index l.filter-items))
+      ≤ l.fn.steps + cost_of (is_before all_classes) (searched_len (tree_in l.scope)) (filter_trees l.filter-items);
   rises : l.fn.steps ≤ l.steps;
   flat : (i : ℕ) (f : Filter) → i < length l.filter-items → f ≡ get_or l.filter-items i f → IsFlat (filter_tree f);
 }
@@ -39,9 +52,9 @@ invariant-chains::ask_class-loop-filter g l = record {
 abbrev pub invariant-chains::columns_of-loop-filter : goal.invariant-chains::columns_of-loop-filter
 invariant-chains::columns_of-loop-filter g l = record {
   left : Where l.live (λ n. all_shown l.columns.items n
-      ≡ values (searched_tree l.game l.variations) [] l.names (filter_trees (take l.filter-index l.filter-items)) n);
-  cost : l.steps + filters_cost (searched_len (searched_tree l.game l.variations)) (filter_trees (drop l.filter-index l.filter-items))
-      ≤ l.fn.steps + filters_cost (searched_len (searched_tree l.game l.variations)) (filter_trees l.filter-items);
+      ≡ values (tree_in l.scope) [] l.scope.names.now (filter_trees (take l.filter-index l.filter-items)) n);
+  cost : l.steps + filters_cost (searched_len (tree_in l.scope)) (filter_trees (drop l.filter-index l.filter-items))
+      ≤ l.fn.steps + filters_cost (searched_len (tree_in l.scope)) (filter_trees l.filter-items);
   rises : l.fn.steps ≤ l.steps;
   flat : (i : ℕ) (f : Filter) → i < length l.filter-items → f ≡ get_or l.filter-items i f → IsFlat (filter_tree f);
 }
@@ -49,62 +62,64 @@ invariant-chains::columns_of-loop-filter g l = record {
 abbrev pub invariant-chains::terms_of-loop-term : goal.invariant-chains::terms_of-loop-term
 invariant-chains::terms_of-loop-term g l = record {
   left : Where l.live (λ n. terms_shown l.columns.items n
-      ≡ term_values (searched_tree l.game l.variations) [] l.names (term_trees (take l.term-index l.term-items)) n);
-  cost : l.steps + terms_cost (searched_len (searched_tree l.game l.variations)) (term_trees (drop l.term-index l.term-items))
-      ≤ l.fn.steps + terms_cost (searched_len (searched_tree l.game l.variations)) (term_trees l.term-items);
+      ≡ term_values (tree_in l.scope) [] l.scope.names.now (term_trees (take l.term-index l.term-items)) n);
+  cost : l.steps + terms_cost (searched_len (tree_in l.scope)) (term_trees (drop l.term-index l.term-items))
+      ≤ l.fn.steps + terms_cost (searched_len (tree_in l.scope)) (term_trees l.term-items);
   rises : l.fn.steps ≤ l.steps;
   flat : (i : ℕ) (t : Term) → i < length l.term-items → t ≡ get_or l.term-items i t → IsFlat (filter_tree t.filter);
 }
 
 abbrev pub invariant-squares::square_truths-loop-number : goal.invariant-squares::square_truths-loop-number
 invariant-squares::square_truths-loop-number g l = record {
-  left : LeftOf (searched_tree l.game l.variations) l.live
-      (unsettled_by l.every (shown l.squares)
-      (λ n s. holds (value (searched_tree l.game l.variations) [] ((l.name, s) ∷ l.names) (filter_tree l.asked) n)) l.number) l.left.items;
-  wanted : AreWanted (shown l.squares) l.left.items l.wanted;
-  cost : l.steps + (64 - l.number) * filter_cost (searched_len (searched_tree l.game l.variations)) (filter_tree l.asked)
-      ≤ l.fn.steps + 64 * filter_cost (searched_len (searched_tree l.game l.variations)) (filter_tree l.asked);
+  left : LeftOf (tree_in l.binding.scope.now) l.live
+      (unsettled_by l.binding.every (shown l.binding.squares.now)
+      (λ n s. holds (value (tree_in l.binding.scope.now) [] ((l.binding.name.now, s) ∷ l.binding.scope.now.names.now) (filter_tree l.asked) n)) l.number) l.left.items;
+  wanted : AreWanted (shown l.binding.squares.now) l.left.items l.wanted;
+  cost : l.steps + (64 - l.number) * filter_cost (searched_len (tree_in l.binding.scope.now)) (filter_tree l.asked)
+      ≤ l.fn.steps + 64 * filter_cost (searched_len (tree_in l.binding.scope.now)) (filter_tree l.asked);
   rises : l.fn.steps ≤ l.steps;
 }
 
 abbrev pub invariant-covers::cover_all-loop-class : goal.invariant-covers::cover_all-loop-class
 invariant-covers::cover_all-loop-class g l = record {
-  cut : AreCut l.live (MayHold l.opened l.names l.name
-      (λ e n. all_hold (values (searched_tree l.game l.variations) [] e (filters_tree l.parts) n))) l.fn.sets l.sets;
+  cut : AreCut l.trial.live.now (MayHold l.trial.opened.now l.trial.scope.now.names.now l.trial.name.now
+      (λ e n. all_hold (values (tree_in l.trial.scope.now) [] e (filters_tree l.parts) n))) l.fn.sets l.sets;
   cost : l.steps ≡ l.fn.steps;
 }
 
 abbrev pub invariant-covers::cover_class-loop-part : goal.invariant-covers::cover_class-loop-part
 invariant-covers::cover_class-loop-part g l = record {
-  cut : AreCut l.live (MayHold l.opened l.names l.name
-      (λ e n. all_hold (values (searched_tree l.game l.variations) [] e (filters_tree l.parts) n))) l.fn.sets l.sets;
+  cut : AreCut l.trial.live.now (MayHold l.trial.opened.now l.trial.scope.now.names.now l.trial.name.now
+      (λ e n. all_hold (values (tree_in l.trial.scope.now) [] e (filters_tree l.parts) n))) l.fn.sets l.sets;
   cost : l.steps ≡ l.fn.steps;
   flat : (i : ℕ) (f : Filter) → i < length l.part-items → f ≡ get_or l.part-items i f → IsFlat (filter_tree f);
 }
 
 abbrev pub invariant-covers::cover_each-loop-part : goal.invariant-covers::cover_each-loop-part
 invariant-covers::cover_each-loop-part g l = record {
-  cut : AreCut l.live (MayHave l.opened l.names l.name
-      (λ e n. intersection_of (values (searched_tree l.game l.variations) [] e (filters_tree l.parts) n))) l.fn.sets l.sets;
+  cut : AreCut l.trial.live.now (MayHave l.trial.opened.now l.trial.scope.now.names.now l.trial.name.now
+      (λ e n. intersection_of (values (tree_in l.trial.scope.now) [] e (filters_tree l.parts) n))) l.fn.sets l.sets;
   cost : l.steps ≡ l.fn.steps;
   flat : (i : ℕ) (f : Filter) → i < length l.part-items → f ≡ get_or l.part-items i f → IsFlat (filter_tree f);
 }
 
 abbrev pub invariant-cover_some::add_each-loop-part : goal.invariant-cover_some::add_each-loop-part
 invariant-cover_some::add_each-loop-part g l = record {
-  added : AddedFor (searched_tree l.game l.variations) l.live l.opened l.names l.name l.part-items l.part-index l.sets l.fn.kept l.kept;
+  added : AddedFor (tree_in l.trial.scope.now) l.trial.live.now l.trial.opened.now l.trial.scope.now.names.now l.trial.name.now l.part-items
+      l.part-index l.sets l.fn.kept l.kept;
   cost : l.steps ≡ l.fn.steps;
   flat : (i : ℕ) (f : Filter) → i < length l.part-items → f ≡ get_or l.part-items i f → IsFlat (filter_tree f);
 }
 
-abbrev pub invariant-lines::put_parts-loop-part : goal.invariant-lines::put_parts-loop-part
-invariant-lines::put_parts-loop-part g l = record {
-  table : TableSoFar (searched_tree l.game l.variations) l.back l.names l.first l.part-items l.part-index l.at l.live l.starts.items l.fn.met l.met l.fn.table l.table;
-  asked : AreAsked (searched_tree l.game l.variations) l.starts.items;
-  cost : l.steps + parts_cost (searched_len (searched_tree l.game l.variations)) (part_trees (drop l.part-index l.part-items))
-      ≤ l.fn.steps + parts_cost (searched_len (searched_tree l.game l.variations)) (part_trees l.part-items);
+abbrev pub invariant-lines::put_row-loop-part : goal.invariant-lines::put_row-loop-part
+invariant-lines::put_row-loop-part g l = record {
+  table : TableSoFar (tree_in l.way.scope.now) l.way.back l.way.scope.now.names.now l.first l.part-items l.part-index l.at l.live l.starts.items
+      l.fn.row.met l.row.met l.fn.row.table l.row.table;
+  asked : AreAsked (tree_in l.way.scope.now) l.starts.items;
+  cost : l.steps + parts_cost (searched_len (tree_in l.way.scope.now)) (part_trees (drop l.part-index l.part-items))
+      ≤ l.fn.steps + parts_cost (searched_len (tree_in l.way.scope.now)) (part_trees l.part-items);
   rises : l.fn.steps ≤ l.steps;
   flat : (i : ℕ) (c : Constituent) → i < length l.part-items → c ≡ get_or l.part-items i c → IsFlatBody (body_tree c.body);
   room : (c : Constituent) → l.part-index < length l.part-items → c ≡ get_or l.part-items l.part-index c
-      → HasRoom (length l.game.nodes) l.at (l.at + body_atoms (body_tree c.body)) l.table;
+      → HasRoom (length l.way.scope.now.game.now.nodes) l.at (l.at + body_atoms (body_tree c.body)) l.row.table;
 }

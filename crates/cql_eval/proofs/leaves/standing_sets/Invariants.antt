@@ -7,4 +7,4 @@ use Rattle.cql_eval.proofs.Filling.{FilledTo}
 use Rattle.cql_eval.proofs.leaves.standing_sets.Given as goal
 
 abbrev pub invariant-loop-n : goal.invariant-loop-n
-invariant-loop-n l = FilledTo (λ set. meant (Set set)) 0 l.live (λ n. standing_of (node_at l.game.nodes n).position.men (Some l.d)) l.end l.n l.sets.items
+invariant-loop-n l = FilledTo (λ set. meant (Set set)) 0 l.live (λ n. standing_of (node_at l.scope.game.now.nodes n).position.men (Some l.d)) l.end l.n l.sets.items

@@ -1,10 +1,10 @@
 use Rattle.cql_syntax.specs.Meaning.{word_of}
 use Rattle.cql_values.specs.Shown.{meant}
 use Rattle.cql_values.specs.declared.value.Value.TheVariants.{Truth}
-use Rattle.cql_values.specs.Trees.{searched_tree}
+use Rattle.cql_eval.specs.Scopes.{tree_in}
 use Rattle.std.specs.Prelude.{false}
 use Rattle.cql_eval.proofs.Filling.{FilledTo}
 use Rattle.cql_eval.proofs.leaves.values_one_by_one.Given as goal
 
 abbrev pub invariant-loop-n : goal.invariant-loop-n
-invariant-loop-n l = FilledTo meant (Truth false) l.live (word_of (searched_tree l.game l.variations) l.word) l.end l.n l.values.items
+invariant-loop-n l = FilledTo meant (Truth false) l.live (word_of (tree_in l.scope) l.word) l.end l.n l.values.items

@@ -1,19 +1,19 @@
 use Rattle.std.proofs.Common.{◌∙◌}
-use Rattle.cql_values.specs.Trees.{searched_tree}
+use Rattle.cql_eval.specs.Scopes.{tree_in}
 use Rattle.cql_eval.proofs.LinesLaw.{parent_in, searched_in, spots_more}
 use Rattle.cql_eval.proofs.patterns.push_node.Goals as goal
 
 pub push-requires-clause-parent : goal.push-requires-clause-parent
 push-requires-clause-parent c =
-    parent_in (searched_tree c.args.game.now c.args.variations) c.args.k _ _ c.requires.tree c.requires.before c.parent.ensures.value
+    parent_in (tree_in c.args.scope.now) c.args.k _ _ c.requires.tree c.requires.before c.parent.ensures.value
 
 pub push-requires-clause-searched : goal.push-requires-clause-searched
 push-requires-clause-searched c =
-    searched_in (searched_tree c.args.game.now c.args.variations) c.args.k _ _ _ c.requires.tree c.requires.before c.parent.ensures.value
+    searched_in (tree_in c.args.scope.now) c.args.k _ _ _ c.requires.tree c.requires.before c.parent.ensures.value
     c.is_searched-searched.ensures
 
 pub returns-clause-more : goal.returns-clause-more
 returns-clause-more c =
     c.in_ok-push.ensures.more
-    ∙ spots_more (searched_tree c.args.game.now c.args.variations) c.args.k _ _ _ _ c.requires.before c.parent.ensures.value c.is_searched-searched.ensures
+    ∙ spots_more (tree_in c.args.scope.now) c.args.k _ _ _ _ c.requires.before c.parent.ensures.value c.is_searched-searched.ensures
     c.is_first_child-first.ensures

@@ -9,11 +9,11 @@ use Rattle.cql_eval.proofs.query.columns_of.Given as goal
 
 abbrev pub invariant-loop-item : goal.invariant-loop-item
 invariant-loop-item g l = record {
-  items : IsLeft (searched_tree l.game l.variations) l.live
-      (sorted_so (searched_tree l.game l.variations) (filters_tree l.query.items) l.item-items l.item-index) l.left.items;
-  keys : RowsSoFar (searched_tree l.game l.variations) l.item-items l.item-index l.left.items (map (λ row. row.items) l.keys.items);
-  most : l.steps + cost_of (is_of 5) (searched_len (searched_tree l.game l.variations)) (filter_trees (drop l.item-index l.item-items))
-      ≤ l.fn.steps + cost_of (is_before 5) (searched_len (searched_tree l.game l.variations)) (filters_tree l.query.items)
-      + cost_of (is_of 5) (searched_len (searched_tree l.game l.variations)) (filter_trees l.item-items);
+  items : IsLeft (searched_tree l.game l.query.variations) l.live
+      (sorted_so (searched_tree l.game l.query.variations) (filters_tree l.query.items) l.item-items l.item-index) l.left.items;
+  keys : RowsSoFar (searched_tree l.game l.query.variations) l.item-items l.item-index l.left.items (map (λ row. row.items) l.keys.items);
+  most : l.steps + cost_of (is_of 5) (searched_len (searched_tree l.game l.query.variations)) (filter_trees (drop l.item-index l.item-items))
+      ≤ l.fn.steps + cost_of (is_before 5) (searched_len (searched_tree l.game l.query.variations)) (filters_tree l.query.items)
+      + cost_of (is_of 5) (searched_len (searched_tree l.game l.query.variations)) (filter_trees l.item-items);
   least : l.fn.steps ≤ l.steps;
 }

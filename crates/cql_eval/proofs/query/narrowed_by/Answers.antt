@@ -2,44 +2,44 @@ use Rattle.std.proofs.Common.{[], ◌∙◌, ap, sym, subst}
 use Rattle.cql_syntax.specs.Meaning.{value}
 use Rattle.cql_syntax.specs.TreeOf.{filter_tree, form_tree}
 use Rattle.cql_syntax.specs.Trees.{filter_at}
-use Rattle.cql_values.specs.Trees.{searched_tree}
+use Rattle.cql_eval.specs.Scopes.{tree_in}
 use Rattle.cql_eval.specs.Columns.{IsColumn}
 use Rattle.cql_eval.proofs.HitsLaw.{item_each, row_is, sort_asked, sort_form, sort_each, sort_keys}
 use Rattle.cql_eval.proofs.query.narrowed_by.Goals as goal
 
 pub returns-in_ok-later-in-Sort-clause-asked : goal.returns-in_ok-later-in-Sort-clause-asked
 returns-in_ok-later-in-Sort-clause-asked g c =
-    sort_asked (searched_tree c.args.game.now c.args.variations) c.args.left.now c.in_ok-later-in-Sort.later.items c.in_ok-column-in-Sort.column c.requires.left c.in_ok-later-in-Sort.ensures
+    sort_asked (tree_in c.args.scope.now) c.args.left.now c.in_ok-later-in-Sort.later.items c.in_ok-column-in-Sort.column c.requires.left c.in_ok-later-in-Sort.ensures
 
 pub returns-in_ok-later-in-Sort-clause-each : goal.returns-in_ok-later-in-Sort-clause-each
 returns-in_ok-later-in-Sort-clause-each g c =
-    sort_each (searched_tree c.args.game.now c.args.variations) c.args.asked.now c.args.left.now c.in_ok-later-in-Sort.later.items c.in_ok-column-in-Sort.column (filter_tree c.args.item.now)
+    sort_each (tree_in c.args.scope.now) c.args.asked.now c.args.left.now c.in_ok-later-in-Sort.later.items c.in_ok-column-in-Sort.column (filter_tree c.args.item.now)
     (filter_tree c.deref.result.now) c.args.item.now.at _ _
     (ap (filter_at c.args.item.now.at) (sort_form _ _ _ _ _ (ap form_tree c.in-Sort.is) (ap filter_tree (sym c.deref.ensures))))
     c.requires.within
-    (subst (λ e. IsColumn c.in_ok-column-in-Sort.column c.args.asked.now (value (searched_tree c.args.game.now c.args.variations) [] e (filter_tree c.deref.result.now))) c.requires.names
+    (subst (λ e. IsColumn c.in_ok-column-in-Sort.column c.args.asked.now (value (tree_in c.args.scope.now) [] e (filter_tree c.deref.result.now))) c.requires.names
     c.in_ok-column-in-Sort.ensures.value)
     c.in_ok-later-in-Sort.ensures
 
 pub returns-in_ok-later-in-Sort-clause-keys : goal.returns-in_ok-later-in-Sort-clause-keys
 returns-in_ok-later-in-Sort-clause-keys g c =
-    sort_keys (λ row. row.items) (searched_tree c.args.game.now c.args.variations) c.args.asked.now _ _ c.in_ok-row-in-Sort.row (filter_tree c.args.item.now) (filter_tree c.deref.result.now)
+    sort_keys (λ row. row.items) (tree_in c.args.scope.now) c.args.asked.now _ _ c.in_ok-row-in-Sort.row (filter_tree c.args.item.now) (filter_tree c.deref.result.now)
     c.args.item.now.at _ _
     (ap (filter_at c.args.item.now.at) (sort_form _ _ _ _ _ (ap form_tree c.in-Sort.is) (ap filter_tree (sym c.deref.ensures))))
     c.in_ok-push-in-Sort.ensures.items
     (c.in_ok-row-in-Sort.ensures
-    ∙ row_is (searched_tree c.args.game.now c.args.variations) c.args.asked.now c.in_ok-column-in-Sort.column (filter_tree c.deref.result.now) c.requires.asked
-    (subst (λ e. IsColumn c.in_ok-column-in-Sort.column c.args.asked.now (value (searched_tree c.args.game.now c.args.variations) [] e (filter_tree c.deref.result.now))) c.requires.names
+    ∙ row_is (tree_in c.args.scope.now) c.args.asked.now c.in_ok-column-in-Sort.column (filter_tree c.deref.result.now) c.requires.asked
+    (subst (λ e. IsColumn c.in_ok-column-in-Sort.column c.args.asked.now (value (tree_in c.args.scope.now) [] e (filter_tree c.deref.result.now))) c.requires.names
     c.in_ok-column-in-Sort.ensures.value))
 
 pub returns-in_ok-later-in_default-clause-asked : goal.returns-in_ok-later-in_default-clause-asked
 returns-in_ok-later-in_default-clause-asked g c =
-    c.in_ok-later-in_default.ensures.asked (searched_tree c.args.game.now c.args.variations) c.requires.left
+    c.in_ok-later-in_default.ensures.asked (tree_in c.args.scope.now) c.requires.left
 
 pub returns-in_ok-later-in_default-clause-each : goal.returns-in_ok-later-in_default-clause-each
 returns-in_ok-later-in_default-clause-each g c =
     item_each c.args.left.now c.in_ok-later-in_default.later.items c.in_ok-column-in_default.column
-    (value (searched_tree c.args.game.now c.args.variations) [] [] (filter_tree c.args.item.now))
-    (subst (λ e. IsColumn c.in_ok-column-in_default.column c.args.left.now (value (searched_tree c.args.game.now c.args.variations) [] e (filter_tree c.args.item.now)))
+    (value (tree_in c.args.scope.now) [] [] (filter_tree c.args.item.now))
+    (subst (λ e. IsColumn c.in_ok-column-in_default.column c.args.left.now (value (tree_in c.args.scope.now) [] e (filter_tree c.args.item.now)))
     c.requires.names c.in_ok-column-in_default.ensures.value)
     c.in_ok-later-in_default.ensures

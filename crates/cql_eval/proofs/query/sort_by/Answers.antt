@@ -2,7 +2,7 @@ use Rattle.std.proofs.Common.{[], ◌∙◌, ap, sym, subst}
 use Rattle.cql_syntax.specs.Meaning.{value}
 use Rattle.cql_syntax.specs.TreeOf.{filter_tree, form_tree}
 use Rattle.cql_syntax.specs.Trees.{filter_at}
-use Rattle.cql_values.specs.Trees.{searched_tree}
+use Rattle.cql_eval.specs.Scopes.{tree_in}
 use Rattle.cql_eval.specs.Columns.{IsColumn}
 use Rattle.cql_eval.proofs.HitsLaw.{row_is, sort_form, sort_keys}
 use Rattle.cql_eval.proofs.SortsLaw.{sorted_one}
@@ -10,21 +10,21 @@ use Rattle.cql_eval.proofs.query.sort_by.Goals as goal
 
 pub returns-in_ok-push-in-Sort-clause-left : goal.returns-in_ok-push-in-Sort-clause-left
 returns-in_ok-push-in-Sort-clause-left g c =
-    sorted_one (searched_tree c.args.game.now c.args.variations) c.args.left.now c.keep_numbered.new.left c.in_ok-column-in-Sort.column (filter_tree c.args.item.now)
+    sorted_one (tree_in c.args.scope.now) c.args.left.now c.keep_numbered.new.left c.in_ok-column-in-Sort.column (filter_tree c.args.item.now)
     (filter_tree c.deref.result.now) c.args.item.now.at _ _
     (ap (filter_at c.args.item.now.at) (sort_form _ _ _ _ _ (ap form_tree c.in-Sort.is) (ap filter_tree (sym c.deref.ensures))))
     c.requires.asked
-    (subst (λ e. IsColumn c.in_ok-column-in-Sort.column c.args.left.now (value (searched_tree c.args.game.now c.args.variations) [] e (filter_tree c.deref.result.now))) c.requires.names
+    (subst (λ e. IsColumn c.in_ok-column-in-Sort.column c.args.left.now (value (tree_in c.args.scope.now) [] e (filter_tree c.deref.result.now))) c.requires.names
     c.in_ok-column-in-Sort.ensures.value)
     c.keep_numbered.ensures.nodes
 
 pub returns-in_ok-push-in-Sort-clause-keys : goal.returns-in_ok-push-in-Sort-clause-keys
 returns-in_ok-push-in-Sort-clause-keys g c =
-    sort_keys (λ row. row.items) (searched_tree c.args.game.now c.args.variations) c.args.left.now _ _ c.in_ok-row-in-Sort.row (filter_tree c.args.item.now) (filter_tree c.deref.result.now)
+    sort_keys (λ row. row.items) (tree_in c.args.scope.now) c.args.left.now _ _ c.in_ok-row-in-Sort.row (filter_tree c.args.item.now) (filter_tree c.deref.result.now)
     c.args.item.now.at _ _
     (ap (filter_at c.args.item.now.at) (sort_form _ _ _ _ _ (ap form_tree c.in-Sort.is) (ap filter_tree (sym c.deref.ensures))))
     c.in_ok-push-in-Sort.ensures.items
     (c.in_ok-row-in-Sort.ensures
-    ∙ row_is (searched_tree c.args.game.now c.args.variations) c.args.left.now c.in_ok-column-in-Sort.column (filter_tree c.deref.result.now) c.requires.asked
-    (subst (λ e. IsColumn c.in_ok-column-in-Sort.column c.args.left.now (value (searched_tree c.args.game.now c.args.variations) [] e (filter_tree c.deref.result.now))) c.requires.names
+    ∙ row_is (tree_in c.args.scope.now) c.args.left.now c.in_ok-column-in-Sort.column (filter_tree c.deref.result.now) c.requires.asked
+    (subst (λ e. IsColumn c.in_ok-column-in-Sort.column c.args.left.now (value (tree_in c.args.scope.now) [] e (filter_tree c.deref.result.now))) c.requires.names
     c.in_ok-column-in-Sort.ensures.value))

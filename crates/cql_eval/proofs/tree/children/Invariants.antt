@@ -5,4 +5,4 @@ use Rattle.cql_eval.proofs.Filling.{ToldTo}
 use Rattle.cql_eval.proofs.tree.children.Given as goal
 
 abbrev pub invariant-loop-k : goal.invariant-loop-k
-invariant-loop-k l = ToldTo (λ k. is_searched l.variations l.game.nodes k && flag_of l.live (node_at l.game.nodes k).parent) (length l.game.nodes) l.k l.wide.items
+invariant-loop-k l = ToldTo (λ k. is_searched l.scope.variations l.scope.game.now.nodes k && flag_of l.live (node_at l.scope.game.now.nodes k).parent) (length l.scope.game.now.nodes) l.k l.wide.items

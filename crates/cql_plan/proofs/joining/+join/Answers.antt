@@ -1,9 +1,11 @@
 use Rattle.std.proofs.Common.{◌≡◌, ◌∙◌, rules, sym, ap, refl, arith}
-use Rattle.std.proofs.lemmas.Result.{on_ok_weaker}
+use Rattle.std.proofs.lemmas.Result.{IfOk-weaker, on_ok_weaker}
 use Rattle.cql_syntax.specs.TreeOf.{filter_tree, form_tree, filters_tree}
 use Rattle.cql_syntax.specs.Trees.{filter_at, unary, any}
 use Rattle.cql_syntax.specs.declared.leaves.Kind.TheVariants.{Position, Set}
+use Rattle.cql_plan.specs.Joined.{StandsFor}
 use Rattle.cql_plan.proofs.Gathered.{gathered_none, gathered_instead, gathered_step, gathered_end, inside_gathered}
+use Rattle.cql_plan.proofs.InEach.{stands_after}
 use Rattle.cql_plan.proofs.Standing.{all_begun, all_step, all_end, unary_stands, chain_stands, any_stands, no_number, set_no_number}
 use Rattle.cql_plan.proofs.joining.+join.Goals as goal
 
@@ -46,11 +48,16 @@ joined_one-returns-in_ok-parts-in-Chain t c =
 
 pub joined_one-returns-in_ok-members-in-Any-Position-default : goal.joined_one-returns-in_ok-members-in-Any-Position-default
 joined_one-returns-in_ok-members-in-Any-Position-default t c =
+    let f = filter_tree c.args.f.now in
     let parts = filters_tree c.in-Any-Position-default.parts in
+    let members = filters_tree c.in_ok-members-in-Any-Position-default.members in
+    let whole = filter_at c.args.f.now.at (any Position members) in
     let kind : c.in-Any-Position-default.field-0 ≡ Position = search rules in
-    any_stands (filter_tree c.args.f.now) _ c.args.f.now.at Position parts (filters_tree c.in_ok-members-in-Any-Position-default.members)
+    let first = any_stands f whole c.args.f.now.at Position parts members
     (ap (filter_at c.args.f.now.at) (ap form_tree c.in-Any-Position-default.is ∙ ap (λ k. any k parts) kind)) refl no_number
-    c.in_ok-members-in-Any-Position-default.ensures
+    c.in_ok-members-in-Any-Position-default.ensures in
+    IfOk-weaker c.any_of.result (λ g. StandsFor whole (filter_tree g)) (λ g. StandsFor f (filter_tree g))
+    (λ g then. stands_after f whole (filter_tree g) first then) c.any_of.ensures
 
 pub joined_one-returns-in_ok-members-in-Any-Set-default : goal.joined_one-returns-in_ok-members-in-Any-Set-default
 joined_one-returns-in_ok-members-in-Any-Set-default t c =

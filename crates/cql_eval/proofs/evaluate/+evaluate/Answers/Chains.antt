@@ -1,66 +1,141 @@
 -- What is answered of chains, in the recursion over filters.
-use Rattle.std.proofs.Common.{◌+◌, ◌∙◌, sym, subst, arith, refl, true}
+use Rattle.std.proofs.Common.{◌+◌, ◌∙◌, sym, subst, arith, refl, true, false}
 use Rattle.cql_syntax.specs.TreeOf.{filter_tree, filters_tree, terms_tree}
-use Rattle.cql_values.specs.Trees.{searched_tree}
-use Rattle.cql_eval.proofs.ClassLaw.{left_taken, left_passed, cost_taken, is_left_begun, is_left_then, is_left_same, so_begun, so_more, so_whole, so_none, so_all, so_no, class_left, class_end, truth_left, class_cost_more, class_cost_within, cost_next, cost_later, cost_all}
-use Rattle.cql_eval.specs.Classes.{is_of, is_before, are_so, IsLeft}
+use Rattle.cql_eval.specs.Scopes.{tree_in}
+use Rattle.cql_eval.proofs.ClassLaw.{left_taken, left_passed, cost_taken, is_left_begun, is_left_then, is_left_same, so_begun, so_more, so_whole, so_none, so_all, so_no, class_left, class_end, truth_left, class_cost_more, class_cost_within, class_low, cost_next, cost_later, cost_all}
+use Rattle.cql_eval.specs.Classes.{all_classes, is_of, is_before, are_so, IsLeft}
 use Rattle.cql_eval.specs.Costs.{searched_len}
 use Rattle.cql_eval.proofs.Costing.{cost_more, cost_within, terms_cost_more, terms_cost_within}
+use Rattle.cql_eval.proofs.EverLaw.{ever_fewer, left_unasked}
 use Rattle.cql_eval.proofs.Gathering.{columns_begun, columns_more, columns_all, terms_begun, terms_more, terms_all}
 use Rattle.cql_eval.proofs.FlatLaw.{filter_flat, term_flat}
 use Rattle.cql_eval.proofs.evaluate.+evaluate.Goals as goal
 
 pub chains::all_hold-returns-clause-value : goal.chains::all_hold-returns-clause-value
 chains::all_hold-returns-clause-value g t c = λ n l.
-    truth_left c.args.live.now c.in_ok-left.left.items _ _ (searched_tree c.args.game.now c.args.variations) c.in_ok-left.ensures.left
-    (so_all (searched_tree c.args.game.now c.args.variations) c.args.names.now true (filters_tree c.args.filters.now)) n l
+    truth_left c.args.live.now c.in_ok-left.left.items _ _ (tree_in c.args.scope.now) c.in_ok-left.ensures.left
+    (so_all (tree_in c.args.scope.now) c.args.scope.now.names.now true (filters_tree c.args.filters.now)) n l
 
 pub chains::all_hold-returns-clause-cost : goal.chains::all_hold-returns-clause-cost
-chains::all_hold-returns-clause-cost g t c = omega (arith, c.left_by.ensures.cost, cost_all (searched_len (searched_tree c.args.game.now c.args.variations)) (filters_tree c.args.filters.now))
+chains::all_hold-returns-clause-cost g t c = omega (arith, c.left_by.ensures.cost, cost_all (searched_len (tree_in c.args.scope.now)) (filters_tree c.args.filters.now))
 
 pub chains::all_hold-returns-in_err-left-clause-cost : goal.chains::all_hold-returns-in_err-left-clause-cost
 chains::all_hold-returns-in_err-left-clause-cost g t c =
-    omega (arith, c.left_by.ensures.cost, cost_all (searched_len (searched_tree c.args.game.now c.args.variations)) (filters_tree c.args.filters.now))
+    omega (arith, c.left_by.ensures.cost, cost_all (searched_len (tree_in c.args.scope.now)) (filters_tree c.args.filters.now))
 
 pub chains::none_holds-returns-clause-value : goal.chains::none_holds-returns-clause-value
 chains::none_holds-returns-clause-value g t c = λ n l.
-    truth_left c.args.live.now c.in_ok-left.left.items _ _ (searched_tree c.args.game.now c.args.variations) c.in_ok-left.ensures.left
-    (so_no (searched_tree c.args.game.now c.args.variations) c.args.names.now (filters_tree c.args.filters.now)) n l
+    truth_left c.args.live.now c.in_ok-left.left.items _ _ (tree_in c.args.scope.now) c.in_ok-left.ensures.left
+    (so_no (tree_in c.args.scope.now) c.args.scope.now.names.now (filters_tree c.args.filters.now)) n l
 
 pub chains::none_holds-returns-clause-cost : goal.chains::none_holds-returns-clause-cost
-chains::none_holds-returns-clause-cost g t c = omega (arith, c.left_by.ensures.cost, cost_all (searched_len (searched_tree c.args.game.now c.args.variations)) (filters_tree c.args.filters.now))
+chains::none_holds-returns-clause-cost g t c = omega (arith, c.left_by.ensures.cost, cost_all (searched_len (tree_in c.args.scope.now)) (filters_tree c.args.filters.now))
 
 pub chains::none_holds-returns-in_err-left-clause-cost : goal.chains::none_holds-returns-in_err-left-clause-cost
 chains::none_holds-returns-in_err-left-clause-cost g t c =
-    omega (arith, c.left_by.ensures.cost, cost_all (searched_len (searched_tree c.args.game.now c.args.variations)) (filters_tree c.args.filters.now))
+    omega (arith, c.left_by.ensures.cost, cost_all (searched_len (tree_in c.args.scope.now)) (filters_tree c.args.filters.now))
+
+pub chains::no_member_holds-returns-then-is_large-clause-value : goal.chains::no_member_holds-returns-then-is_large-clause-value
+chains::no_member_holds-returns-then-is_large-clause-value g t c = λ n l.
+    truth_left c.args.live.now c.in_ok-left.left.items _ _ (tree_in c.args.scope.now) c.in_ok-left.ensures.left
+    (so_no (tree_in c.args.scope.now) c.args.scope.now.names.now (filters_tree c.args.members.now)) n l
+
+pub chains::no_member_holds-returns-then-is_large-clause-cost : goal.chains::no_member_holds-returns-then-is_large-clause-cost
+chains::no_member_holds-returns-then-is_large-clause-cost g t c =
+    omega (arith, c.left_by_each.ensures.cost, cost_all (searched_len (tree_in c.args.scope.now)) (filters_tree c.args.members.now))
+
+pub chains::no_member_holds-returns-in_err-left-clause-cost : goal.chains::no_member_holds-returns-in_err-left-clause-cost
+chains::no_member_holds-returns-in_err-left-clause-cost g t c =
+    omega (arith, c.left_by_each.ensures.cost, cost_all (searched_len (tree_in c.args.scope.now)) (filters_tree c.args.members.now))
+
+pub chains::ask_each-loop-filter-init : goal.chains::ask_each-loop-filter-init
+chains::ask_each-loop-filter-init g t c = record {
+  len = refl;
+  left = is_left_begun (tree_in c.args.scope.now) c.args.left.now c.args.left.now _ c.requires.asked refl
+      (so_begun (is_before all_classes) (tree_in c.args.scope.now) c.args.scope.now.names.now false c.as_slice-filter-items.result.now);
+  evers = c.requires.evers;
+  cost = omega arith;
+  rises = omega arith;
+  flat = λ i f h e. filter_flat c.as_slice-filter-items.result.now i f (filters_tree c.args.filters.now) h e c.as_slice-filter-items.ensures.tree c.requires.flat;
+}
+
+pub chains::ask_each-loop-filter-preserved : goal.chains::ask_each-loop-filter-preserved
+chains::ask_each-loop-filter-preserved g t c = record {
+  len = c.ask_unless.ensures.len ∙ c.loop-filter.invariant.len;
+  left = is_left_then (tree_in c.args.scope.now) c.args.left.now c.loop-filter.left c.ask_unless.new.left _ _ _ c.loop-filter.invariant.left c.in_ok-ask_unless.ensures.left
+      (λ n. so_more (is_before all_classes)
+      (tree_in c.args.scope.now) c.args.scope.now.names.now false c.as_slice-filter-items.result.now c.loop-filter.filter-index
+      c.filter-item.result n c.loop-filter-test.true c.filter-item.is);
+  evers = ever_fewer (tree_in c.args.scope.now) c.loop-filter.left c.ask_unless.new.left _ c.args.evers.now c.in_ok-ask_unless.ensures.left c.loop-filter.invariant.evers;
+  cost = class_cost_more (is_before all_classes) (searched_len (tree_in c.args.scope.now)) c.as_slice-filter-items.result.now c.loop-filter.filter-index c.filter-item.result
+      _ c.loop-filter.steps c.ask_unless.new.steps
+      c.loop-filter-test.true c.filter-item.is c.loop-filter.invariant.cost c.ask_unless.ensures.cost;
+  rises = omega (arith, c.loop-filter.invariant.rises, c.ask_unless.ensures.rises);
+  flat = c.loop-filter.invariant.flat;
+}
+
+pub chains::ask_each-returns-clause-left : goal.chains::ask_each-returns-clause-left
+chains::ask_each-returns-clause-left g t c =
+    is_left_same (tree_in c.args.scope.now) c.args.left.now c.loop-filter.left _ _
+    (λ n. so_whole (is_before all_classes)
+    (tree_in c.args.scope.now) c.args.scope.now.names.now false c.as_slice-filter-items.result.now c.loop-filter.filter-index
+    (filters_tree c.args.filters.now) n (omega (arith, c.loop-filter-test.false)) c.as_slice-filter-items.ensures.tree)
+    c.loop-filter.invariant.left
+
+pub chains::ask_each-returns-in_err-ask_unless-clause-cost : goal.chains::ask_each-returns-in_err-ask_unless-clause-cost
+chains::ask_each-returns-in_err-ask_unless-clause-cost g t c =
+    class_cost_within (is_before all_classes)
+    (searched_len (tree_in c.args.scope.now)) c.as_slice-filter-items.result.now c.loop-filter.filter-index c.filter-item.result _ c.loop-filter.steps c.ask_unless.new.steps
+    (filters_tree c.args.filters.now)
+    c.loop-filter-test.true c.filter-item.is c.loop-filter.invariant.cost c.ask_unless.ensures.cost c.as_slice-filter-items.ensures.tree
+
+pub chains::ask_unless-returns-then-holds_nowhere-clause-left : goal.chains::ask_unless-returns-then-holds_nowhere-clause-left
+chains::ask_unless-returns-then-holds_nowhere-clause-left g t c =
+    left_unasked (tree_in c.args.scope.now) c.args.scope.now.names.now (filter_tree c.args.filter.now) c.args.left.now c.requires.asked
+    (c.holds_nowhere.ensures c.if-holds_nowhere.true (tree_in c.args.scope.now) c.args.left.now c.args.scope.now.names.now c.requires.evers)
+
+pub chains::ask_unless-returns-clause-left : goal.chains::ask_unless-returns-clause-left
+chains::ask_unless-returns-clause-left g t c =
+    left_taken (is_before all_classes) (tree_in c.args.scope.now) c.args.scope.now.names.now false
+    (filter_tree c.args.filter.now) c.args.left.now c.narrow.new.left c.in_ok-column.column
+    (class_low (filter_tree c.args.filter.now)) c.requires.asked c.in_ok-column.ensures.value c.narrow.ensures.nodes
+
+pub chains::ask_unless-returns-clause-cost : goal.chains::ask_unless-returns-clause-cost
+chains::ask_unless-returns-clause-cost g t c =
+    cost_taken (is_before all_classes) (searched_len (tree_in c.args.scope.now)) (filter_tree c.args.filter.now) _ _ (class_low (filter_tree c.args.filter.now)) c.evaluate.ensures.cost
+
+pub chains::ask_unless-returns-in_err-column-clause-cost : goal.chains::ask_unless-returns-in_err-column-clause-cost
+chains::ask_unless-returns-in_err-column-clause-cost g t c =
+    cost_taken (is_before all_classes) (searched_len (tree_in c.args.scope.now)) (filter_tree c.args.filter.now) _ _ (class_low (filter_tree c.args.filter.now)) c.evaluate.ensures.cost
 
 pub chains::left_by-loop-class-init : goal.chains::left_by-loop-class-init
 chains::left_by-loop-class-init g t c = record {
-  left = is_left_begun (searched_tree c.args.game.now c.args.variations) c.args.live.now c.in_ok-left.left.items _ c.requires.asked c.in_ok-left.ensures
-      (so_none (searched_tree c.args.game.now c.args.variations) c.args.names.now c.args.want (filters_tree c.args.filters.now));
+  left = is_left_begun (tree_in c.args.scope.now) c.args.live.now c.in_ok-left.left.items _ c.requires.asked c.in_ok-left.ensures
+      (so_none (tree_in c.args.scope.now) c.args.scope.now.names.now c.args.want (filters_tree c.args.filters.now));
   cost = omega arith;
   rises = omega arith;
 }
 
 pub chains::left_by-loop-class-preserved : goal.chains::left_by-loop-class-preserved
 chains::left_by-loop-class-preserved g t c = record {
-  left = class_left (searched_tree c.args.game.now c.args.variations) c.args.names.now c.args.want c.loop-class.class
+  left = class_left (tree_in c.args.scope.now) c.args.scope.now.names.now c.args.want c.loop-class.class
       (filters_tree c.args.filters.now) c.args.live.now c.loop-class.left.items c.deref_mut.result.now c.ask_class.new.left
-      c.loop-class.left.len (omega (arith, c.ask_class.ensures.len, c.deref_mut.ensures.len)) c.deref_mut.ensures.value c.loop-class.invariant.left c.in_ok-ask_class.ensures.left;
+      c.loop-class.left.len (omega (arith, c.ask_class.ensures.len, c.deref_mut.ensures.len)) c.deref_mut.ensures.value c.loop-class.invariant.left
+      c.in_ok-ask_class.ensures.left;
   cost = omega (
     arith,
     c.loop-class.invariant.cost,
     c.ask_class.ensures.cost,
-    cost_next (searched_len (searched_tree c.args.game.now c.args.variations)) c.loop-class.class (filters_tree
-        c.args.filters.now),
+    cost_next (searched_len (tree_in c.args.scope.now)) c.loop-class.class
+        (filters_tree c.args.filters.now),
   );
   rises = omega (arith, c.loop-class.invariant.rises, c.ask_class.ensures.rises);
 }
 
 pub chains::left_by-returns-clause-left : goal.chains::left_by-returns-clause-left
 chains::left_by-returns-clause-left g t c =
-    subst (λ k. IsLeft (searched_tree c.args.game.now c.args.variations) c.args.live.now
-    (are_so (is_before k) (searched_tree c.args.game.now c.args.variations) c.args.names.now c.args.want (filters_tree c.args.filters.now)) c.loop-class.left.items)
+    subst (λ k. IsLeft (tree_in c.args.scope.now) c.args.live.now
+    (are_so (is_before k) (tree_in c.args.scope.now) c.args.scope.now.names.now c.args.want (filters_tree c.args.filters.now)) c.loop-class.left.items)
     (class_end c.loop-class.class c.args.past (omega (arith, c.loop-class-test.false)) (omega (arith, c.loop-class.auto.class-end))) c.loop-class.invariant.left
 
 pub chains::left_by-returns-clause-cost : goal.chains::left_by-returns-clause-cost
@@ -68,7 +143,7 @@ chains::left_by-returns-clause-cost g t c =
     omega (
       arith,
       c.loop-class.invariant.cost,
-      cost_later (searched_len (searched_tree c.args.game.now c.args.variations)) c.loop-class.class c.args.past (filters_tree c.args.filters.now)
+      cost_later (searched_len (tree_in c.args.scope.now)) c.loop-class.class c.args.past (filters_tree c.args.filters.now)
           (omega (arith, c.loop-class.auto.class-end)),
     )
 
@@ -78,15 +153,15 @@ chains::left_by-returns-in_err-ask_class-clause-cost g t c =
       arith,
       c.loop-class.invariant.cost,
       c.ask_class.ensures.cost,
-      cost_next (searched_len (searched_tree c.args.game.now c.args.variations)) c.loop-class.class (filters_tree c.args.filters.now),
-      cost_later (searched_len (searched_tree c.args.game.now c.args.variations)) (c.loop-class.class + 1) c.args.past (filters_tree c.args.filters.now) (omega (arith, c.loop-class-test.true)),
+      cost_next (searched_len (tree_in c.args.scope.now)) c.loop-class.class (filters_tree c.args.filters.now),
+      cost_later (searched_len (tree_in c.args.scope.now)) (c.loop-class.class + 1) c.args.past (filters_tree c.args.filters.now) (omega (arith, c.loop-class-test.true)),
     )
 
 pub chains::ask_class-loop-filter-init : goal.chains::ask_class-loop-filter-init
 chains::ask_class-loop-filter-init g t c = record {
   len = refl;
-  left = is_left_begun (searched_tree c.args.game.now c.args.variations) c.args.left.now c.args.left.now _ c.requires.asked refl
-      (so_begun (is_of c.args.class) (searched_tree c.args.game.now c.args.variations) c.args.names.now c.args.want c.as_slice-filter-items.result.now);
+  left = is_left_begun (tree_in c.args.scope.now) c.args.left.now c.args.left.now _ c.requires.asked refl
+      (so_begun (is_of c.args.class) (tree_in c.args.scope.now) c.args.scope.now.names.now c.args.want c.as_slice-filter-items.result.now);
   cost = omega arith;
   rises = omega arith;
   flat = λ i f h e. filter_flat c.as_slice-filter-items.result.now i f (filters_tree c.args.filters.now) h e c.as_slice-filter-items.ensures.tree c.requires.flat;
@@ -95,11 +170,11 @@ chains::ask_class-loop-filter-init g t c = record {
 pub chains::ask_class-loop-filter-preserved : goal.chains::ask_class-loop-filter-preserved
 chains::ask_class-loop-filter-preserved g t c = record {
   len = c.ask_if.ensures.len ∙ c.loop-filter.invariant.len;
-  left = is_left_then (searched_tree c.args.game.now c.args.variations) c.args.left.now c.loop-filter.left c.ask_if.new.left _ _ _ c.loop-filter.invariant.left c.in_ok-ask_if.ensures.left
+  left = is_left_then (tree_in c.args.scope.now) c.args.left.now c.loop-filter.left c.ask_if.new.left _ _ _ c.loop-filter.invariant.left c.in_ok-ask_if.ensures.left
       (λ n. so_more (is_of c.args.class)
-      (searched_tree c.args.game.now c.args.variations) c.args.names.now c.args.want c.as_slice-filter-items.result.now c.loop-filter.filter-index
+      (tree_in c.args.scope.now) c.args.scope.now.names.now c.args.want c.as_slice-filter-items.result.now c.loop-filter.filter-index
       c.filter-item.result n c.loop-filter-test.true c.filter-item.is);
-  cost = class_cost_more (is_of c.args.class) (searched_len (searched_tree c.args.game.now c.args.variations)) c.as_slice-filter-items.result.now c.loop-filter.filter-index c.filter-item.result
+  cost = class_cost_more (is_of c.args.class) (searched_len (tree_in c.args.scope.now)) c.as_slice-filter-items.result.now c.loop-filter.filter-index c.filter-item.result
       _ c.loop-filter.steps c.ask_if.new.steps
       c.loop-filter-test.true c.filter-item.is c.loop-filter.invariant.cost c.ask_if.ensures.cost;
   rises = omega (arith, c.loop-filter.invariant.rises, c.ask_if.ensures.rises);
@@ -108,43 +183,44 @@ chains::ask_class-loop-filter-preserved g t c = record {
 
 pub chains::ask_class-returns-clause-left : goal.chains::ask_class-returns-clause-left
 chains::ask_class-returns-clause-left g t c =
-    is_left_same (searched_tree c.args.game.now c.args.variations) c.args.left.now c.loop-filter.left _ _
+    is_left_same (tree_in c.args.scope.now) c.args.left.now c.loop-filter.left _ _
     (λ n. so_whole (is_of c.args.class)
-    (searched_tree c.args.game.now c.args.variations) c.args.names.now c.args.want c.as_slice-filter-items.result.now c.loop-filter.filter-index
+    (tree_in c.args.scope.now) c.args.scope.now.names.now c.args.want c.as_slice-filter-items.result.now c.loop-filter.filter-index
     (filters_tree c.args.filters.now) n (omega (arith, c.loop-filter-test.false)) c.as_slice-filter-items.ensures.tree)
     c.loop-filter.invariant.left
 
 pub chains::ask_class-returns-in_err-ask_if-clause-cost : goal.chains::ask_class-returns-in_err-ask_if-clause-cost
 chains::ask_class-returns-in_err-ask_if-clause-cost g t c =
     class_cost_within (is_of c.args.class)
-    (searched_len (searched_tree c.args.game.now c.args.variations)) c.as_slice-filter-items.result.now c.loop-filter.filter-index c.filter-item.result _ c.loop-filter.steps c.ask_if.new.steps
+    (searched_len (tree_in c.args.scope.now)) c.as_slice-filter-items.result.now c.loop-filter.filter-index c.filter-item.result _ c.loop-filter.steps c.ask_if.new.steps
     (filters_tree c.args.filters.now)
     c.loop-filter-test.true c.filter-item.is c.loop-filter.invariant.cost c.ask_if.ensures.cost c.as_slice-filter-items.ensures.tree
 
 pub chains::ask_if-returns-then-not-is_of_class-clause-left : goal.chains::ask_if-returns-then-not-is_of_class-clause-left
 chains::ask_if-returns-then-not-is_of_class-clause-left g t c =
-    left_passed (is_of c.args.class) (searched_tree c.args.game.now c.args.variations) c.args.names.now c.args.want (filter_tree c.args.filter.now) c.args.left.now
+    left_passed (is_of c.args.class) (tree_in c.args.scope.now) c.args.scope.now.names.now c.args.want (filter_tree c.args.filter.now) c.args.left.now
     (sym c.is_of_class.ensures ∙ c.if-not-is_of_class.true) c.requires.asked
 
 pub chains::ask_if-returns-clause-left : goal.chains::ask_if-returns-clause-left
 chains::ask_if-returns-clause-left g t c =
-    left_taken (is_of c.args.class) (searched_tree c.args.game.now c.args.variations) c.args.names.now c.args.want
+    left_taken (is_of c.args.class) (tree_in c.args.scope.now) c.args.scope.now.names.now c.args.want
     (filter_tree c.args.filter.now) c.args.left.now c.narrow.new.left c.in_ok-column.column
     (sym c.is_of_class.ensures ∙ c.if-not-is_of_class.false) c.requires.asked c.in_ok-column.ensures.value c.narrow.ensures.nodes
 
 pub chains::ask_if-returns-clause-cost : goal.chains::ask_if-returns-clause-cost
 chains::ask_if-returns-clause-cost g t c =
-    cost_taken (is_of c.args.class) (searched_len (searched_tree c.args.game.now c.args.variations)) (filter_tree c.args.filter.now) _ _ (sym c.is_of_class.ensures ∙
-    c.if-not-is_of_class.false) c.evaluate.ensures.cost
+    cost_taken (is_of c.args.class) (searched_len (tree_in c.args.scope.now)) (filter_tree c.args.filter.now) _ _ (sym c.is_of_class.ensures
+    ∙ c.if-not-is_of_class.false) c.evaluate.ensures.cost
 
 pub chains::ask_if-returns-in_err-column-clause-cost : goal.chains::ask_if-returns-in_err-column-clause-cost
 chains::ask_if-returns-in_err-column-clause-cost g t c =
-    cost_taken (is_of c.args.class) (searched_len (searched_tree c.args.game.now c.args.variations)) (filter_tree c.args.filter.now) _ _ (sym c.is_of_class.ensures ∙
-    c.if-not-is_of_class.false) c.evaluate.ensures.cost
+    cost_taken (is_of c.args.class) (searched_len (tree_in c.args.scope.now)) (filter_tree c.args.filter.now) _ _ (sym c.is_of_class.ensures
+    ∙ c.if-not-is_of_class.false) c.evaluate.ensures.cost
 
 pub chains::columns_of-loop-filter-init : goal.chains::columns_of-loop-filter-init
 chains::columns_of-loop-filter-init g t c = record {
-  left = columns_begun (searched_tree c.args.game.now c.args.variations) c.args.names.now c.args.live.now c.as_slice-filter-items.result.now c.new-columns.result.items c.new-columns.ensures.items;
+  left = columns_begun (tree_in c.args.scope.now) c.args.scope.now.names.now c.args.live.now c.as_slice-filter-items.result.now
+      c.new-columns.result.items c.new-columns.ensures.items;
   cost = omega arith;
   rises = omega arith;
   flat = λ i f h e. filter_flat c.as_slice-filter-items.result.now i f (filters_tree c.args.filters.now) h e c.as_slice-filter-items.ensures.tree c.requires.flat;
@@ -152,10 +228,10 @@ chains::columns_of-loop-filter-init g t c = record {
 
 pub chains::columns_of-loop-filter-preserved : goal.chains::columns_of-loop-filter-preserved
 chains::columns_of-loop-filter-preserved g t c = record {
-  left = columns_more (searched_tree c.args.game.now c.args.variations) c.args.names.now c.args.live.now c.as_slice-filter-items.result.now c.loop-filter.filter-index c.filter-item.result
+  left = columns_more (tree_in c.args.scope.now) c.args.scope.now.names.now c.args.live.now c.as_slice-filter-items.result.now c.loop-filter.filter-index c.filter-item.result
       c.loop-filter.columns.items c.push.new.self.items c.in_ok-column.column c.loop-filter-test.true c.filter-item.is c.loop-filter.invariant.left
       c.in_ok-column.ensures.value c.in_ok-push.ensures.items;
-  cost = cost_more (searched_len (searched_tree c.args.game.now c.args.variations)) c.as_slice-filter-items.result.now c.loop-filter.filter-index c.filter-item.result _ c.loop-filter.steps
+  cost = cost_more (searched_len (tree_in c.args.scope.now)) c.as_slice-filter-items.result.now c.loop-filter.filter-index c.filter-item.result _ c.loop-filter.steps
       c.evaluate.new.steps c.loop-filter-test.true c.filter-item.is c.loop-filter.invariant.cost c.evaluate.ensures.cost;
   rises = omega (arith, c.loop-filter.invariant.rises, c.evaluate.ensures.rises);
   flat = c.loop-filter.invariant.flat;
@@ -163,18 +239,20 @@ chains::columns_of-loop-filter-preserved g t c = record {
 
 pub chains::columns_of-returns-clause-value : goal.chains::columns_of-returns-clause-value
 chains::columns_of-returns-clause-value g t c =
-    columns_all (searched_tree c.args.game.now c.args.variations) c.args.names.now c.args.live.now c.as_slice-filter-items.result.now c.loop-filter.filter-index (filters_tree c.args.filters.now)
+    columns_all (tree_in c.args.scope.now) c.args.scope.now.names.now c.args.live.now c.as_slice-filter-items.result.now c.loop-filter.filter-index
+    (filters_tree c.args.filters.now)
     c.loop-filter.columns.items (omega (arith, c.loop-filter-test.false)) c.as_slice-filter-items.ensures.tree c.loop-filter.invariant.left
 
 pub chains::columns_of-returns-in_err-column-clause-cost : goal.chains::columns_of-returns-in_err-column-clause-cost
 chains::columns_of-returns-in_err-column-clause-cost g t c =
-    cost_within (searched_len (searched_tree c.args.game.now c.args.variations)) c.as_slice-filter-items.result.now c.loop-filter.filter-index c.filter-item.result _ c.loop-filter.steps
+    cost_within (searched_len (tree_in c.args.scope.now)) c.as_slice-filter-items.result.now c.loop-filter.filter-index c.filter-item.result _ c.loop-filter.steps
     c.evaluate.new.steps (filters_tree c.args.filters.now) c.loop-filter-test.true c.filter-item.is c.loop-filter.invariant.cost
     c.evaluate.ensures.cost c.as_slice-filter-items.ensures.tree
 
 pub chains::terms_of-loop-term-init : goal.chains::terms_of-loop-term-init
 chains::terms_of-loop-term-init g t c = record {
-  left = terms_begun (searched_tree c.args.game.now c.args.variations) c.args.names.now c.args.live.now c.as_slice-term-items.result.now c.new-columns.result.items c.new-columns.ensures.items;
+  left = terms_begun (tree_in c.args.scope.now) c.args.scope.now.names.now c.args.live.now c.as_slice-term-items.result.now
+      c.new-columns.result.items c.new-columns.ensures.items;
   cost = omega arith;
   rises = omega arith;
   flat = λ i f h e. term_flat c.as_slice-term-items.result.now i f (terms_tree c.args.terms.now) h e c.as_slice-term-items.ensures.tree c.requires.flat;
@@ -182,10 +260,10 @@ chains::terms_of-loop-term-init g t c = record {
 
 pub chains::terms_of-loop-term-preserved : goal.chains::terms_of-loop-term-preserved
 chains::terms_of-loop-term-preserved g t c = record {
-  left = terms_more (searched_tree c.args.game.now c.args.variations) c.args.names.now c.args.live.now c.as_slice-term-items.result.now c.loop-term.term-index c.term-item.result
+  left = terms_more (tree_in c.args.scope.now) c.args.scope.now.names.now c.args.live.now c.as_slice-term-items.result.now c.loop-term.term-index c.term-item.result
       c.loop-term.columns.items c.push.new.self.items c.in_ok-column.column c.loop-term-test.true c.term-item.is c.loop-term.invariant.left
       c.in_ok-column.ensures.value c.in_ok-push.ensures.items;
-  cost = terms_cost_more (searched_len (searched_tree c.args.game.now c.args.variations)) c.as_slice-term-items.result.now c.loop-term.term-index c.term-item.result _ c.loop-term.steps
+  cost = terms_cost_more (searched_len (tree_in c.args.scope.now)) c.as_slice-term-items.result.now c.loop-term.term-index c.term-item.result _ c.loop-term.steps
       c.evaluate.new.steps c.loop-term-test.true c.term-item.is c.loop-term.invariant.cost c.evaluate.ensures.cost;
   rises = omega (arith, c.loop-term.invariant.rises, c.evaluate.ensures.rises);
   flat = c.loop-term.invariant.flat;
@@ -193,23 +271,23 @@ chains::terms_of-loop-term-preserved g t c = record {
 
 pub chains::terms_of-returns-clause-value : goal.chains::terms_of-returns-clause-value
 chains::terms_of-returns-clause-value g t c =
-    terms_all (searched_tree c.args.game.now c.args.variations) c.args.names.now c.args.live.now c.as_slice-term-items.result.now c.loop-term.term-index (terms_tree c.args.terms.now)
+    terms_all (tree_in c.args.scope.now) c.args.scope.now.names.now c.args.live.now c.as_slice-term-items.result.now c.loop-term.term-index (terms_tree c.args.terms.now)
     c.loop-term.columns.items (omega (arith, c.loop-term-test.false)) c.as_slice-term-items.ensures.tree c.loop-term.invariant.left
 
 pub chains::terms_of-returns-in_err-column-clause-cost : goal.chains::terms_of-returns-in_err-column-clause-cost
 chains::terms_of-returns-in_err-column-clause-cost g t c =
-    terms_cost_within (searched_len (searched_tree c.args.game.now c.args.variations)) c.as_slice-term-items.result.now c.loop-term.term-index c.term-item.result _ c.loop-term.steps
+    terms_cost_within (searched_len (tree_in c.args.scope.now)) c.as_slice-term-items.result.now c.loop-term.term-index c.term-item.result _ c.loop-term.steps
     c.evaluate.new.steps (terms_tree c.args.terms.now) c.loop-term-test.true c.term-item.is c.loop-term.invariant.cost
     c.evaluate.ensures.cost c.as_slice-term-items.ensures.tree
 
 pub chains::columns_of-returns-in_err-push-clause-cost : goal.chains::columns_of-returns-in_err-push-clause-cost
 chains::columns_of-returns-in_err-push-clause-cost g t c =
-    cost_within (searched_len (searched_tree c.args.game.now c.args.variations)) c.as_slice-filter-items.result.now c.loop-filter.filter-index c.filter-item.result _ c.loop-filter.steps
+    cost_within (searched_len (tree_in c.args.scope.now)) c.as_slice-filter-items.result.now c.loop-filter.filter-index c.filter-item.result _ c.loop-filter.steps
     c.evaluate.new.steps (filters_tree c.args.filters.now) c.loop-filter-test.true c.filter-item.is c.loop-filter.invariant.cost
     c.evaluate.ensures.cost c.as_slice-filter-items.ensures.tree
 
 pub chains::terms_of-returns-in_err-push-clause-cost : goal.chains::terms_of-returns-in_err-push-clause-cost
 chains::terms_of-returns-in_err-push-clause-cost g t c =
-    terms_cost_within (searched_len (searched_tree c.args.game.now c.args.variations)) c.as_slice-term-items.result.now c.loop-term.term-index c.term-item.result _ c.loop-term.steps
+    terms_cost_within (searched_len (tree_in c.args.scope.now)) c.as_slice-term-items.result.now c.loop-term.term-index c.term-item.result _ c.loop-term.steps
     c.evaluate.new.steps (terms_tree c.args.terms.now) c.loop-term-test.true c.term-item.is c.loop-term.invariant.cost
     c.evaluate.ensures.cost c.as_slice-term-items.ensures.tree

@@ -1,10 +1,10 @@
 -- What is answered of squares that are worth trying, in the recursion over filters.
-use Rattle.std.proofs.Common.{[], ◌∷◌, ◌∙◌, ap, ap₂, sym, subst, arith, refl}
+use Rattle.std.proofs.Common.{[], ◌∷◌, ◌∙◌, ap, ap₂, sym, subst, arith, refl, false}
 use Rattle.cql_syntax.specs.Meaning.{value, values}
 use Rattle.cql_syntax.specs.TreeOf.{filter_tree, form_tree, filters_tree, written_tree}
 use Rattle.cql_syntax.specs.Trees.{filter_at, unary}
 use Rattle.cql_syntax.specs.Values.{holds, some_holds, square_of}
-use Rattle.cql_values.specs.Trees.{searched_tree}
+use Rattle.cql_eval.specs.Scopes.{tree_in}
 use Rattle.cql_eval.proofs.FlatLaw.{filter_flat}
 use Rattle.cql_syntax.specs.Trees.{pair}
 use Rattle.cql_eval.specs.Covers.{AreAdded, AreCut, AreJoined, HasSome, MayHold}
@@ -20,62 +20,69 @@ use Rattle.cql_eval.proofs.evaluate.+evaluate.Goals as goal
 
 pub covers::cover-returns-then-is_own-clause-cut : goal.covers::cover-returns-then-is_own-clause-cut
 covers::cover-returns-then-is_own-clause-cut g t c =
-    own_cut (searched_tree c.args.game.now c.args.variations) c.args.live.now c.args.opened.now c.args.names.now c.args.name.now (filter_tree c.args.asked.now)
+    own_cut (tree_in c.args.trial.now.scope.now) c.args.trial.now.live.now c.args.trial.now.opened.now c.args.trial.now.scope.now.names.now
+    c.args.trial.now.name.now (filter_tree c.args.asked.now)
     c.args.sets.now c.cover_set.new.sets (c.is_own.ensures c.if-is_own.true) c.in_ok-cover_set.ensures.cut
 
 pub covers::cover-returns-in_ok-cover_played-in-Played-clause-cut : goal.covers::cover-returns-in_ok-cover_played-in-Played-clause-cut
 covers::cover-returns-in_ok-cover_played-in-Played-clause-cut g t c =
-    played_cut (searched_tree c.args.game.now c.args.variations) c.args.live.now c.args.opened.now c.args.names.now c.args.name.now (filter_tree c.args.asked.now)
+    played_cut (tree_in c.args.trial.now.scope.now) c.args.trial.now.live.now c.args.trial.now.opened.now c.args.trial.now.scope.now.names.now
+    c.args.trial.now.name.now (filter_tree c.args.asked.now)
     c.args.asked.now.at c.in-Played.played c.args.sets.now c.cover_played.new.sets (ap (λ form. filter_at c.args.asked.now.at (form_tree form)) c.in-Played.is)
     c.in_ok-cover_played-in-Played.ensures.cut
 
 pub cover_moves::cover_played-returns-clause-cut : goal.cover_moves::cover_played-returns-clause-cut
 cover_moves::cover_played-returns-clause-cut g t c =
-    let tree = searched_tree c.args.game.now c.args.variations in
-    cut_then c.args.live.now _ c.args.sets.now c.cut_moves.new.sets c.cover_free_parts.new.sets
-    (move_cut tree c.args.live.now c.args.opened.now c.args.names.now c.args.name.now c.args.played.now c.is_own_part-origin.result c.is_own_part-goal.result c.is_own_part-taken.result
+    let tree = tree_in c.args.trial.now.scope.now in
+    cut_then c.args.trial.now.live.now _ c.args.sets.now c.cut_moves.new.sets c.cover_free_parts.new.sets
+    (move_cut tree c.args.trial.now.live.now c.args.trial.now.opened.now c.args.trial.now.scope.now.names.now c.args.trial.now.name.now
+    c.args.played.now c.is_own_part-origin.result c.is_own_part-goal.result c.is_own_part-taken.result
     c.args.sets.now c.cut_moves.new.sets c.is_own_part-origin.ensures c.is_own_part-goal.ensures c.is_own_part-taken.ensures c.cut_moves.ensures)
     c.in_ok-cover_free_parts.ensures.cut
 
 pub cover_moves::cover_free_parts-returns-clause-cut : goal.cover_moves::cover_free_parts-returns-clause-cut
 cover_moves::cover_free_parts-returns-clause-cut g t c =
-    let tree = searched_tree c.args.game.now c.args.variations in
-    free_parts_cut tree c.args.live.now c.as_slice-some.result.now c.as_slice-wide.result.now c.args.opened.now c.args.names.now c.args.name.now c.args.played.now
+    let tree = tree_in c.args.trial.now.scope.now in
+    free_parts_cut tree c.args.trial.now.live.now c.as_slice-some.result.now c.as_slice-wide.result.now c.args.trial.now.opened.now
+    c.args.trial.now.scope.now.names.now c.args.trial.now.name.now c.args.played.now
     c.in_ok-origin.origin c.in_ok-goal.goal c.in_ok-taken.taken c.in_ok-promoted.promoted c.in_ok-met.met.items c.args.sets.now c.cut_where_fails.new.sets
-    (subst (HasSome tree c.args.live.now c.args.sets.now) (sym c.as_slice-some.ensures.value) c.in_ok-some.ensures)
+    (subst (HasSome tree c.args.trial.now.live.now c.args.sets.now) (sym c.as_slice-some.ensures.value) c.in_ok-some.ensures)
     (subst (AreBeforeLive tree c.as_slice-some.result.now) (sym c.as_slice-wide.ensures.value) c.in_ok-wide.ensures)
     c.in_ok-origin.ensures.asks c.in_ok-goal.ensures.asks c.in_ok-taken.ensures.asks c.in_ok-promoted.ensures.asks c.in_ok-met.ensures c.cut_where_fails.ensures
 
 pub cover_moves::free_column-returns-clause-asks : goal.cover_moves::free_column-returns-clause-asks
 cover_moves::free_column-returns-clause-asks g t c =
-    asks_free (searched_tree c.args.game.now c.args.variations) c.args.opened.now c.args.names.now (written_tree c.args.written.now) c.args.live.now c.in_ok-column.column
+    asks_free (tree_in c.args.scope.now) c.args.opened.now c.args.scope.now.names.now (written_tree c.args.written.now) c.args.live.now c.in_ok-column.column
     (c.is_free_and_written.ensures c.if-not-is_free_and_written.false) c.in_ok-column.ensures.value
 
 pub covers::cover_chain-returns-clause-cut : goal.covers::cover_chain-returns-clause-cut
 covers::cover_chain-returns-clause-cut g t c =
-    all_cut (searched_tree c.args.game.now c.args.variations) c.args.live.now c.args.opened.now c.args.names.now c.args.name.now c.args.chain (filters_tree c.args.parts.now)
+    all_cut (tree_in c.args.trial.now.scope.now) c.args.trial.now.live.now c.args.trial.now.opened.now c.args.trial.now.scope.now.names.now
+    c.args.trial.now.name.now c.args.chain (filters_tree c.args.parts.now)
     c.args.sets.now c.cover_all.new.sets (c.is_all.ensures c.if-not-is_all.false) c.in_ok-cover_all.ensures.cut
 
 pub covers::cover_all-loop-class-init : goal.covers::cover_all-loop-class-init
-covers::cover_all-loop-class-init g t c = record { cut = cut_same c.args.live.now _ c.args.sets.now; cost = refl }
+covers::cover_all-loop-class-init g t c = record { cut = cut_same c.args.trial.now.live.now _ c.args.sets.now; cost = refl }
 
 pub covers::cover_all-loop-class-preserved : goal.covers::cover_all-loop-class-preserved
 covers::cover_all-loop-class-preserved g t c = record {
-  cut = cut_then c.args.live.now _ c.args.sets.now c.loop-class.sets c.cover_class.new.sets c.loop-class.invariant.cut c.in_ok-cover_class.ensures.cut;
+  cut = cut_then c.args.trial.now.live.now _ c.args.sets.now c.loop-class.sets c.cover_class.new.sets c.loop-class.invariant.cut c.in_ok-cover_class.ensures.cut;
   cost = c.cover_class.ensures.cost ∙ c.loop-class.invariant.cost;
 }
 
 pub covers::cover_class-loop-part-init : goal.covers::cover_class-loop-part-init
 covers::cover_class-loop-part-init g t c = record {
-  cut = cut_same c.args.live.now _ c.args.sets.now;
+  cut = cut_same c.args.trial.now.live.now _ c.args.sets.now;
   cost = refl;
   flat = λ i f h e. filter_flat c.as_slice-part-items.result.now i f (filters_tree c.args.parts.now) h e c.as_slice-part-items.ensures.tree c.requires.flat;
 }
 
 pub covers::cover_class-loop-part-preserved : goal.covers::cover_class-loop-part-preserved
 covers::cover_class-loop-part-preserved g t c = record {
-  cut = one_of_all (searched_tree c.args.game.now c.args.variations) c.args.live.now c.args.opened.now c.args.names.now c.args.name.now c.as_slice-part-items.result.now c.loop-part.part-index
-      c.part-item.result (filters_tree c.args.parts.now) c.args.sets.now c.loop-part.sets c.cover_if.new.sets c.loop-part-test.true c.part-item.is c.as_slice-part-items.ensures.tree
+  cut = one_of_all (tree_in c.args.trial.now.scope.now) c.args.trial.now.live.now c.args.trial.now.opened.now c.args.trial.now.scope.now.names.now
+      c.args.trial.now.name.now c.as_slice-part-items.result.now c.loop-part.part-index
+      c.part-item.result (filters_tree c.args.parts.now) c.args.sets.now c.loop-part.sets c.cover_if.new.sets c.loop-part-test.true c.part-item.is
+      c.as_slice-part-items.ensures.tree
       c.loop-part.invariant.cut c.in_ok-cover_if.ensures.cut;
   cost = c.cover_if.ensures.cost ∙ c.loop-part.invariant.cost;
   flat = c.loop-part.invariant.flat;
@@ -83,20 +90,23 @@ covers::cover_class-loop-part-preserved g t c = record {
 
 pub covers::cover_common-returns-clause-cut : goal.covers::cover_common-returns-clause-cut
 covers::cover_common-returns-clause-cut g t c =
-    common_cut (searched_tree c.args.game.now c.args.variations) c.args.live.now c.args.opened.now c.args.names.now c.args.name.now c.args.chain (filters_tree c.args.parts.now)
+    common_cut (tree_in c.args.trial.now.scope.now) c.args.trial.now.live.now c.args.trial.now.opened.now c.args.trial.now.scope.now.names.now
+    c.args.trial.now.name.now c.args.chain (filters_tree c.args.parts.now)
     c.args.sets.now c.cover_each.new.sets (c.is_intersection.ensures c.if-not-is_intersection.false) c.in_ok-cover_each.ensures.cut
 
 pub covers::cover_each-loop-part-init : goal.covers::cover_each-loop-part-init
 covers::cover_each-loop-part-init g t c = record {
-  cut = cut_same c.args.live.now _ c.args.sets.now;
+  cut = cut_same c.args.trial.now.live.now _ c.args.sets.now;
   cost = refl;
   flat = λ i f h e. filter_flat c.as_slice-part-items.result.now i f (filters_tree c.args.parts.now) h e c.as_slice-part-items.ensures.tree c.requires.flat;
 }
 
 pub covers::cover_each-loop-part-preserved : goal.covers::cover_each-loop-part-preserved
 covers::cover_each-loop-part-preserved g t c = record {
-  cut = one_of_sets (searched_tree c.args.game.now c.args.variations) c.args.live.now c.args.opened.now c.args.names.now c.args.name.now c.as_slice-part-items.result.now c.loop-part.part-index
-      c.part-item.result (filters_tree c.args.parts.now) c.args.sets.now c.loop-part.sets c.cover_set.new.sets c.loop-part-test.true c.part-item.is c.as_slice-part-items.ensures.tree
+  cut = one_of_sets (tree_in c.args.trial.now.scope.now) c.args.trial.now.live.now c.args.trial.now.opened.now c.args.trial.now.scope.now.names.now
+      c.args.trial.now.name.now c.as_slice-part-items.result.now c.loop-part.part-index
+      c.part-item.result (filters_tree c.args.parts.now) c.args.sets.now c.loop-part.sets c.cover_set.new.sets c.loop-part-test.true c.part-item.is
+      c.as_slice-part-items.ensures.tree
       c.loop-part.invariant.cut c.in_ok-cover_set.ensures.cut;
   cost = c.cover_set.ensures.cost ∙ c.loop-part.invariant.cost;
   flat = c.loop-part.invariant.flat;
@@ -104,7 +114,8 @@ covers::cover_each-loop-part-preserved g t c = record {
 
 pub covers::cover_set-returns-in_ok-cover_related-in-Pair-clause-cut : goal.covers::cover_set-returns-in_ok-cover_related-in-Pair-clause-cut
 covers::cover_set-returns-in_ok-cover_related-in-Pair-clause-cut g t c =
-    pair_cut (searched_tree c.args.game.now c.args.variations) c.args.live.now c.args.opened.now c.args.names.now c.args.name.now (filter_tree c.args.asked.now)
+    pair_cut (tree_in c.args.trial.now.scope.now) c.args.trial.now.live.now c.args.trial.now.opened.now c.args.trial.now.scope.now.names.now
+    c.args.trial.now.name.now (filter_tree c.args.asked.now)
     (filter_tree c.deref.result.now) (filter_tree c.deref-in-Pair.result.now) c.args.asked.now.at c.in-Pair.pair c.args.sets.now c.cover_set.new.sets c.cover_related.new.sets
     (ap (λ form. filter_at c.args.asked.now.at (form_tree form)) c.in-Pair.is
     ∙ sym (ap₂ (λ p q. filter_at c.args.asked.now.at (pair c.in-Pair.pair (filter_tree p) (filter_tree q))) c.deref.ensures c.deref-in-Pair.ensures))
@@ -112,7 +123,8 @@ covers::cover_set-returns-in_ok-cover_related-in-Pair-clause-cut g t c =
 
 pub covers::cover_turned-returns-in_ok-cover_related-in-Pair-clause-cut : goal.covers::cover_turned-returns-in_ok-cover_related-in-Pair-clause-cut
 covers::cover_turned-returns-in_ok-cover_related-in-Pair-clause-cut g t c =
-    turned_cut (searched_tree c.args.game.now c.args.variations) c.args.live.now c.args.opened.now c.args.names.now c.args.name.now (filter_tree c.args.asked.now)
+    turned_cut (tree_in c.args.trial.now.scope.now) c.args.trial.now.live.now c.args.trial.now.opened.now c.args.trial.now.scope.now.names.now
+    c.args.trial.now.name.now (filter_tree c.args.asked.now)
     (filter_tree c.deref-in-Pair.result.now) (filter_tree c.deref.result.now) c.args.asked.now.at c.in-Pair.pair c.turned-other.result c.args.sets.now c.cover_related.new.sets
     (ap (λ form. filter_at c.args.asked.now.at (form_tree form)) c.in-Pair.is
     ∙ sym (ap₂ (λ p q. filter_at c.args.asked.now.at (pair c.in-Pair.pair (filter_tree p) (filter_tree q))) c.deref-in-Pair.ensures c.deref.ensures))
@@ -121,49 +133,61 @@ covers::cover_turned-returns-in_ok-cover_related-in-Pair-clause-cut g t c =
 
 pub cover_squares::cover_square-returns-in_ok-cover_pair-in-Square-clause-cut : goal.cover_squares::cover_square-returns-in_ok-cover_pair-in-Square-clause-cut
 cover_squares::cover_square-returns-in_ok-cover_pair-in-Square-clause-cut g t c =
-    let tree = searched_tree c.args.game.now c.args.variations in
+    let tree = tree_in c.args.trial.now.scope.now in
     let every = c.in-Square.every in
     let inner = c.as_slice-inner.result.now in
     let squares = filter_tree c.deref-in-Square.result.now in
     let asked = c.args.asked.now in
-    square_cut tree c.args.live.now c.args.opened.now c.args.names.now c.args.name.now (filter_tree asked) squares (filter_tree c.deref.result.now) asked.at every inner
+    square_cut tree c.args.trial.now.live.now c.args.trial.now.opened.now c.args.trial.now.scope.now.names.now c.args.trial.now.name.now
+    (filter_tree asked) squares (filter_tree c.deref.result.now) asked.at every inner
     c.args.sets.now c.cover_pair.new.sets
-    (ap (λ form. filter_at asked.at (form_tree form)) c.in-Square.is ∙ sym (square_same asked.at every _ _ _ _ _ _ c.as_slice-inner.ensures c.deref-in-Square.ensures c.deref.ensures))
-    (cut_then c.args.live.now _ c.args.sets.now c.cover_inner.new.sets c.cover_pair.new.sets (c.in_ok-cover_inner-in-Square.ensures.cut (λ e. value tree [] e squares))
-    (subst (λ part. AreCut c.args.live.now (MayHold c.args.opened.now c.args.names.now c.args.name.now
-    (λ e n. square_of every (value tree [] e squares n) (λ s. holds (value tree [] ((inner, s) ∷ e) (filter_tree part) n)))) c.cover_inner.new.sets c.cover_pair.new.sets)
-    (c.deref-in-Square-2.ensures ∙ sym c.deref.ensures) c.in_ok-cover_pair-in-Square.ensures.cut))
+    (ap (λ form. filter_at asked.at (form_tree form)) c.in-Square.is ∙ sym (square_same asked.at every _ _ _ _ _ _ c.as_slice-inner.ensures
+    c.deref-in-Square.ensures c.deref.ensures))
+    (subst (λ some. AreCut c.args.trial.now.live.now (MayHold c.args.trial.now.opened.now c.args.trial.now.scope.now.names.now c.args.trial.now.name.now
+    (λ e n. square_of some (value tree [] e squares n) (λ s. holds (value tree [] ((inner, s) ∷ e) (filter_tree c.deref.result.now) n))))
+    c.args.sets.now c.cover_pair.new.sets)
+    (sym (c.is_other.ensures.some c.if-not-is_other.false))
+    (cut_then c.args.trial.now.live.now _ c.args.sets.now c.cover_inner.new.sets c.cover_pair.new.sets (c.in_ok-cover_inner-in-Square.ensures.cut
+    (λ e. value tree [] e squares))
+    (subst (λ part. AreCut c.args.trial.now.live.now (MayHold c.args.trial.now.opened.now c.args.trial.now.scope.now.names.now c.args.trial.now.name.now
+    (λ e n. square_of false (value tree [] e squares n) (λ s. holds (value tree [] ((inner, s) ∷ e) (filter_tree part) n)))) c.cover_inner.new.sets c.cover_pair.new.sets)
+    (c.deref-in-Square-2.ensures ∙ sym c.deref.ensures) c.in_ok-cover_pair-in-Square.ensures.cut)))
 
 pub cover_squares::cover_inner-returns-clause-cut : goal.cover_squares::cover_inner-returns-clause-cut
 cover_squares::cover_inner-returns-clause-cut g t c =
-    inner_cut (searched_tree c.args.game.now c.args.variations) c.args.live.now c.args.opened.now _ c.args.names.now c.args.name.now c.args.inner.now (filter_tree c.args.part.now)
-    c.args.every c.args.sets.now c.cover.new.sets c.requires.other.0 c.requires.other.1
-    (c.in_ok-wider.ensures ∙ ap (λ k. (c.args.inner.now, k) ∷ c.args.opened.now) c.new.ensures) c.in_ok-cover.ensures.cut
+    inner_cut (tree_in c.args.trial.now.scope.now) c.args.trial.now.live.now c.args.trial.now.opened.now _ c.args.trial.now.scope.now.names.now
+    c.args.trial.now.name.now c.args.inner.now (filter_tree c.args.part.now)
+    false c.args.sets.now c.cover.new.sets refl c.requires.other
+    (c.in_ok-wider.ensures ∙ ap (λ k. (c.args.inner.now, k) ∷ c.args.trial.now.opened.now) c.new.ensures) c.in_ok-cover.ensures.cut
 
 pub cover_squares::cover_pair-returns-clause-cut : goal.cover_squares::cover_pair-returns-clause-cut
 cover_squares::cover_pair-returns-clause-cut g t c =
-    let tree = searched_tree c.args.game.now c.args.variations in
-    paired_cut tree c.args.live.now c.as_slice-some.result.now c.args.opened.now c.args.names.now c.args.name.now c.args.inner.now (filter_tree c.args.squares.now) (filter_tree c.args.part.now)
-    c.args.every c.in_ok-column.column c.args.sets.now c.cut_paired.new.sets c.requires.other
-    (subst (HasSome tree c.args.live.now c.args.sets.now) (sym c.as_slice-some.ensures.value) c.in_ok-some.ensures)
+    let tree = tree_in c.args.trial.now.scope.now in
+    paired_cut tree c.args.trial.now.live.now c.as_slice-some.result.now c.args.trial.now.opened.now c.args.trial.now.scope.now.names.now
+    c.args.trial.now.name.now c.args.inner.now (filter_tree c.args.squares.now) (filter_tree c.args.part.now)
+    false c.in_ok-column.column c.args.sets.now c.cut_paired.new.sets (refl, c.requires.other)
+    (subst (HasSome tree c.args.trial.now.live.now c.args.sets.now) (sym c.as_slice-some.ensures.value) c.in_ok-some.ensures)
     (c.is_free.ensures c.if-not-is_free.false) c.in_ok-column.ensures.value c.cut_paired.ensures.cut
 
 pub covers::cover_elsewhere-returns-clause-cut : goal.covers::cover_elsewhere-returns-clause-cut
 covers::cover_elsewhere-returns-clause-cut g t c =
-    elsewhere_cut (searched_tree c.args.game.now c.args.variations) c.args.word c.args.live.now c.as_slice-wide.result.now c.args.opened.now c.args.names.now c.args.name.now
-    (λ e. value (searched_tree c.args.game.now c.args.variations) [] e (filter_tree c.args.part.now)) c.any_squares.result c.in_ok-there.there.items c.cover.new.sets c.in_ok-back.back.items
+    elsewhere_cut (tree_in c.args.trial.now.scope.now) c.args.word c.args.trial.now.live.now c.as_slice-wide.result.now c.args.trial.now.opened.now
+    c.args.trial.now.scope.now.names.now c.args.trial.now.name.now
+    (λ e. value (tree_in c.args.trial.now.scope.now) [] e (filter_tree c.args.part.now)) c.any_squares.result c.in_ok-there.there.items
+    c.cover.new.sets c.in_ok-back.back.items
     c.args.sets.now c.cut.new.sets (c.looks_elsewhere.ensures c.if-not-looks_elsewhere.false) c.requires.asked
-    (subst (AreLookedAt (searched_tree c.args.game.now c.args.variations) c.args.word c.args.live.now) (sym c.as_slice-wide.ensures.value) c.in_ok-wide.ensures)
+    (subst (AreLookedAt (tree_in c.args.trial.now.scope.now) c.args.word c.args.trial.now.live.now) (sym c.as_slice-wide.ensures.value) c.in_ok-wide.ensures)
     c.any_squares.ensures c.in_ok-there.ensures
-    (subst (λ old. AreCut c.as_slice-wide.result.now (MayHold c.args.opened.now c.args.names.now c.args.name.now
-    (λ e. value (searched_tree c.args.game.now c.args.variations) [] e (filter_tree c.args.part.now))) old c.cover.new.sets) c.deref_mut.ensures.value c.in_ok-cover.ensures.cut)
-    (subst (λ left. AreBroughtBack c.args.game.now.nodes c.args.word left c.in_ok-back.back.items)
+    (subst (λ old. AreCut c.as_slice-wide.result.now (MayHold c.args.trial.now.opened.now c.args.trial.now.scope.now.names.now c.args.trial.now.name.now
+    (λ e. value (tree_in c.args.trial.now.scope.now) [] e (filter_tree c.args.part.now))) old c.cover.new.sets) c.deref_mut.ensures.value c.in_ok-cover.ensures.cut)
+    (subst (λ left. AreBroughtBack c.args.trial.now.scope.now.game.now.nodes c.args.word left c.in_ok-back.back.items)
     (written_sets c.in_ok-there.there.len c.cover.new.sets c.in_ok-there.there.items (omega (arith, c.cover.ensures.len, c.deref_mut.ensures.len))) c.in_ok-back.ensures)
     c.cut.ensures
 
 pub covers::cover-returns-in_ok-cover_elsewhere-in-Unary-clause-cut : goal.covers::cover-returns-in_ok-cover_elsewhere-in-Unary-clause-cut
 covers::cover-returns-in_ok-cover_elsewhere-in-Unary-clause-cut g t c =
-    unary_cut (searched_tree c.args.game.now c.args.variations) c.args.live.now c.args.opened.now c.args.names.now c.args.name.now (filter_tree c.args.asked.now)
+    unary_cut (tree_in c.args.trial.now.scope.now) c.args.trial.now.live.now c.args.trial.now.opened.now c.args.trial.now.scope.now.names.now
+    c.args.trial.now.name.now (filter_tree c.args.asked.now)
     (filter_tree c.deref.result.now) c.args.asked.now.at c.in-Unary.word c.args.sets.now c.cover_elsewhere.new.sets
     (ap (λ form. filter_at c.args.asked.now.at (form_tree form)) c.in-Unary.is
     ∙ sym (ap (λ p. filter_at c.args.asked.now.at (unary c.in-Unary.word (filter_tree p))) c.deref.ensures))
@@ -171,41 +195,52 @@ covers::cover-returns-in_ok-cover_elsewhere-in-Unary-clause-cut g t c =
 
 pub covers::cover_chain-returns-then-is_or-clause-cut : goal.covers::cover_chain-returns-then-is_or-clause-cut
 covers::cover_chain-returns-then-is_or-clause-cut g t c =
-    or_cut (searched_tree c.args.game.now c.args.variations) c.args.live.now c.args.opened.now c.args.names.now c.args.name.now c.args.chain (filters_tree c.args.parts.now)
+    or_cut (tree_in c.args.trial.now.scope.now) c.args.trial.now.live.now c.args.trial.now.opened.now c.args.trial.now.scope.now.names.now
+    c.args.trial.now.name.now c.args.chain (filters_tree c.args.parts.now)
     c.args.sets.now c.cover_some.new.sets (c.is_or.ensures c.if-is_or.true) c.in_ok-cover_some.ensures.cut
 
 pub cover_some::cover_some-returns-clause-cut : goal.cover_some::cover_some-returns-clause-cut
 cover_some::cover_some-returns-clause-cut g t c =
-    let P = MayHold c.args.opened.now c.args.names.now c.args.name.now
-    (λ e n. some_holds (values (searched_tree c.args.game.now c.args.variations) [] e (filters_tree c.args.parts.now) n)) in
+    let P = MayHold c.args.trial.now.opened.now c.args.trial.now.scope.now.names.now c.args.trial.now.name.now
+    (λ e n. some_holds (values (tree_in c.args.trial.now.scope.now) [] e (filters_tree c.args.parts.now) n)) in
     let same = written_sets c.in_ok-kept.kept.len c.add_each.new.kept c.in_ok-kept.kept.items (omega (arith, c.add_each.ensures.len, c.deref_mut.ensures.len)) in
-    some_cut c.args.live.now P c.deref_mut.result.now _ c.args.sets.now c.cut.new.sets
-    (subst (AreAdded c.args.live.now P c.args.sets.now c.deref_mut.result.now) (sym same) c.in_ok-add_each.ensures.added) c.cut.ensures
+    some_cut c.args.trial.now.live.now P c.deref_mut.result.now _ c.args.sets.now c.cut.new.sets
+    (subst (AreAdded c.args.trial.now.live.now P c.args.sets.now c.deref_mut.result.now) (sym same) c.in_ok-add_each.ensures.added) c.cut.ensures
 
 pub cover_some::add_each-loop-part-init : goal.cover_some::add_each-loop-part-init
 cover_some::add_each-loop-part-init g t c = record {
-  added = added_none (searched_tree c.args.game.now c.args.variations) c.args.live.now c.args.opened.now c.args.names.now c.args.name.now c.as_slice-part-items.result.now c.args.sets.now c.args.kept.now;
+  added = added_none (tree_in c.args.trial.now.scope.now) c.args.trial.now.live.now c.args.trial.now.opened.now c.args.trial.now.scope.now.names.now
+      c.args.trial.now.name.now c.as_slice-part-items.result.now c.args.sets.now c.args.kept.now;
   cost = refl;
   flat = λ i f h e. filter_flat c.as_slice-part-items.result.now i f (filters_tree c.args.parts.now) h e c.as_slice-part-items.ensures.tree c.requires.flat;
 }
 
 pub cover_some::add_each-loop-part-preserved : goal.cover_some::add_each-loop-part-preserved
 cover_some::add_each-loop-part-preserved g t c = record {
-  added = added_more (searched_tree c.args.game.now c.args.variations) c.args.live.now c.args.opened.now c.args.names.now c.args.name.now c.as_slice-part-items.result.now c.loop-part.part-index
-      c.part-item.result c.args.sets.now c.args.kept.now c.loop-part.kept c.add_covered.new.kept c.part-item.is c.loop-part-test.true c.loop-part.invariant.added c.in_ok-add_covered.ensures.added;
+  added = added_more (tree_in c.args.trial.now.scope.now) c.args.trial.now.live.now c.args.trial.now.opened.now c.args.trial.now.scope.now.names.now
+      c.args.trial.now.name.now c.as_slice-part-items.result.now c.loop-part.part-index
+      c.part-item.result c.args.sets.now c.args.kept.now c.loop-part.kept c.add_covered.new.kept c.part-item.is c.loop-part-test.true
+      c.loop-part.invariant.added c.in_ok-add_covered.ensures.added;
   cost = c.add_covered.ensures.cost ∙ c.loop-part.invariant.cost;
   flat = c.loop-part.invariant.flat;
 }
 
 pub cover_some::add_each-returns-clause-added : goal.cover_some::add_each-returns-clause-added
 cover_some::add_each-returns-clause-added g t c =
-    added_all (searched_tree c.args.game.now c.args.variations) c.args.live.now c.args.opened.now c.args.names.now c.args.name.now c.as_slice-part-items.result.now c.loop-part.part-index
-    (filters_tree c.args.parts.now) c.args.sets.now c.args.kept.now c.loop-part.kept (omega (arith, c.loop-part-test.false)) c.as_slice-part-items.ensures.tree c.loop-part.invariant.added
+    added_all (tree_in c.args.trial.now.scope.now) c.args.trial.now.live.now c.args.trial.now.opened.now c.args.trial.now.scope.now.names.now
+    c.args.trial.now.name.now c.as_slice-part-items.result.now c.loop-part.part-index
+    (filters_tree c.args.parts.now) c.args.sets.now c.args.kept.now c.loop-part.kept (omega (arith, c.loop-part-test.false))
+    c.as_slice-part-items.ensures.tree c.loop-part.invariant.added
 
 pub cover_some::add_covered-returns-clause-added : goal.cover_some::add_covered-returns-clause-added
 cover_some::add_covered-returns-clause-added g t c =
-    let P = MayHold c.args.opened.now c.args.names.now c.args.name.now (λ e. value (searched_tree c.args.game.now c.args.variations) [] e (filter_tree c.args.part.now)) in
-    added_by c.args.live.now P c.args.sets.now c.deref_mut.result.now c.cover.new.sets c.args.kept.now c.add_sets.new.sets
+    let P = MayHold c.args.trial.now.opened.now c.args.trial.now.scope.now.names.now c.args.trial.now.name.now (λ e. value
+    (tree_in c.args.trial.now.scope.now) [] e (filter_tree c.args.part.now)) in
+    added_by c.args.trial.now.live.now P c.args.sets.now c.deref_mut.result.now c.cover.new.sets c.args.kept.now c.add_sets.new.sets
     (c.deref_mut.ensures.value ∙ c.in_ok-left.ensures) c.requires.kept c.in_ok-cover.ensures.cut
     (subst (λ more. AreJoined more c.args.kept.now c.add_sets.new.sets)
-    (c.deref.ensures.value ∙ written_sets c.in_ok-left.left.len c.cover.new.sets c.in_ok-left.left.items (omega (arith, c.cover.ensures.len, c.deref_mut.ensures.len))) c.add_sets.ensures)
+    (c.deref.ensures.value ∙ written_sets c.in_ok-left.left.len c.cover.new.sets c.in_ok-left.left.items (omega (
+      arith,
+      c.cover.ensures.len,
+      c.deref_mut.ensures.len,
+    ))) c.add_sets.ensures)

@@ -1,16 +1,16 @@
 -- What is answered of lines, in the recursion over filters.
-use Rattle.std.proofs.Common.{◌+◌, map, ◌≡◌, [], ◌∙◌, ap, sym, subst, arith, refl, length, true, false}
+use Rattle.std.proofs.Common.{◌+◌, map, ◌≡◌, ◌∙◌, ap, sym, subst, arith, refl, length, true, false}
 use Rattle.std.specs.Prelude.{option_map, pos, OnOk, ◌<◌}
 use Rattle.std.specs.List.{list_any}
-use Rattle.cql_syntax.specs.Meaning.{value, marked, body_pattern}
+use Rattle.cql_syntax.specs.Meaning.{marked}
 use Rattle.cql_syntax.specs.TreeOf.{filter_tree, parts_tree, body_tree}
 use Rattle.cql_syntax.specs.Trees.{atom}
 use Rattle.cql_syntax.specs.declared.tree.Line.{out-Line}
-use Rattle.cql_values.specs.Trees.{searched_tree}
+use Rattle.cql_eval.specs.Scopes.{tree_in, value_in, body_in}
 use Rattle.cql_eval.specs.Costs.{body_atoms, searched_len}
-use Rattle.cql_eval.specs.LineAtoms.{spot_at, body_numbered}
+use Rattle.cql_eval.specs.LineAtoms.{AreAllAsked, spot_at, body_numbered}
 use Rattle.cql_eval.specs.SpelledParts.{IsLive, EndsHere}
-use Rattle.cql_eval.proofs.SpelledAlike.{wide_leads_at, wide_ends_at, group_leads_at, leads_at, ends_at, onward_at, not_met, group_ends}
+use Rattle.cql_eval.proofs.SpelledAlike.{all_never, wide_leads_at, wide_ends_at, group_leads_at, leads_at, ends_at, onward_at, not_met, group_ends}
 use Rattle.cql_lines.specs.PatternTrees.{pattern_tree}
 use Rattle.cql_lines.specs.Tables.{atoms_of}
 use Rattle.cql_lines.specs.Trees.{spots_of}
@@ -23,9 +23,15 @@ use Rattle.cql_eval.proofs.LineAtoms.{part_flat}
 use Rattle.cql_eval.proofs.LineTables.{part_room}
 use Rattle.cql_eval.proofs.evaluate.+evaluate.Goals as goal
 
-pub lines::put_parts-loop-part-init : goal.lines::put_parts-loop-part-init
-lines::put_parts-loop-part-init g t c =
-    let begun = table_begun (searched_tree c.args.game.now c.args.variations) c.args.back c.args.names.now c.args.first c.as_slice-part-items.result.now c.args.live.now c.in_ok-starts.starts.items _ _
+pub lines::filled_row-returns-clause-never : goal.lines::filled_row-returns-clause-never
+lines::filled_row-returns-clause-never g t c =
+    λ m. all_never (tree_in c.args.way.now.scope.now) c.args.way.now.back c.deref.result.now _
+    (subst (AreAllAsked (tree_in c.args.way.now.scope.now)) (sym c.deref.ensures.value) c.in_ok-all.ensures) (c.in_ok-put_row.ensures.never refl m)
+
+pub lines::put_row-loop-part-init : goal.lines::put_row-loop-part-init
+lines::put_row-loop-part-init g t c =
+    let begun = table_begun (tree_in c.args.way.now.scope.now) c.args.way.now.back c.args.way.now.scope.now.names.now c.args.first
+    c.as_slice-part-items.result.now c.args.live.now c.in_ok-starts.starts.items _ _
     c.requires.asked c.in_ok-starts.ensures in
     record {
       table = begun;
@@ -33,171 +39,184 @@ lines::put_parts-loop-part-init g t c =
       cost = omega arith;
       rises = omega arith;
       flat = λ i k h e. part_flat c.as_slice-part-items.result.now i k (parts_tree c.args.parts.now) h e c.as_slice-part-items.ensures.tree c.requires.flat;
-      room = λ k h e. part_room (searched_tree c.args.game.now c.args.variations) c.args.back c.args.names.now c.args.first c.as_slice-part-items.result.now 0 k c.args.first
-          (length c.args.game.now.nodes) c.args.live.now c.in_ok-starts.starts.items _ _ _ _ (parts_tree c.args.parts.now) begun h e c.as_slice-part-items.ensures.tree c.requires.room;
+      room = λ k h e. part_room (tree_in c.args.way.now.scope.now) c.args.way.now.back c.args.way.now.scope.now.names.now c.args.first
+          c.as_slice-part-items.result.now 0 k c.args.first
+          (length c.args.way.now.scope.now.game.now.nodes) c.args.live.now c.in_ok-starts.starts.items _ _ _ _ (parts_tree c.args.parts.now) begun h
+          e c.as_slice-part-items.ensures.tree c.requires.room;
     }
 
-pub lines::put_parts-loop-part-preserved : goal.lines::put_parts-loop-part-preserved
-lines::put_parts-loop-part-preserved g t c =
-    let more = table_more (searched_tree c.args.game.now c.args.variations) c.args.back c.args.names.now c.args.first c.as_slice-part-items.result.now c.loop-part.part-index c.part-item.result
-    c.loop-part.at c.in_ok-at.at c.args.live.now c.loop-part.starts.items c.put_part.new.starts.items _ c.loop-part.met c.put_part.new.met _ c.loop-part.table c.put_part.new.table
+pub lines::put_row-loop-part-preserved : goal.lines::put_row-loop-part-preserved
+lines::put_row-loop-part-preserved g t c =
+    let more = table_more (tree_in c.args.way.now.scope.now) c.args.way.now.back c.args.way.now.scope.now.names.now c.args.first
+    c.as_slice-part-items.result.now c.loop-part.part-index c.part-item.result
+    c.loop-part.at c.in_ok-at.at c.args.live.now c.loop-part.starts.items c.put_part.new.starts.items _ c.loop-part.row.met c.put_part.new.row.met _
+    c.loop-part.row.table c.put_part.new.row.table
     c.loop-part-test.true c.part-item.is c.in_ok-at.ensures.next c.in_ok-at.ensures.leads c.in_ok-at.ensures.ends c.in_ok-at.ensures.others c.loop-part.invariant.table in
     record {
       table = more;
       asked = more.asked;
-      cost = parts_cost_more (searched_len (searched_tree c.args.game.now c.args.variations)) c.as_slice-part-items.result.now c.loop-part.part-index c.part-item.result _ c.loop-part.steps
+      cost = parts_cost_more (searched_len (tree_in c.args.way.now.scope.now)) c.as_slice-part-items.result.now c.loop-part.part-index c.part-item.result _ c.loop-part.steps
           c.put_part.new.steps c.loop-part-test.true c.part-item.is c.loop-part.invariant.cost c.put_part.ensures.cost;
       rises = omega (arith, c.loop-part.invariant.rises, c.put_part.ensures.rises);
       flat = c.loop-part.invariant.flat;
-      room = λ k h e. part_room (searched_tree c.args.game.now c.args.variations) c.args.back c.args.names.now c.args.first c.as_slice-part-items.result.now (c.loop-part.part-index + 1) k
-          c.in_ok-at.at (length c.args.game.now.nodes) c.args.live.now c.put_part.new.starts.items _ c.put_part.new.met _ c.put_part.new.table (parts_tree c.args.parts.now)
+      room = λ k h e. part_room (tree_in c.args.way.now.scope.now) c.args.way.now.back c.args.way.now.scope.now.names.now c.args.first
+          c.as_slice-part-items.result.now (c.loop-part.part-index + 1) k
+          c.in_ok-at.at (length c.args.way.now.scope.now.game.now.nodes) c.args.live.now c.put_part.new.starts.items _ c.put_part.new.row.met _
+          c.put_part.new.row.table (parts_tree c.args.parts.now)
           more h e c.as_slice-part-items.ensures.tree c.requires.room;
     }
 
-pub lines::put_parts-returns-clause-next : goal.lines::put_parts-returns-clause-next
-lines::put_parts-returns-clause-next g t c =
-    at_all (searched_tree c.args.game.now c.args.variations) c.args.back c.args.names.now c.args.first c.as_slice-part-items.result.now c.loop-part.part-index
-    c.loop-part.at c.args.live.now c.loop-part.starts.items _ c.loop-part.met
-    _ c.loop-part.table (parts_tree c.args.parts.now) (omega (arith, c.loop-part-test.false)) c.as_slice-part-items.ensures.tree c.loop-part.invariant.table
+pub lines::put_row-returns-clause-next : goal.lines::put_row-returns-clause-next
+lines::put_row-returns-clause-next g t c =
+    at_all (tree_in c.args.way.now.scope.now) c.args.way.now.back c.args.way.now.scope.now.names.now c.args.first c.as_slice-part-items.result.now c.loop-part.part-index
+    c.loop-part.at c.args.live.now c.loop-part.starts.items _ c.loop-part.row.met
+    _ c.loop-part.row.table (parts_tree c.args.parts.now) (omega (arith, c.loop-part-test.false)) c.as_slice-part-items.ensures.tree c.loop-part.invariant.table
 
-pub lines::put_parts-returns-clause-value : goal.lines::put_parts-returns-clause-value
-lines::put_parts-returns-clause-value g t c =
-    table_all (searched_tree c.args.game.now c.args.variations) c.args.back c.args.names.now c.args.first c.as_slice-part-items.result.now c.loop-part.part-index
-    c.loop-part.at c.args.live.now c.loop-part.starts.items _ c.loop-part.met
-    _ c.loop-part.table (parts_tree c.args.parts.now) (omega (arith, c.loop-part-test.false)) c.as_slice-part-items.ensures.tree c.loop-part.invariant.table
+pub lines::put_row-returns-clause-value : goal.lines::put_row-returns-clause-value
+lines::put_row-returns-clause-value g t c =
+    table_all (tree_in c.args.way.now.scope.now) c.args.way.now.back c.args.way.now.scope.now.names.now c.args.first c.as_slice-part-items.result.now c.loop-part.part-index
+    c.loop-part.at c.args.live.now c.loop-part.starts.items _ c.loop-part.row.met
+    _ c.loop-part.row.table (parts_tree c.args.parts.now) (omega (arith, c.loop-part-test.false)) c.as_slice-part-items.ensures.tree c.loop-part.invariant.table
 
-pub lines::put_parts-returns-clause-never : goal.lines::put_parts-returns-clause-never
-lines::put_parts-returns-clause-never g t c =
-    ends_all (searched_tree c.args.game.now c.args.variations) c.args.back c.args.names.now c.args.first c.as_slice-part-items.result.now c.loop-part.part-index
-    c.loop-part.at c.args.live.now c.loop-part.starts.items _ c.loop-part.met
-    _ c.loop-part.table (parts_tree c.args.parts.now) (omega (arith, c.loop-part-test.false)) c.as_slice-part-items.ensures.tree c.loop-part.invariant.table
+pub lines::put_row-returns-clause-never : goal.lines::put_row-returns-clause-never
+lines::put_row-returns-clause-never g t c =
+    ends_all (tree_in c.args.way.now.scope.now) c.args.way.now.back c.args.way.now.scope.now.names.now c.args.first c.as_slice-part-items.result.now c.loop-part.part-index
+    c.loop-part.at c.args.live.now c.loop-part.starts.items _ c.loop-part.row.met
+    _ c.loop-part.row.table (parts_tree c.args.parts.now) (omega (arith, c.loop-part-test.false)) c.as_slice-part-items.ensures.tree c.loop-part.invariant.table
 
-pub lines::put_parts-returns-clause-others : goal.lines::put_parts-returns-clause-others
-lines::put_parts-returns-clause-others g t c =
-    filled_all (searched_tree c.args.game.now c.args.variations) c.args.back c.args.names.now c.args.first c.as_slice-part-items.result.now c.loop-part.part-index
-    c.loop-part.at c.args.live.now c.loop-part.starts.items _ c.loop-part.met
-    _ c.loop-part.table (parts_tree c.args.parts.now) (omega (arith, c.loop-part-test.false)) c.as_slice-part-items.ensures.tree c.loop-part.invariant.table
+pub lines::put_row-returns-clause-others : goal.lines::put_row-returns-clause-others
+lines::put_row-returns-clause-others g t c =
+    filled_all (tree_in c.args.way.now.scope.now) c.args.way.now.back c.args.way.now.scope.now.names.now c.args.first c.as_slice-part-items.result.now c.loop-part.part-index
+    c.loop-part.at c.args.live.now c.loop-part.starts.items _ c.loop-part.row.met
+    _ c.loop-part.row.table (parts_tree c.args.parts.now) (omega (arith, c.loop-part-test.false)) c.as_slice-part-items.ensures.tree c.loop-part.invariant.table
 
-pub lines::put_parts-returns-in_err-at-clause-cost : goal.lines::put_parts-returns-in_err-at-clause-cost
-lines::put_parts-returns-in_err-at-clause-cost g t c =
-    parts_cost_within (searched_len (searched_tree c.args.game.now c.args.variations)) c.as_slice-part-items.result.now c.loop-part.part-index c.part-item.result _ c.loop-part.steps
+pub lines::put_row-returns-in_err-at-clause-cost : goal.lines::put_row-returns-in_err-at-clause-cost
+lines::put_row-returns-in_err-at-clause-cost g t c =
+    parts_cost_within (searched_len (tree_in c.args.way.now.scope.now)) c.as_slice-part-items.result.now c.loop-part.part-index c.part-item.result _ c.loop-part.steps
     c.put_part.new.steps (parts_tree c.args.parts.now) c.loop-part-test.true c.part-item.is c.loop-part.invariant.cost c.put_part.ensures.cost
     c.as_slice-part-items.ensures.tree
 
-pub lines::put_body-put_nodes-requires-clause-atom : goal.lines::put_body-put_nodes-requires-clause-atom
-lines::put_body-put_nodes-requires-clause-atom g t c =
+pub lines::put_wherever-put_nodes-requires-clause-atom : goal.lines::put_wherever-put_nodes-requires-clause-atom
+lines::put_wherever-put_nodes-requires-clause-atom g t c =
     let form : body_tree c.args.body.now ≡ atom (filter_tree c.deref.result.now) =
     ap body_tree c.in-Atom.is ∙ ap (λ p. atom (filter_tree p)) (sym c.deref.ensures) in
     omega (arith, c.requires.room.atoms, ap body_atoms form)
 
-pub lines::put_body-put_nodes-requires-clause-clear : goal.lines::put_body-put_nodes-requires-clause-clear
-lines::put_body-put_nodes-requires-clause-clear g t c = λ n. c.requires.room.clear c.args.first n (omega arith)
+pub lines::put_wherever-put_nodes-requires-clause-clear : goal.lines::put_wherever-put_nodes-requires-clause-clear
+lines::put_wherever-put_nodes-requires-clause-clear g t c = λ n. c.requires.room.clear c.args.first n (omega arith)
 
-pub lines::put_body-returns-in_ok-held-in-Atom-clause-value : goal.lines::put_body-returns-in_ok-held-in-Atom-clause-value
-lines::put_body-returns-in_ok-held-in-Atom-clause-value g t c =
-    atom_form (searched_tree c.args.game.now c.args.variations) c.args.back c.args.names.now
+pub lines::put_wherever-returns-in_ok-held-in-Atom-clause-value : goal.lines::put_wherever-returns-in_ok-held-in-Atom-clause-value
+lines::put_wherever-returns-in_ok-held-in-Atom-clause-value g t c =
+    atom_form (tree_in c.args.way.now.scope.now) c.args.way.now.back c.args.way.now.scope.now.names.now
     (IsLive c.args.live.now) c.put_nodes.new.table c.args.first (body_tree c.args.body.now) (filter_tree c.deref.result.now)
     (ap body_tree c.in-Atom.is ∙ ap (λ p. atom (filter_tree p)) (sym c.deref.ensures))
-    (atom_tabled (searched_tree c.args.game.now c.args.variations) c.args.back c.put_nodes.new.table c.args.first c.in_ok-column-in-Atom.column
-    (value (searched_tree c.args.game.now c.args.variations) [] c.args.names.now (filter_tree c.deref.result.now)) c.args.live.now c.requires.asked
+    (atom_tabled (tree_in c.args.way.now.scope.now) c.args.way.now.back c.put_nodes.new.table c.args.first c.in_ok-column-in-Atom.column
+    (value_in c.args.way.now.scope.now (filter_tree c.deref.result.now)) c.args.live.now c.requires.asked
     c.in_ok-column-in-Atom.ensures.value
     (held_put _ c.args.live.now c.in_ok-column-in-Atom.column c.in_ok-held-in-Atom.held.items c.deref-in-Atom.result.now _ _ c.put_nodes.new.table c.in_ok-held-in-Atom.ensures
     c.deref-in-Atom.ensures.value c.put_nodes.ensures.put))
 
-pub lines::put_body-returns-in_ok-held-in-Atom-clause-never : goal.lines::put_body-returns-in_ok-held-in-Atom-clause-never
-lines::put_body-returns-in_ok-held-in-Atom-clause-never g t c =
-    λ b m. never_form (searched_tree c.args.game.now c.args.variations) c.args.back c.args.names.now (IsLive c.args.live.now)
+pub lines::put_wherever-returns-in_ok-held-in-Atom-clause-never : goal.lines::put_wherever-returns-in_ok-held-in-Atom-clause-never
+lines::put_wherever-returns-in_ok-held-in-Atom-clause-never g t c =
+    λ b m. never_form (tree_in c.args.way.now.scope.now) c.args.way.now.back c.args.way.now.scope.now.names.now (IsLive c.args.live.now)
     (body_tree c.args.body.now) (filter_tree c.deref.result.now) (ap body_tree c.in-Atom.is ∙ ap (λ p. atom (filter_tree p)) (sym c.deref.ensures))
-    (atom_never (searched_tree c.args.game.now c.args.variations) c.args.back c.put_nodes.new.table c.args.first c.in_ok-column-in-Atom.column
-    (value (searched_tree c.args.game.now c.args.variations) [] c.args.names.now (filter_tree c.deref.result.now)) c.args.live.now c.requires.asked
+    (atom_never (tree_in c.args.way.now.scope.now) c.args.way.now.back c.put_nodes.new.table c.args.first c.in_ok-column-in-Atom.column
+    (value_in c.args.way.now.scope.now (filter_tree c.deref.result.now)) c.args.live.now c.requires.asked
     c.in_ok-column-in-Atom.ensures.value
     (held_put _ c.args.live.now c.in_ok-column-in-Atom.column c.in_ok-held-in-Atom.held.items c.deref-in-Atom.result.now _ _ c.put_nodes.new.table c.in_ok-held-in-Atom.ensures
     c.deref-in-Atom.ensures.value c.put_nodes.ensures.put)
     c.in_ok-held-in-Atom.held.items c.in_ok-held-in-Atom.ensures
-    (ap (list_any (λ x. x)) (sym c.deref-in-Atom-2.ensures.value) ∙ sym c.any_live-some.ensures ∙ not_some _ _ b (sym c.both.ensures ∙ m)))
+    (ap (list_any (λ x. x)) (sym c.deref-in-Atom-2.ensures.value) ∙ sym c.any_live-some.ensures ∙ not_some _ _ b (sym c.both-row.ensures ∙ m)))
 
 pub lines::put_marked-returns-clause-leads : goal.lines::put_marked-returns-clause-leads
 lines::put_marked-returns-clause-leads g t c =
-    wide_leads_at (searched_tree c.args.game.now c.args.variations) c.requires.tree c.args.back c.args.starts.now.items c.deref.result.now c.in_ok-wide.wide.items
+    wide_leads_at (tree_in c.args.way.now.scope.now) c.requires.tree c.args.way.now.back c.args.starts.now.items c.deref.result.now c.in_ok-wide.wide.items
     c.deref-2.result.now c.deref.ensures.value c.deref-2.ensures.value
-    c.requires.asked c.in_ok-wide.ensures c.put_body.new.table (c.args.first + body_atoms (body_tree c.args.part.now.body)) (body_numbered c.args.first (body_tree c.args.part.now.body))
-    (body_pattern (searched_tree c.args.game.now c.args.variations) [] c.args.names.now (body_tree c.args.part.now.body)) c.args.part.now.mark c.in_ok-next.ensures.value
+    c.requires.asked c.in_ok-wide.ensures c.put_wherever.new.row.table (c.args.first + body_atoms (body_tree c.args.part.now.body))
+    (body_numbered c.args.first (body_tree c.args.part.now.body))
+    (body_in c.args.way.now.scope.now (body_tree c.args.part.now.body)) c.args.part.now.mark c.in_ok-next.ensures.value
 
 pub lines::put_marked-returns-clause-ends : goal.lines::put_marked-returns-clause-ends
 lines::put_marked-returns-clause-ends g t c =
-    λ b m. let parts = not_met _ _ _ b (sym c.goes_on.ensures ∙ m) in
-    wide_ends_at (searched_tree c.args.game.now c.args.variations) c.requires.tree c.args.back c.args.starts.now.items c.deref.result.now c.in_ok-wide.wide.items
+    λ b m. let parts = not_met _ _ _ b (sym c.goes_on-row.ensures ∙ m) in
+    wide_ends_at (tree_in c.args.way.now.scope.now) c.requires.tree c.args.way.now.back c.args.starts.now.items c.deref.result.now c.in_ok-wide.wide.items
     c.deref-2.result.now c.deref.ensures.value c.deref-2.ensures.value
-    c.requires.asked c.in_ok-wide.ensures c.put_body.new.table (c.args.first + body_atoms (body_tree c.args.part.now.body)) (body_numbered c.args.first (body_tree c.args.part.now.body))
-    (body_pattern (searched_tree c.args.game.now c.args.variations) [] c.args.names.now (body_tree c.args.part.now.body)) c.args.part.now.mark
+    c.requires.asked c.in_ok-wide.ensures c.put_wherever.new.row.table (c.args.first + body_atoms (body_tree c.args.part.now.body))
+    (body_numbered c.args.first (body_tree c.args.part.now.body))
+    (body_in c.args.way.now.scope.now (body_tree c.args.part.now.body)) c.args.part.now.mark
     (sym c.is_needed-needed.ensures ∙ parts.1) (c.in_ok-next.ensures.never refl parts.0)
 
 pub lines::put_once-returns-in_ok-behind-in-Atom-clause-leads : goal.lines::put_once-returns-in_ok-behind-in-Atom-clause-leads
 lines::put_once-returns-in_ok-behind-in-Atom-clause-leads g t c =
-    leads_at (searched_tree c.args.game.now c.args.variations) c.args.back c.args.starts.now.items c.deref-in-Atom.result.now c.in_ok-behind-in-Atom.behind.items
-    c.deref-in-Atom.ensures.value c.put_atom.new.table (c.args.first + body_atoms (body_tree c.args.body.now)) (body_numbered c.args.first (body_tree c.args.body.now))
-    (body_pattern (searched_tree c.args.game.now c.args.variations) [] c.args.names.now (body_tree c.args.body.now))
-    (leads_form (searched_tree c.args.game.now c.args.variations) c.args.back c.args.names.now c.deref-in-Atom.result.now c.in_ok-behind-in-Atom.behind.items
-    c.put_atom.new.table c.args.first (body_tree c.args.body.now) (filter_tree c.deref.result.now)
+    leads_at (tree_in c.args.way.now.scope.now) c.args.way.now.back c.args.starts.now.items c.deref-in-Atom.result.now c.in_ok-behind-in-Atom.behind.items
+    c.deref-in-Atom.ensures.value c.put_atom_once.new.row.table (c.args.first + body_atoms (body_tree c.args.body.now)) (body_numbered c.args.first
+    (body_tree c.args.body.now))
+    (body_in c.args.way.now.scope.now (body_tree c.args.body.now))
+    (leads_form (tree_in c.args.way.now.scope.now) c.args.way.now.back c.args.way.now.scope.now.names.now c.deref-in-Atom.result.now c.in_ok-behind-in-Atom.behind.items
+    c.put_atom_once.new.row.table c.args.first (body_tree c.args.body.now) (filter_tree c.deref.result.now)
     (ap body_tree c.in-Atom.is ∙ ap (λ p. atom (filter_tree p)) (sym c.deref.ensures)) c.in_ok-behind-in-Atom.ensures.leads)
 
 pub lines::put_once-returns-in_ok-behind-in-Atom-clause-ends : goal.lines::put_once-returns-in_ok-behind-in-Atom-clause-ends
 lines::put_once-returns-in_ok-behind-in-Atom-clause-ends g t c =
-    λ b m. ends_at (searched_tree c.args.game.now c.args.variations) c.args.back c.args.starts.now.items c.deref-in-Atom.result.now c.deref-in-Atom.ensures.value
-    (body_pattern (searched_tree c.args.game.now c.args.variations) [] c.args.names.now (body_tree c.args.body.now))
-    (ends_form (searched_tree c.args.game.now c.args.variations) c.args.back c.args.names.now c.deref-in-Atom.result.now (body_tree c.args.body.now) (filter_tree c.deref.result.now)
+    λ b m. ends_at (tree_in c.args.way.now.scope.now) c.args.way.now.back c.args.starts.now.items c.deref-in-Atom.result.now c.deref-in-Atom.ensures.value
+    (body_in c.args.way.now.scope.now (body_tree c.args.body.now))
+    (ends_form (tree_in c.args.way.now.scope.now) c.args.way.now.back c.args.way.now.scope.now.names.now c.deref-in-Atom.result.now
+    (body_tree c.args.body.now) (filter_tree c.deref.result.now)
     (ap body_tree c.in-Atom.is ∙ ap (λ p. atom (filter_tree p)) (sym c.deref.ensures)) (c.in_ok-behind-in-Atom.ensures.ends b m))
 
 pub lines::put_once-returns-in_ok-starts-in-Group-clause-leads : goal.lines::put_once-returns-in_ok-starts-in-Group-clause-leads
 lines::put_once-returns-in_ok-starts-in-Group-clause-leads g t c =
-    group_leads_at (searched_tree c.args.game.now c.args.variations) c.requires.tree c.args.back c.args.starts.now.items c.deref-in-Group-2.result.now
+    group_leads_at (tree_in c.args.way.now.scope.now) c.requires.tree c.args.way.now.back c.args.starts.now.items c.deref-in-Group-2.result.now
     c.in_ok-starts-in-Group.field-0.items c.deref-in-Group.result.now
-    c.deref-in-Group-2.ensures.value c.deref-in-Group.ensures.value c.requires.asked c.in_ok-starts-in-Group.ensures c.put_parts.new.table
+    c.deref-in-Group-2.ensures.value c.deref-in-Group.ensures.value c.requires.asked c.in_ok-starts-in-Group.ensures c.put_row.new.row.table
     (c.args.first + body_atoms (body_tree c.args.body.now)) (body_numbered c.args.first (body_tree c.args.body.now))
-    (body_pattern (searched_tree c.args.game.now c.args.variations) [] c.args.names.now (body_tree c.args.body.now))
-    (group_tabled (searched_tree c.args.game.now c.args.variations) c.args.back c.args.names.now
-    (IsLive c.deref-in-Group.result.now) c.put_parts.new.table c.args.first (body_tree c.args.body.now) (parts_tree c.in-Group.parts)
+    (body_in c.args.way.now.scope.now (body_tree c.args.body.now))
+    (group_tabled (tree_in c.args.way.now.scope.now) c.args.way.now.back c.args.way.now.scope.now.names.now
+    (IsLive c.deref-in-Group.result.now) c.put_row.new.row.table c.args.first (body_tree c.args.body.now) (parts_tree c.in-Group.parts)
     (ap body_tree c.in-Group.is) c.in_ok-next-in-Group.ensures.value)
 
 pub lines::put_once-returns-in_ok-starts-in-Group-clause-ends : goal.lines::put_once-returns-in_ok-starts-in-Group-clause-ends
 lines::put_once-returns-in_ok-starts-in-Group-clause-ends g t c =
-    λ b m. ends_at (searched_tree c.args.game.now c.args.variations) c.args.back c.args.starts.now.items c.deref-in-Group.result.now c.deref-in-Group.ensures.value
-    (body_pattern (searched_tree c.args.game.now c.args.variations) [] c.args.names.now (body_tree c.args.body.now))
-    (group_ends (searched_tree c.args.game.now c.args.variations) c.requires.tree c.args.back c.deref-in-Group.result.now
-    (body_pattern (searched_tree c.args.game.now c.args.variations) [] c.args.names.now (body_tree c.args.body.now))
-    (group_never (searched_tree c.args.game.now c.args.variations) c.args.back c.args.names.now (IsLive c.deref-in-Group.result.now)
+    λ b m. ends_at (tree_in c.args.way.now.scope.now) c.args.way.now.back c.args.starts.now.items c.deref-in-Group.result.now c.deref-in-Group.ensures.value
+    (body_in c.args.way.now.scope.now (body_tree c.args.body.now))
+    (group_ends (tree_in c.args.way.now.scope.now) c.requires.tree c.args.way.now.back c.deref-in-Group.result.now
+    (body_in c.args.way.now.scope.now (body_tree c.args.body.now))
+    (group_never (tree_in c.args.way.now.scope.now) c.args.way.now.back c.args.way.now.scope.now.names.now (IsLive c.deref-in-Group.result.now)
     (body_tree c.args.body.now) (parts_tree c.in-Group.parts) (ap body_tree c.in-Group.is)
     (c.in_ok-next-in-Group.ensures.never b m)))
 
 pub lines::put_part-returns-in-Once-clause-ends : goal.lines::put_part-returns-in-Once-clause-ends
 lines::put_part-returns-in-Once-clause-ends g t c =
-    subst (λ m. OnOk c.put_once.result (c.args.met.now ≡ true → c.put_once.new.met ≡ false → EndsHere (searched_tree c.args.game.now c.args.variations) c.args.back c.args.starts.now.items
-    (marked m (body_pattern (searched_tree c.args.game.now c.args.variations) [] c.args.names.now (body_tree c.args.part.now.body))))) (sym c.in-Once.is) c.put_once.ensures.ends
+    subst (λ m. OnOk c.put_once.result (c.args.row.now.met ≡ true → c.put_once.new.row.met ≡ false → EndsHere (tree_in c.args.way.now.scope.now)
+    c.args.way.now.back c.args.starts.now.items
+    (marked m (body_in c.args.way.now.scope.now (body_tree c.args.part.now.body))))) (sym c.in-Once.is) c.put_once.ensures.ends
 
-pub lines::put_atom-returns-clause-leads : goal.lines::put_atom-returns-clause-leads
-lines::put_atom-returns-clause-leads g t c =
-    atom_leads (searched_tree c.args.game.now c.args.variations) c.args.back c.put_nodes.new.table c.args.first c.in_ok-column.column
-    (value (searched_tree c.args.game.now c.args.variations) [] c.args.names.now (filter_tree c.args.filter.now))
+pub lines::put_atom_once-returns-clause-leads : goal.lines::put_atom_once-returns-clause-leads
+lines::put_atom_once-returns-clause-leads g t c =
+    atom_leads (tree_in c.args.way.now.scope.now) c.args.way.now.back c.put_nodes.new.table c.args.first c.in_ok-column.column
+    (value_in c.args.way.now.scope.now (filter_tree c.args.filter.now))
     c.args.live.now c.requires.asked c.in_ok-column.ensures.value
-    (held_put _ c.args.live.now c.in_ok-column.column c.in_ok-held.held.items c.deref.result.now _ _ c.put_nodes.new.table c.in_ok-held.ensures c.deref.ensures.value c.put_nodes.ensures.put)
+    (held_put _ c.args.live.now c.in_ok-column.column c.in_ok-held.held.items c.deref.result.now _ _ c.put_nodes.new.table c.in_ok-held.ensures
+    c.deref.ensures.value c.put_nodes.ensures.put)
     c.in_ok-held.held.items c.in_ok-held.ensures c.in_ok-behind.behind.items
-    (onward_at (searched_tree c.args.game.now c.args.variations) c.args.back c.in_ok-held.held.items c.deref-3.result.now c.in_ok-behind.behind.items c.deref-3.ensures.value c.in_ok-behind.ensures)
+    (onward_at (tree_in c.args.way.now.scope.now) c.args.way.now.back c.in_ok-held.held.items c.deref-3.result.now c.in_ok-behind.behind.items
+    c.deref-3.ensures.value c.in_ok-behind.ensures)
 
 pub lines::line_numbers-returns-then-not-met-clause-value : goal.lines::line_numbers-returns-then-not-met-clause-value
 lines::line_numbers-returns-then-not-met-clause-value g t c =
-    λ n l. no_line (searched_tree c.args.game.now c.args.variations) c.requires.tree c.args.names.now c.args.line.now c.new.result.items c.new.ensures.items
-    (c.in_ok-table.ensures.never refl c.if-not-met.true) n
+    λ n l. no_line (tree_in c.args.scope.now) c.requires.tree c.args.scope.now.names.now c.args.line.now c.new.result.items c.new.ensures.items
+    (c.in_ok-row.ensures.never c.if-not-met.true) n
     (c.requires.asked.searched n l, let inside = live_below c.args.live.now n l in omega (arith, inside, c.requires.asked.count))
 
 pub lines::line_numbers-returns-then-not-met-clause-cost : goal.lines::line_numbers-returns-then-not-met-clause-cost
 lines::line_numbers-returns-then-not-met-clause-cost g t c =
-    atoms_within (searched_len (searched_tree c.args.game.now c.args.variations)) c.args.line.now _ c.filled_table.new.steps c.filled_table.ensures.cost
+    atoms_within (searched_len (tree_in c.args.scope.now)) c.args.line.now _ c.filled_row.new.steps c.filled_row.ensures.cost
 
-pub lines::put_atom-put_nodes-requires-clause-atom : goal.lines::put_atom-put_nodes-requires-clause-atom
-lines::put_atom-put_nodes-requires-clause-atom g t c = omega (arith, c.requires.room.atoms)
+pub lines::put_atom_once-put_nodes-requires-clause-atom : goal.lines::put_atom_once-put_nodes-requires-clause-atom
+lines::put_atom_once-put_nodes-requires-clause-atom g t c = omega (arith, c.requires.room.atoms)
 
-pub lines::put_atom-put_nodes-requires-clause-clear : goal.lines::put_atom-put_nodes-requires-clause-clear
-lines::put_atom-put_nodes-requires-clause-clear g t c = λ n. c.requires.room.clear c.args.first n (omega arith)
+pub lines::put_atom_once-put_nodes-requires-clause-clear : goal.lines::put_atom_once-put_nodes-requires-clause-clear
+lines::put_atom_once-put_nodes-requires-clause-clear g t c = λ n. c.requires.room.clear c.args.first n (omega arith)
 
 pub lines::line_numbers-parts_pattern-requires : goal.lines::line_numbers-parts_pattern-requires
 lines::line_numbers-parts_pattern-requires g t c = omega (arith, few_atoms _ (line_flat c.args.line.now c.requires.flat).0)
@@ -210,62 +229,62 @@ lines::line_numbers-build-requires g t c = record {
 
 pub lines::line_numbers-line_values-requires-clause-atoms : goal.lines::line_numbers-line_values-requires-clause-atoms
 lines::line_numbers-line_values-requires-clause-atoms g t c =
-    c.in_ok-automaton.ensures.atoms (atoms_of c.in_ok-table.table)
-    (atoms_below (parts_tree (out-Line c.args.line.now).parts) (pattern_tree c.in_ok-pattern.pattern) (atoms_of c.in_ok-table.table) c.in_ok-pattern.ensures.pattern
-    (omega (arith, c.in_ok-table.ensures.atoms, c.in_ok-pattern.ensures.next)))
+    c.in_ok-automaton.ensures.atoms (atoms_of c.in_ok-row.row.table)
+    (atoms_below (parts_tree (out-Line c.args.line.now).parts) (pattern_tree c.in_ok-pattern.pattern) (atoms_of c.in_ok-row.row.table) c.in_ok-pattern.ensures.pattern
+    (omega (arith, c.in_ok-row.ensures.atoms, c.in_ok-pattern.ensures.next)))
 
 pub lines::line_numbers-line_values-requires-clause-nodes : goal.lines::line_numbers-line_values-requires-clause-nodes
 lines::line_numbers-line_values-requires-clause-nodes g t c =
     let spots = ap length c.in_ok-shape.ensures.spots in
     omega (
       arith,
-      c.in_ok-table.ensures.nodes,
+      c.in_ok-row.ensures.nodes,
       spots,
-      length-map-range_with_len (spot_at (searched_tree c.args.game.now c.args.variations)) 0 (length c.args.game.now.nodes),
+      length-map-range_with_len (spot_at (tree_in c.args.scope.now)) 0 (length c.args.scope.now.game.now.nodes),
     )
 
 pub lines::line_numbers-returns-clause-value : goal.lines::line_numbers-returns-clause-value
 lines::line_numbers-returns-clause-value g t c = λ n l.
     let inside = live_below c.args.live.now n l in
-    let low : n < length c.args.game.now.nodes = omega (arith, inside, c.requires.asked.count) in
+    let low : n < length c.args.scope.now.game.now.nodes = omega (arith, inside, c.requires.asked.count) in
     let spots = ap length c.in_ok-shape.ensures.spots in
-    numbers_are (searched_tree c.args.game.now c.args.variations) c.requires.tree c.args.names.now c.args.line.now (spots_of c.in_ok-shape.shape) _ _ _ c.in_ok-shape.ensures.spots
-    c.in_ok-shape.ensures.way.0 c.in_ok-shape.ensures.way.1 c.in_ok-shape.ensures.way.2 c.in_ok-table.table
-    (pattern_tree c.in_ok-pattern.pattern) c.in_ok-pattern.ensures.pattern c.in_ok-table.ensures.value c.in_ok-numbers.numbers.items
+    numbers_are (tree_in c.args.scope.now) c.requires.tree c.args.scope.now.names.now c.args.line.now (spots_of c.in_ok-shape.shape) _ _ _ c.in_ok-shape.ensures.spots
+    c.in_ok-shape.ensures.way.0 c.in_ok-shape.ensures.way.1 c.in_ok-shape.ensures.way.2 c.in_ok-row.row.table
+    (pattern_tree c.in_ok-pattern.pattern) c.in_ok-pattern.ensures.pattern c.in_ok-row.ensures.value c.in_ok-numbers.numbers.items
     c.in_ok-values.values.items (c.in_ok-numbers.ensures ∙ ap (map (option_map pos)) c.as_slice.ensures.value) n (c.requires.asked.searched n l, low)
     (c.in_ok-values.ensures.values (pattern_tree c.in_ok-pattern.pattern) c.in_ok-automaton.ensures.automaton n
-    (omega (arith, low, spots, length-map-range_with_len (spot_at (searched_tree c.args.game.now c.args.variations)) 0 (length c.args.game.now.nodes))))
+    (omega (arith, low, spots, length-map-range_with_len (spot_at (tree_in c.args.scope.now)) 0 (length c.args.scope.now.game.now.nodes))))
 
 pub lines::line_numbers-returns-clause-cost : goal.lines::line_numbers-returns-clause-cost
 lines::line_numbers-returns-clause-cost g t c =
-    looks_within (searched_tree c.args.game.now c.args.variations) c.args.line.now _ c.filled_table.new.steps c.line_values.new.steps (atoms_of c.in_ok-table.table) (spots_of c.in_ok-shape.shape)
-    c.in_ok-shape.ensures.spots (omega (arith, c.in_ok-table.ensures.atoms, c.in_ok-pattern.ensures.next))
-    c.filled_table.ensures.cost c.line_values.ensures.cost
+    looks_within (tree_in c.args.scope.now) c.args.line.now _ c.filled_row.new.steps c.line_values.new.steps (atoms_of c.in_ok-row.row.table) (spots_of c.in_ok-shape.shape)
+    c.in_ok-shape.ensures.spots (omega (arith, c.in_ok-row.ensures.atoms, c.in_ok-pattern.ensures.next))
+    c.filled_row.ensures.cost c.line_values.ensures.cost
 
 pub lines::line_numbers-returns-in_err-numbers-clause-cost : goal.lines::line_numbers-returns-in_err-numbers-clause-cost
 lines::line_numbers-returns-in_err-numbers-clause-cost g t c =
-    looks_within (searched_tree c.args.game.now c.args.variations) c.args.line.now _ c.filled_table.new.steps c.line_values.new.steps (atoms_of c.in_ok-table.table) (spots_of c.in_ok-shape.shape)
-    c.in_ok-shape.ensures.spots (omega (arith, c.in_ok-table.ensures.atoms, c.in_ok-pattern.ensures.next))
-    c.filled_table.ensures.cost c.line_values.ensures.cost
+    looks_within (tree_in c.args.scope.now) c.args.line.now _ c.filled_row.new.steps c.line_values.new.steps (atoms_of c.in_ok-row.row.table) (spots_of c.in_ok-shape.shape)
+    c.in_ok-shape.ensures.spots (omega (arith, c.in_ok-row.ensures.atoms, c.in_ok-pattern.ensures.next))
+    c.filled_row.ensures.cost c.line_values.ensures.cost
 
 pub lines::line_numbers-returns-in_err-values-clause-cost : goal.lines::line_numbers-returns-in_err-values-clause-cost
 lines::line_numbers-returns-in_err-values-clause-cost g t c =
-    looks_within (searched_tree c.args.game.now c.args.variations) c.args.line.now _ c.filled_table.new.steps c.line_values.new.steps (atoms_of c.in_ok-table.table) (spots_of c.in_ok-shape.shape)
-    c.in_ok-shape.ensures.spots (omega (arith, c.in_ok-table.ensures.atoms, c.in_ok-pattern.ensures.next))
-    c.filled_table.ensures.cost c.line_values.ensures.cost
+    looks_within (tree_in c.args.scope.now) c.args.line.now _ c.filled_row.new.steps c.line_values.new.steps (atoms_of c.in_ok-row.row.table) (spots_of c.in_ok-shape.shape)
+    c.in_ok-shape.ensures.spots (omega (arith, c.in_ok-row.ensures.atoms, c.in_ok-pattern.ensures.next))
+    c.filled_row.ensures.cost c.line_values.ensures.cost
 
 pub lines::line_numbers-returns-in_err-shape-clause-cost : goal.lines::line_numbers-returns-in_err-shape-clause-cost
 lines::line_numbers-returns-in_err-shape-clause-cost g t c =
-    atoms_within (searched_len (searched_tree c.args.game.now c.args.variations)) c.args.line.now _ c.filled_table.new.steps c.filled_table.ensures.cost
+    atoms_within (searched_len (tree_in c.args.scope.now)) c.args.line.now _ c.filled_row.new.steps c.filled_row.ensures.cost
 
 pub lines::line_numbers-returns-in_err-pattern-clause-cost : goal.lines::line_numbers-returns-in_err-pattern-clause-cost
 lines::line_numbers-returns-in_err-pattern-clause-cost g t c =
-    atoms_within (searched_len (searched_tree c.args.game.now c.args.variations)) c.args.line.now _ c.filled_table.new.steps c.filled_table.ensures.cost
+    atoms_within (searched_len (tree_in c.args.scope.now)) c.args.line.now _ c.filled_row.new.steps c.filled_row.ensures.cost
 
 pub lines::line_numbers-returns-in_err-automaton-clause-cost : goal.lines::line_numbers-returns-in_err-automaton-clause-cost
 lines::line_numbers-returns-in_err-automaton-clause-cost g t c =
-    atoms_within (searched_len (searched_tree c.args.game.now c.args.variations)) c.args.line.now _ c.filled_table.new.steps c.filled_table.ensures.cost
+    atoms_within (searched_len (tree_in c.args.scope.now)) c.args.line.now _ c.filled_row.new.steps c.filled_row.ensures.cost
 
-pub lines::line_numbers-returns-in_err-table-clause-cost : goal.lines::line_numbers-returns-in_err-table-clause-cost
-lines::line_numbers-returns-in_err-table-clause-cost g t c =
-    atoms_within (searched_len (searched_tree c.args.game.now c.args.variations)) c.args.line.now _ c.filled_table.new.steps c.filled_table.ensures.cost
+pub lines::line_numbers-returns-in_err-row-clause-cost : goal.lines::line_numbers-returns-in_err-row-clause-cost
+lines::line_numbers-returns-in_err-row-clause-cost g t c =
+    atoms_within (searched_len (tree_in c.args.scope.now)) c.args.line.now _ c.filled_row.new.steps c.filled_row.ensures.cost

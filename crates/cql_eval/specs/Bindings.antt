@@ -1,0 +1,10 @@
+-- Squares that are bound to a name one by one, as the private functions give it.
+use Rattle.std.specs.Prelude.{ℕ, Bool, ◌∷◌}
+use Rattle.cql_syntax.specs.Trees.{FilterTree}
+use Rattle.cql_syntax.specs.Values.{holds}
+use Rattle.cql_eval.specs.Scopes.{value_with}
+use Rattle.cql_eval.specs.declared.evaluate.squares.Binding.{Binding}
+
+-- whether a filter holds at a node with a square bound to the name
+abbrev pub holds_with : Binding → FilterTree → ℕ → ℕ → Bool
+holds_with b f n s = holds (value_with b.scope.now f ((b.name.now, s) ∷ b.scope.now.names.now) n)

@@ -1,0 +1,210 @@
+//! Members of families that hold nowhere in a game, since men that they ask for never stand on a square that they name.
+ghost use Rattle.std.specs.Prelude.{◌≡◌, Bool, List, [], false, true, IfOk, OnOk};
+ghost use Rattle.cq_position.specs.Search.{SearchedTree};
+ghost use Rattle.cql_syntax.specs.Meaning.{Names, values};
+ghost use Rattle.cql_syntax.specs.TreeOf.{filter_tree, filters_tree};
+ghost use Rattle.cql_syntax.specs.Values.{all_hold, holds};
+ghost use Rattle.cql_eval.specs.Columns.{AreAsked, Where};
+ghost use Rattle.cql_eval.specs.Ever.{AreEver, HoldsNowhere, IsEver, StandsNowhere, anywhere};
+ghost use Rattle.cql_eval.specs.Scopes.{tree_in};
+
+use crate::filter_column::FilterColumn;
+use crate::free::is_all;
+use crate::leaves::standing_sets;
+use crate::scope::Scope;
+use crate::squares::wanted_squares;
+use cq_outside::NoMemory;
+use cq_symmetry::SquarePart;
+use cql_syntax::{Designator, Filter, Filters, Form};
+use std::alloc::Global;
+
+/// Squares among which are all on which some men stand at the nodes that are asked for.
+#[derive(Clone, Copy)]
+pub(crate) struct Ever {
+    /// Bit k is man k.
+    men: u16,
+    squares: u64,
+}
+
+// Of so many sets of men at most it is asked where they stand.
+const MOST_SETS_OF_MEN: usize = 8;
+
+// From so many members on a family is looked at for those that hold nowhere.
+const MANY_MEMBERS: usize = 8;
+
+/// Whether a family has so many members that it pays to look where their men stand.
+pub(crate) fn is_large(members: &Filters) -> bool {
+    members.len() >= MANY_MEMBERS
+}
+
+/// Where the men stand that designators of some filters ask for, or of their parts.
+pub(crate) fn evers_of(
+    alloc: Global,
+    filters: &Filters,
+    scope: &Scope,
+    live: &[bool],
+) -> Result<Vec<Ever>, NoMemory>
+    requires asked { AreAsked (tree_in scope.now) live.now }
+    ensures { IfOk result (λ evers. AreEver (tree_in scope.now) live.now evers.items) }
+{
+    let mut evers = Vec::new(alloc);
+    for filter in filters.as_slice() {
+        add_filter(alloc, filter, scope, live, &mut evers)?;
+    }
+    Ok(evers)
+}
+
+fn add_filter(
+    alloc: Global,
+    filter: &Filter,
+    scope: &Scope,
+    live: &[bool],
+    evers: &mut Vec<Ever>,
+) -> Result<(), NoMemory>
+    requires asked { AreAsked (tree_in scope.now) live.now }
+    requires evers { AreEver (tree_in scope.now) live.now evers.old.items }
+    ensures { OnOk result (AreEver (tree_in scope.now) live.now evers.new.items) }
+{
+    match &filter.form {
+        Form::Chain(chain, parts) if is_all(*chain) => {
+            add_parts(alloc, parts, scope, live, evers)
+        }
+        _ => add_part(alloc, filter, scope, live, evers),
+    }
+}
+
+fn add_parts(
+    alloc: Global,
+    parts: &Filters,
+    scope: &Scope,
+    live: &[bool],
+    evers: &mut Vec<Ever>,
+) -> Result<(), NoMemory>
+    requires asked { AreAsked (tree_in scope.now) live.now }
+    requires evers { AreEver (tree_in scope.now) live.now evers.old.items }
+    ensures { OnOk result (AreEver (tree_in scope.now) live.now evers.new.items) }
+{
+    for part in parts.as_slice() {
+        add_part(alloc, part, scope, live, evers)?;
+    }
+    Ok(())
+}
+
+fn add_part(
+    alloc: Global,
+    part: &Filter,
+    scope: &Scope,
+    live: &[bool],
+    evers: &mut Vec<Ever>,
+) -> Result<(), NoMemory>
+    requires asked { AreAsked (tree_in scope.now) live.now }
+    requires evers { AreEver (tree_in scope.now) live.now evers.old.items }
+    ensures { OnOk result (AreEver (tree_in scope.now) live.now evers.new.items) }
+{
+    match &part.form {
+        Form::Squares(d) => add_men(alloc, d.men, scope, live, evers),
+        _ => Ok(()),
+    }
+}
+
+fn add_men(
+    alloc: Global,
+    men: u16,
+    scope: &Scope,
+    live: &[bool],
+    evers: &mut Vec<Ever>,
+) -> Result<(), NoMemory>
+    requires asked { AreAsked (tree_in scope.now) live.now }
+    requires evers { AreEver (tree_in scope.now) live.now evers.old.items }
+    ensures { OnOk result (AreEver (tree_in scope.now) live.now evers.new.items) }
+{
+    if evers.len() >= MOST_SETS_OF_MEN || is_known(evers, men) {
+        return Ok(());
+    }
+    let ever = ever_of(alloc, men, scope, live)?;
+    evers.push(ever)?;
+    Ok(())
+}
+
+fn is_known(evers: &[Ever], men: u16) -> bool {
+    evers.iter().any(|ever| ever.men == men)
+}
+
+// Where these men stand.
+fn ever_of(alloc: Global, men: u16, scope: &Scope, live: &[bool]) -> Result<Ever, NoMemory>
+    requires asked { AreAsked (tree_in scope.now) live.now }
+    ensures { IfOk result (IsEver (tree_in scope.now) live.now) }
+{
+    let everywhere = on_any_square(men);
+    let sets = standing_sets(alloc, &everywhere, scope, live)?;
+    let squares = wanted_squares(live, &FilterColumn::Sets(sets));
+    Ok(Ever { men, squares })
+}
+
+fn on_any_square(men: u16) -> Designator
+    ensures { result ≡ anywhere men }
+{
+    Designator {
+        men,
+        part: SquarePart {
+            squares: u64::MAX,
+            whole_ranks: false,
+            whole_files: false,
+        },
+    }
+}
+
+/// True only where a filter holds at none of the nodes that are asked for. Forms other than designators, and braces of such, give false.
+#[tactic(auto, unfolding(cql_syntax::specs::Meaning::value, cql_syntax::specs::Contexts::designator_image))]
+pub(crate) fn holds_nowhere(evers: &[Ever], filter: &Filter) -> bool
+    ensures { result ≡ true → (tree : SearchedTree) (live : List Bool) (e : Names) → AreEver tree live evers.now
+        → HoldsNowhere tree live e (filter_tree filter.now) }
+{
+    match &filter.form {
+        Form::Squares(d) => stands_nowhere(evers, d),
+        Form::Chain(chain, parts) => is_all(*chain) && one_nowhere(evers, parts),
+        _ => false,
+    }
+}
+
+// Whether one of some filters holds nowhere, so that they hold nowhere together.
+fn one_nowhere(evers: &[Ever], parts: &Filters) -> bool
+    ensures { result ≡ true → (tree : SearchedTree) (live : List Bool) (e : Names) → AreEver tree live evers.now
+        → Where live (λ n. holds (all_hold (values tree [] e (filters_tree parts.now) n)) ≡ false) }
+{
+    for part in parts.as_slice() {
+        if part_nowhere(evers, part) {
+            return true;
+        }
+    }
+    false
+}
+
+#[tactic(auto, unfolding(cql_syntax::specs::Meaning::value, cql_syntax::specs::Contexts::designator_image))]
+fn part_nowhere(evers: &[Ever], part: &Filter) -> bool
+    ensures { result ≡ true → (tree : SearchedTree) (live : List Bool) (e : Names) → AreEver tree live evers.now
+        → HoldsNowhere tree live e (filter_tree part.now) }
+{
+    match &part.form {
+        Form::Squares(d) => stands_nowhere(evers, d),
+        _ => false,
+    }
+}
+
+fn stands_nowhere(evers: &[Ever], d: &Designator) -> bool
+    ensures { result ≡ true → (tree : SearchedTree) (live : List Bool) → AreEver tree live evers.now → StandsNowhere tree live d.now }
+{
+    for ever in evers {
+        if is_without(*ever, d) {
+            return true;
+        }
+    }
+    false
+}
+
+// Whether it is told where just these men stand, and none of the squares is among those.
+fn is_without(ever: Ever, d: &Designator) -> bool
+    ensures { result ≡ true → (tree : SearchedTree) (live : List Bool) → IsEver tree live ever → StandsNowhere tree live d.now }
+{
+    ever.men == d.men && ever.squares & d.part.squares == 0
+}
