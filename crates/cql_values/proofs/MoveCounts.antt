@@ -1,6 +1,6 @@
 -- How many moves are on the way to a node, from those on the way to its parent.
 use Rattle.std.proofs.Common.{◌≡◌, ℕ, zero, suc, ◌+◌, ◌-◌, ◌<◌, ◌≤◌, Bool, true, false, ◌||◌, not, List, [], ◌∷◌, ◌++◌, length, get_or, Some, None, refl, ap, ◌∙◌, sym, subst, arith, count_by, cond, ⊎_elim, inl, inr, length-append}
-use Rattle.std.specs.Prelude.{Option}
+use Rattle.std.specs.Prelude.{Option, if◌then◌else◌}
 use Rattle.std.specs.List.{prefix_len}
 use Rattle.std.proofs.lemmas.Bool.{cases_order}
 use Rattle.std.proofs.lemmas.List.{get_or_append_left}
@@ -22,6 +22,11 @@ no_led : (nodes : List Node) (led_by : Option Move) → led_from nodes led_by No
 no_led nodes None = refl
 no_led nodes (Some m) = refl
 
+-- the first of a prefix, by whether it passes
+goes_on : (b : Bool) (n : ℕ) → cond b (1 + n) 0 ≡ (if b then n + 1 else 0)
+goes_on true n = omega arith
+goes_on false n = refl
+
 pub one_on : (moves : Moves) (nodes : List Node) (k p : ℕ) → IsTree nodes → k < length nodes → (node_at nodes k).parent ≡ Some p
     → moves_on moves nodes k ≡ moves_after moves nodes k (moves_on moves nodes p)
 one_on All nodes k p tree low is =
@@ -35,7 +40,7 @@ one_on BeginVariations nodes k p tree low is =
     omega (arith, on, more)
 one_on SinceCapture nodes k p tree low is =
     let on = ap (prefix_len (λ m. takes_nothing (led_to nodes m))) (way_on nodes k (Some p) tree is) in
-    omega (arith, on)
+    on ∙ goes_on (takes_nothing (led_to nodes k)) (prefix_len (λ m. takes_nothing (led_to nodes m)) (way_up nodes p))
 
 pub none_on : (moves : Moves) (nodes : List Node) (k : ℕ) → IsTree nodes → k ≡ 0 → (node_at nodes k).parent ≡ None → moves_on moves nodes k ≡ 0
 none_on All nodes k tree root is = let long : length (way_up nodes k) ≡ suc 0 = ap length (way_on nodes k None tree is) in omega (arith, long)

@@ -3,8 +3,8 @@ use Rattle.cql_values.specs.Counts.{moves_after}
 use Rattle.cql_values.proofs.MoveCounts.{one_on, none_on, few_on}
 use Rattle.cql_values.proofs.counts.count_at.Goals as goal
 
-pub count_after-requires-few : goal.count_after-requires-few
-count_after-requires-few c =
+pub count_after-requires-clause-few : goal.count_after-requires-clause-few
+count_after-requires-clause-few c =
     let low : c.in-Some.parent < c.args.k = c.in-Some.ensures.before in
     let few = few_on c.args.moves c.args.game.now.nodes c.in-Some.parent c.requires.tree (omega (arith, low, c.requires.node)) in
     let here = c.requires.before.each c.in-Some.parent low in
