@@ -23,6 +23,7 @@ pub mod LinesLaw
 pub mod Lives
 pub mod Lowering
 pub mod MoveLaw
+mod MovedLaw
 mod PairLaw
 pub mod Parents
 pub mod Raising

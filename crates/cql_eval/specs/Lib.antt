@@ -11,6 +11,7 @@ pub mod Ever
 pub mod FlatTrees
 pub mod Hits
 pub mod LineAtoms
+pub mod Moved
 pub mod Pairs
 pub mod Promoting
 pub mod Scopes

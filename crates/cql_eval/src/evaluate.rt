@@ -16,6 +16,7 @@ mod cover_moves;
 mod cover_some;
 mod cover_squares;
 mod covers;
+mod goals;
 mod lines;
 mod played;
 mod squares;

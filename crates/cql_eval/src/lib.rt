@@ -15,6 +15,7 @@ pub mod filter_column;
 mod free;
 pub mod laws;
 mod leaves;
+mod moved;
 mod moves;
 mod narrow;
 mod nodes;

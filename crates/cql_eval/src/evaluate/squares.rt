@@ -13,6 +13,7 @@ ghost use Rattle.cql_eval.specs.Scopes.{tree_in};
 
 use super::covers::cover;
 use super::evaluate;
+use super::goals::goal_truths;
 use super::trial::Trial;
 use crate::attacks::{attack_truths, attacked_part};
 use crate::covers::sets_of;
@@ -59,6 +60,11 @@ pub(super) fn asked_truths<L: Ledger>(
     let every = binding.every;
     if every {
         return square_truths(alloc, binding, asked, live, steps);
+    }
+    let opened = only_name(alloc, binding.name)?;
+    let at_once = goal_truths(alloc, &opened, binding, asked, live, steps)?;
+    if let Some(truths) = at_once {
+        return Ok(truths);
     }
     let sets = covered_sets(alloc, binding, asked, live, steps)?;
     let worth = FilterColumn::Sets(sets);

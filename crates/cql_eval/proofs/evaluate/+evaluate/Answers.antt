@@ -2,6 +2,7 @@ mod Chains
 mod Lines
 mod Squares
 mod Covers
+mod Goals
 use Rattle.std.proofs.Common.{[], ◌∷◌, ◌∙◌, ap, ap₂, sym, subst, arith, length}
 use Rattle.std.specs.Prelude.{IfOk}
 use Rattle.cql_syntax.specs.Meaning.{value}
@@ -24,6 +25,7 @@ use Rattle.cql_eval.proofs.evaluate.+evaluate.Answers.Chains as chains
 use Rattle.cql_eval.proofs.evaluate.+evaluate.Answers.Lines as lines
 use Rattle.cql_eval.proofs.evaluate.+evaluate.Answers.Squares as squares
 use Rattle.cql_eval.proofs.evaluate.+evaluate.Answers.Covers as covers
+use Rattle.cql_eval.proofs.evaluate.+evaluate.Answers.Goals as goals
 use Rattle.cql_eval.proofs.evaluate.+evaluate.Goals as goal
 
 pub chains::all_hold-returns-clause-value : goal.chains::all_hold-returns-clause-value
@@ -504,3 +506,18 @@ squares::covered_sets-returns-clause-worth = squares.squares::covered_sets-retur
 
 pub squares::asked_truths-returns-clause-value : goal.squares::asked_truths-returns-clause-value
 squares::asked_truths-returns-clause-value = squares.squares::asked_truths-returns-clause-value
+
+pub goals::goal_truths-returns-in_ok-in_chain-in-Chain-clause-value : goal.goals::goal_truths-returns-in_ok-in_chain-in-Chain-clause-value
+goals::goal_truths-returns-in_ok-in_chain-in-Chain-clause-value = goals.goals::goal_truths-returns-in_ok-in_chain-in-Chain-clause-value
+
+pub goals::goal_truths-returns-in_ok-met-in-Played-clause-value : goal.goals::goal_truths-returns-in_ok-met-in-Played-clause-value
+goals::goal_truths-returns-in_ok-met-in-Played-clause-value = goals.goals::goal_truths-returns-in_ok-met-in-Played-clause-value
+
+pub goals::goal_in-loop-part-init : goal.goals::goal_in-loop-part-init
+goals::goal_in-loop-part-init = goals.goals::goal_in-loop-part-init
+
+pub goals::goal_in-returns-in-loop-part-clause-value : goal.goals::goal_in-returns-in-loop-part-clause-value
+goals::goal_in-returns-in-loop-part-clause-value = goals.goals::goal_in-returns-in-loop-part-clause-value
+
+pub goals::goal_met-returns-clause-value : goal.goals::goal_met-returns-clause-value
+goals::goal_met-returns-clause-value = goals.goals::goal_met-returns-clause-value

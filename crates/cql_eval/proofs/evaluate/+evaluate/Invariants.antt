@@ -49,6 +49,13 @@ invariant-chains::ask_each-loop-filter g l = record {
   flat : (i : ℕ) (f : Filter) → i < length l.filter-items → f ≡ get_or l.filter-items i f → IsFlat (filter_tree f);
 }
 
+abbrev pub invariant-goals::goal_in-loop-part : goal.invariant-goals::goal_in-loop-part
+invariant-goals::goal_in-loop-part g l = record {
+  first : l.part-index ≡ 0;
+  cost : l.steps ≡ l.fn.steps;
+  flat : (i : ℕ) (f : Filter) → i < length l.part-items → f ≡ get_or l.part-items i f → IsFlat (filter_tree f);
+}
+
 abbrev pub invariant-chains::columns_of-loop-filter : goal.invariant-chains::columns_of-loop-filter
 invariant-chains::columns_of-loop-filter g l = record {
   left : Where l.live (λ n. all_shown l.columns.items n

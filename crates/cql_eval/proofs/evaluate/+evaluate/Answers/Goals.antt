@@ -1,0 +1,53 @@
+-- What is answered of squares that are tried all at once, in the recursion over filters.
+use Rattle.std.proofs.Common.{◌≡◌, ◌∙◌, ap, refl, sym, subst, arith, length}
+use Rattle.std.specs.Prelude.{get_or}
+use Rattle.std.proofs.lemmas.Option.{IfSome_then}
+use Rattle.cq_symmetry.specs.Images.{is_in}
+use Rattle.cql_syntax.specs.Meaning.{before}
+use Rattle.cql_syntax.specs.TreeOf.{filter_tree, form_tree, filters_tree, played_tree}
+use Rattle.cql_syntax.specs.Trees.{filter_at, more_filters, no_filters}
+use Rattle.cql_eval.specs.Columns.{shown}
+use Rattle.cql_eval.specs.Moved.{AsksGoal}
+use Rattle.cql_eval.specs.Scopes.{tree_in}
+use Rattle.cql_eval.specs.Trees.{AreBeforeLive}
+use Rattle.cql_eval.proofs.AttackLaw.{only_one}
+use Rattle.cql_eval.proofs.FlatLaw.{filter_flat}
+use Rattle.cql_eval.proofs.MovedLaw.{goal_alone, goal_chain, goal_form, met_there, moved_is}
+use Rattle.cql_eval.proofs.evaluate.+evaluate.Goals as goal
+
+pub goals::goal_truths-returns-in_ok-in_chain-in-Chain-clause-value : goal.goals::goal_truths-returns-in_ok-in_chain-in-Chain-clause-value
+goals::goal_truths-returns-in_ok-in_chain-in-Chain-clause-value g t c = IfSome_then c.in_ok-in_chain-in-Chain.in_chain c.in_ok-in_chain-in-Chain.ensures.value (λ truths are n l. are n l
+    ∙ sym (goal_chain (tree_in c.args.binding.now.scope.now) c.args.binding.now.scope.now.names.now c.args.binding.now.name.now c.args.binding.now.every (shown c.args.binding.now.squares.now n) n c.args.asked.now.at (filter_tree c.args.asked.now) c.in-Chain.chain (filters_tree c.in-Chain.parts)
+    (ap (λ form. filter_at c.args.asked.now.at (form_tree form)) c.in-Chain.is)))
+
+pub goals::goal_truths-returns-in_ok-met-in-Played-clause-value : goal.goals::goal_truths-returns-in_ok-met-in-Played-clause-value
+goals::goal_truths-returns-in_ok-met-in-Played-clause-value g t c = IfSome_then c.in_ok-met-in-Played.met c.in_ok-met-in-Played.ensures.value (λ truths are n l. are n l
+    ∙ sym (goal_form (tree_in c.args.binding.now.scope.now) c.args.binding.now.scope.now.names.now c.args.binding.now.name.now c.args.binding.now.every (shown c.args.binding.now.squares.now n) n c.args.asked.now.at (filter_tree c.args.asked.now) (played_tree c.in-Played.played)
+    (ap (λ form. filter_at c.args.asked.now.at (form_tree form)) c.in-Played.is)))
+
+pub goals::goal_in-loop-part-init : goal.goals::goal_in-loop-part-init
+goals::goal_in-loop-part-init g t c = record {
+  first = refl;
+  cost = refl;
+  flat = λ i f h e. filter_flat c.as_slice-part-items.result.now i f (filters_tree c.args.parts.now) h e c.as_slice-part-items.ensures.tree c.requires.flat;
+}
+
+pub goals::goal_in-returns-in-loop-part-clause-value : goal.goals::goal_in-returns-in-loop-part-clause-value
+goals::goal_in-returns-in-loop-part-clause-value g t c =
+    let long : length c.as_slice-part-items.result.now ≡ 1 = omega (arith, ap length c.as_slice-part-items.ensures.items, c.len.ensures, c.if-len-ne1.false) in
+    let first : c.part-item.result ≡ get_or c.as_slice-part-items.result.now 0 c.part-item.result =
+    c.part-item.is ∙ ap (λ i. get_or c.as_slice-part-items.result.now i c.part-item.result) c.loop-part.invariant.first in
+    let one = only_one (λ f. f ≡ filter_tree c.part-item.result) c.as_slice-part-items.result.now c.part-item.result long first refl in
+    IfSome_then c.in_ok-alone.alone c.in_ok-alone.ensures.value (λ truths are n l. are n l
+    ∙ sym (goal_alone (tree_in c.args.binding.now.scope.now) c.args.binding.now.scope.now.names.now c.args.binding.now.name.now c.args.binding.now.every (shown c.args.binding.now.squares.now n) n c.args.chain (filters_tree c.args.parts.now) (filter_tree c.part-item.result)
+    (c.is_all.ensures c.if-not-is_all.false) (sym c.as_slice-part-items.ensures.tree ∙ one.are ∙ ap (λ f. more_filters f no_filters) one.is)))
+
+pub goals::goal_met-returns-clause-value : goal.goals::goal_met-returns-clause-value
+goals::goal_met-returns-clause-value g t c = λ n l.
+    let tree = tree_in c.args.binding.now.scope.now in
+    let there = (subst (AreBeforeLive tree c.args.live.now) (sym c.as_slice-wide.ensures.value) c.in_ok-wide.ensures).covers n l in
+    moved_is tree c.args.binding.now.scope.now.names.now c.args.binding.now.name.now c.args.binding.now.every c.args.played.now (shown c.args.binding.now.squares.now n) _ n _ _ _ _ c.requires.some
+    (subst (λ o. AsksGoal o c.args.binding.now.name.now c.args.played.now) c.requires.opened (c.asks_goal.ensures c.if-not-asks_goal.false))
+    (ap (λ s. is_in (get_or s n 0)) c.deref.ensures.value ∙ c.in_ok-sets.ensures.each n l)
+    (c.in_ok-origin.ensures.value (before tree n) there) (c.in_ok-taken.ensures.value (before tree n) there) (c.in_ok-promoted.ensures.value n l)
+    (met_there _ _ _ (c.in_ok-truths.ensures n) l)

@@ -1,0 +1,134 @@
+//! Squares that are tried all at once: where it is asked of some square whether the move went there.
+ghost use Rattle.std.specs.Prelude.{◌≡◌, ◌∷◌, [], length, true, false, IfOk, IfSome};
+ghost use Rattle.cq_position.specs.Games.{IsTree};
+ghost use Rattle.cql_syntax.specs.Meaning as meaning;
+ghost use Rattle.cql_syntax.specs.TreeOf.{filter_tree, filters_tree, played_tree};
+ghost use Rattle.cql_syntax.specs.Values as spec;
+ghost use Rattle.cql_eval.specs.Bindings.{holds_with};
+ghost use Rattle.cql_eval.specs.Columns.{AreAsked, AreTruths, shown};
+ghost use Rattle.cql_eval.specs.FlatTrees.{IsFlat, AreFlat, IsFlatMove};
+ghost use Rattle.cql_eval.specs.Scopes.{tree_in, values_with};
+
+use super::played::written_column;
+use super::squares::Binding;
+use crate::covers::sets_of;
+use crate::filter_column::FilterColumn;
+use crate::free::is_all;
+use crate::moved::{asks_goal, moves_to};
+use crate::scope::Scope;
+use crate::tree::befores;
+use cq_outside::{NoMemory, Steps};
+use cql_syntax::{Chain, Filter, Filters, Form, Played};
+use cql_values::names::Names;
+use std::alloc::Global;
+use std::sync::ledger::Ledger;
+
+/// Whether what is asked holds of some square of a column, where it is asked whether the move went there; of another filter nothing.
+#[cycle(evaluate)]
+#[tactic(auto, unfolding(cql_syntax::specs::Meaning::value, crate::specs::FlatTrees::unflat))]
+pub(super) fn goal_truths<L: Ledger>(
+    alloc: Global,
+    opened: &Names,
+    binding: &Binding,
+    asked: &Filter,
+    live: &[bool],
+    steps: &mut Steps<L>,
+) -> Result<Option<Vec<bool>>, NoMemory>
+    requires tree { IsTree binding.now.scope.now.game.now.nodes }
+    requires asked { AreAsked (tree_in binding.now.scope.now) live.now }
+    requires flat { IsFlat (filter_tree asked.now) }
+    requires some { binding.now.every ≡ false }
+    requires opened { opened.now ≡ (binding.now.name.now, 0) ∷ [] }
+    ensures value { IfOk result (λ at_once. IfSome at_once (λ truths. AreTruths truths.items live.now
+        (λ n. spec.square_of binding.now.every (shown binding.now.squares.now n) (holds_with binding.now (filter_tree asked.now) n)))) }
+    ensures cost { steps.new ≡ steps.old }
+{
+    match &asked.form {
+        Form::Chain(chain, parts) => {
+            let in_chain = goal_in(alloc, opened, binding, *chain, parts, live, steps)?;
+            Ok(in_chain)
+        }
+        Form::Played(played) => {
+            let met = goal_met(alloc, opened, binding, played, live, steps)?;
+            Ok(met)
+        }
+        _ => Ok(None),
+    }
+}
+
+// Of a chain of one filter.
+#[cycle(evaluate)]
+fn goal_in<L: Ledger>(
+    alloc: Global,
+    opened: &Names,
+    binding: &Binding,
+    chain: Chain,
+    parts: &Filters,
+    live: &[bool],
+    steps: &mut Steps<L>,
+) -> Result<Option<Vec<bool>>, NoMemory>
+    requires tree { IsTree binding.now.scope.now.game.now.nodes }
+    requires asked { AreAsked (tree_in binding.now.scope.now) live.now }
+    requires flat { AreFlat (filters_tree parts.now) }
+    requires some { binding.now.every ≡ false }
+    requires opened { opened.now ≡ (binding.now.name.now, 0) ∷ [] }
+    ensures value { IfOk result (λ at_once. IfSome at_once (λ truths. AreTruths truths.items live.now
+        (λ n. spec.square_of binding.now.every (shown binding.now.squares.now n) (λ s. spec.holds (spec.chain_of chain
+        (values_with binding.now.scope.now (filters_tree parts.now) ((binding.now.name.now, s) ∷ binding.now.scope.now.names.now) n)))))) }
+    ensures cost { steps.new ≡ steps.old }
+{
+    if !is_all(chain) {
+        return Ok(None);
+    }
+    if parts.len() != 1 {
+        return Ok(None);
+    }
+    for part in parts.as_slice() {
+        let alone = goal_truths(alloc, opened, binding, part, live, steps)?;
+        return Ok(alone);
+    }
+    Ok(None)
+}
+
+// Of the move: whether it went to a square of the node's set.
+#[cycle(evaluate)]
+#[tactic(auto, unfolding(cql_syntax::specs::Meaning::value, crate::specs::FlatTrees::unflat))]
+fn goal_met<L: Ledger>(
+    alloc: Global,
+    opened: &Names,
+    binding: &Binding,
+    played: &Played,
+    live: &[bool],
+    steps: &mut Steps<L>,
+) -> Result<Option<Vec<bool>>, NoMemory>
+    requires tree { IsTree binding.now.scope.now.game.now.nodes }
+    requires asked { AreAsked (tree_in binding.now.scope.now) live.now }
+    requires flat { IsFlatMove (played_tree played.now) }
+    requires some { binding.now.every ≡ false }
+    requires opened { opened.now ≡ (binding.now.name.now, 0) ∷ [] }
+    ensures value { IfOk result (λ at_once. IfSome at_once (λ truths. AreTruths truths.items live.now
+        (λ n. spec.square_of binding.now.every (shown binding.now.squares.now n)
+        (λ s. meaning.played_value (tree_in binding.now.scope.now) []
+        ((binding.now.name.now, s) ∷ binding.now.scope.now.names.now) (played_tree played.now) n)))) }
+    ensures cost { steps.new ≡ steps.old }
+{
+    if !asks_goal(opened, binding.name, played) {
+        return Ok(None);
+    }
+    let wide = befores(alloc, binding.scope, live)?;
+    let wide = wide.as_slice();
+    let origin = written_column(alloc, &played.origin, binding.scope, wide, steps)?;
+    let taken = written_column(alloc, &played.taken, binding.scope, wide, steps)?;
+    let promoted = written_column(alloc, &played.promoted, binding.scope, live, steps)?;
+    let sets = sets_of(alloc, live, binding.squares)?;
+    let truths = moves_to(
+        alloc,
+        binding.scope,
+        &origin,
+        &sets,
+        &taken,
+        &promoted,
+        live,
+    )?;
+    Ok(Some(truths))
+}
