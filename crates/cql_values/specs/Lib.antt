@@ -1,4 +1,5 @@
 pub mod Asked
+pub mod Bindings
 pub mod Counts
 pub mod Names
 pub mod Shown

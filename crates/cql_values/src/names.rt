@@ -2,6 +2,7 @@
 ghost use Rattle.std.specs.Prelude.{◌≡◌, ◌<◌, [], ◌∷◌, length, drop, IfOk, OnOk, OnErr};
 ghost use Rattle.cql_syntax.specs.Meaning.{is_bound_to};
 ghost use Rattle.cql_syntax.specs.Values.{squares_where};
+ghost use Rattle.cql_values.specs.Bindings.{rebound};
 ghost use Rattle.cql_values.specs.Shown.{meant};
 
 use crate::value::Value;
@@ -45,6 +46,15 @@ impl Names {
         let name = Bytes::from_slice(self.alloc, name)?;
         self.pairs.push((name, s))?;
         Ok(())
+    }
+
+    /// Binds the innermost name to another square; there is one.
+    pub fn rebind(&mut self, s: Square)
+        requires { 0 < length self.old }
+        ensures { self.new ≡ rebound self.old s }
+    {
+        let last = self.pairs.len() - 1;
+        self.pairs[last].1 = s;
     }
 
     /// Drops the innermost binding; there is one.

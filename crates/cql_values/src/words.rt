@@ -131,19 +131,22 @@ pub fn word_at(
     })
 }
 
-fn mated(position: &Position) -> bool
+/// Whether the side to move is in check and has no legal move.
+pub fn mated(position: &Position) -> bool
     ensures { result ≡ (meaning.is_check position.now && not (has_legal_move position.now)) }
 {
     in_check(position, position.side()) && is_mate(position)
 }
 
-fn stalemated(position: &Position) -> bool
+/// Whether the side to move is not in check and has no legal move.
+pub fn stalemated(position: &Position) -> bool
     ensures { result ≡ (not (meaning.is_check position.now) && not (has_legal_move position.now)) }
 {
     !in_check(position, position.side()) && is_stalemate(position)
 }
 
-fn is_white(side: Side) -> bool
+/// Whether a side is White.
+pub fn is_white(side: Side) -> bool
     ensures { result ≡ meaning.is_white side }
 {
     matches!(side, Side::White)

@@ -1,0 +1,51 @@
+//! The public calls.
+ghost use Rattle.std.specs.Prelude.{◌≡◌, ◌<◌, ◌∷◌, [], length, IfOk, IfSome, OnOk};
+ghost use Rattle.cql_here.specs.Places.{tree_of};
+ghost use Rattle.cql_syntax.specs.Meaning as meaning;
+ghost use Rattle.cql_syntax.specs.TreeOf.{filter_tree};
+ghost use Rattle.cql_syntax.specs.Values as spec;
+ghost use Rattle.cql_values.specs.Shown.{meant};
+
+use crate::place::Place;
+use cq_outside::NoMemory;
+use cql_syntax::Filter;
+use cql_values::names::Names;
+use cql_values::value::Value;
+use pgn_tree::Game;
+
+/// What a filter gives at a node. Nothing of a filter that is not answered node by node: of a line, a family, a sum and the like.
+pub fn value_here(
+    _f: &Filter,
+    place: &Place,
+    names: &mut Names,
+) -> Result<Option<Value>, NoMemory>
+    requires { place.now.node < length place.now.game.now.nodes }
+    ensures value { IfOk result (λ found. IfSome found (λ v.
+        meant v ≡ meaning.value (tree_of place.now) [] names.old (filter_tree _f.now) place.now.node)) }
+    ensures names { OnOk result (names.new ≡ names.old) }
+{
+    Ok(None)
+}
+
+/// Whether what is asked holds of every square of a set, or of some, at a node, with the name bound to the square. Nothing of a filter
+/// that is not answered node by node.
+pub fn square_here(
+    every: bool,
+    name: &[u8],
+    squares: Value,
+    asked: &Filter,
+    place: &Place,
+    names: &mut Names,
+) -> Result<Option<bool>, NoMemory>
+    requires { place.now.node < length place.now.game.now.nodes }
+    ensures value { IfOk result (λ found. IfSome found (λ b. spec.as_truth b ≡ spec.square_of every (meant squares)
+        (λ s. spec.holds (meaning.value (tree_of place.now) [] ((name.now, s) ∷ names.old) (filter_tree asked.now) place.now.node)))) }
+    ensures names { OnOk result (names.new ≡ names.old) }
+{
+    Ok(None)
+}
+
+/// Whether a filter is answered node by node, and cheaply in this game. It is a guess, on which nothing rests.
+pub fn is_asked_here(_asked: &Filter, _game: &Game) -> bool {
+    false
+}
