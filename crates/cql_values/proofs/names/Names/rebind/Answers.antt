@@ -10,7 +10,7 @@ returns c =
     let k = c.len-last.result - 1 in
     let pair = c.index_mut.result.now in
     let some_ : 0 < length pairs = (let h : 0 < length (reverse pairs) = rw c.self.view_is c.requires in let l = length-reverse pairs in omega arith) in
-    let last : k + 1 ≡ length pairs = omega (arith, some_, c.len-last.ensures.len) in
+    let last : k + 1 ≡ length pairs = omega (arith, some_, c.len-last.ensures) in
     last_set pairs k (pair.0, c.args.s) last
     ∙ ap (λ (name : _). (name, c.args.s) ∷ reverse (take k pairs)) (ap (λ p. p.0) c.index_mut.ensures.value)
     ∙ ap (λ e. rebound e c.args.s) (sym (last_first pairs k pair last) ∙ c.self.view_is)
