@@ -6,8 +6,10 @@ ghost use Rattle.cql_syntax.specs.TreeOf.{filter_tree};
 ghost use Rattle.cql_syntax.specs.Values as spec;
 ghost use Rattle.cql_values.specs.Shown.{meant};
 
+use crate::cheap::is_cheap;
+use crate::evaluate::{evaluate, square_at};
 use crate::place::Place;
-use cq_outside::NoMemory;
+use cq_outside::{NoMemory, Refusal};
 use cql_syntax::Filter;
 use cql_values::names::Names;
 use cql_values::value::Value;
@@ -15,16 +17,22 @@ use pgn_tree::Game;
 
 /// What a filter gives at a node. Nothing of a filter that is not answered node by node: of a line, a family, a sum and the like.
 pub fn value_here(
-    _f: &Filter,
+    f: &Filter,
     place: &Place,
     names: &mut Names,
 ) -> Result<Option<Value>, NoMemory>
     requires { place.now.node < length place.now.game.now.nodes }
     ensures value { IfOk result (λ found. IfSome found (λ v.
-        meant v ≡ meaning.value (tree_of place.now) [] names.old (filter_tree _f.now) place.now.node)) }
+        meant v ≡ meaning.value (tree_of place.now) [] names.old (filter_tree f.now) place.now.node)) }
     ensures names { OnOk result (names.new ≡ names.old) }
 {
-    Ok(None)
+    // A game's nodes are a tree.
+    prove!(place.game.is_tree());
+    match evaluate(f, place, names) {
+        Ok(value) => Ok(Some(value)),
+        Err(Refusal::Fault(_)) => Ok(None),
+        Err(Refusal::NoMemory) => Err(NoMemory),
+    }
 }
 
 /// Whether what is asked holds of every square of a set, or of some, at a node, with the name bound to the square. Nothing of a filter
@@ -42,10 +50,19 @@ pub fn square_here(
         (λ s. spec.holds (meaning.value (tree_of place.now) [] ((name.now, s) ∷ names.old) (filter_tree asked.now) place.now.node)))) }
     ensures names { OnOk result (names.new ≡ names.old) }
 {
-    Ok(None)
+    // A game's nodes are a tree.
+    prove!(place.game.is_tree());
+    match square_at(every, name, squares.squares(), asked, place, names) {
+        Ok(holds) => Ok(Some(holds)),
+        Err(Refusal::Fault(_)) => Ok(None),
+        Err(Refusal::NoMemory) => Err(NoMemory),
+    }
 }
 
+/// The most nodes of a game in which the nodes above each node are looked at, one by one.
+const MOST_NODES: u32 = 1_024;
+
 /// Whether a filter is answered node by node, and cheaply in this game. It is a guess, on which nothing rests.
-pub fn is_asked_here(_asked: &Filter, _game: &Game) -> bool {
-    false
+pub fn is_asked_here(asked: &Filter, game: &Game) -> bool {
+    is_cheap(asked, game.len() <= MOST_NODES)
 }

@@ -5,7 +5,12 @@
 #![tactic(auto)]
 
 mod calls;
+mod cheap;
+mod evaluate;
+mod halt;
+mod leaves;
 mod place;
+mod worth;
 
 pub use calls::{is_asked_here, square_here, value_here};
 pub use place::Place;
