@@ -28,7 +28,6 @@ use Rattle.cql_values.proofs.Evaluated.{by_settling}
 use Rattle.cql_values.proofs.Ranges.{left, right, both, same_any, same_truth, some_square, square_found}
 use Rattle.cql_values.specs.Asked.{settles}
 use Rattle.cql_here.specs.Cuts.{IsCut, IsName, HaveName, Allows}
-use Rattle.cql_here.proofs.Loops.{values_mapped}
 
 -- cut twice, where what is asked asks as much each time
 pub cut_again : (test more : ℕ → Bool) (old mid new : ℕ) → ((s : ℕ) → test s ≡ true → more s ≡ true) → IsCut test old mid → IsCut more mid new → IsCut test old new

@@ -1,23 +1,28 @@
 -- Loops over filters, the nodes above one, and the squares of a set.
-use Rattle.std.proofs.Common.{◌≡◌, ◌≢◌, ℕ, ◌+◌, ◌*◌, ◌%◌, ◌^◌, ◌<◌, ◌≤◌, Bool, true, false, not, ◌&&◌, ◌||◌, List, [], ◌∷◌, map, drop, length, get_or, refl, sym, ap, ◌∙◌, subst, inl, inr, arith}
+use Rattle.std.proofs.Common.{◌≡◌, ◌≢◌, ℕ, ◌+◌, ◌*◌, ◌%◌, ◌^◌, ◌<◌, ◌≤◌, Bool, true, false, not, ◌&&◌, ◌||◌, List, [], ◌∷◌, map, take, drop, length, get_or, refl, sym, ap, ◌∙◌, subst, inl, inr, arith}
 use Rattle.std.specs.Prelude.{if◌then◌else◌, bit_and}
 use Rattle.std.specs.List.{list_any, list_all}
 use Rattle.std.specs.Int.{bit_at, bit_not, trailing_zeros, w64}
 use Rattle.std.proofs.lemmas.Bool.{cases_Bool, cases_eq}
-use Rattle.std.proofs.lemmas.List.{drop_more, drop_all}
+use Rattle.std.proofs.lemmas.List.{drop_more, drop_all, take_all}
+use Rattle.std.proofs.Math.Bool.{beq}
 use Rattle.std.proofs.lemmas.Nat.Bits.{bit_at-trailing_zeros, bit_at_clear_same, bit_at_clear_other}
 use Rattle.cq_bits.proofs.Gathering.{cleared}
 use Rattle.cq_geometry.specs.Squares.{squares}
+use Rattle.cq_position.specs.Bitboards.{IsBitboard}
 use Rattle.cq_position.specs.Search.{SearchedTree}
 use Rattle.cq_sets.proofs.Bits.{in_both}
 use Rattle.cq_symmetry.specs.Images.{is_in}
 use Rattle.cql_syntax.specs.Meaning.{Names, value, values}
 use Rattle.cql_syntax.specs.TreeOf.{filter_tree, filter_trees}
-use Rattle.cql_syntax.specs.Values.{Value, as_truth, holds, has}
+use Rattle.cql_syntax.specs.Trees.{FilterTree, FilterTrees, filter_at, square}
+use Rattle.cql_syntax.specs.Values.{Value, as_truth, as_squares, holds, has, square_of, union_of, intersection_of}
 use Rattle.cql_syntax.specs.declared.tree.Filter.{Filter}
-use Rattle.cql_values.proofs.Masks.{has_bit, bit_in}
+use Rattle.cql_values.proofs.Masks.{has_bit, bit_in, nothing_in, union_is, intersection_is}
 use Rattle.cql_values.proofs.Ranges.{same_truth, some_square, square_found, both, left, right, any_mapped, all_mapped}
 use Rattle.cql_values.specs.Asked.{settles}
+use Rattle.cql_values.specs.Bindings.{rebound}
+use Rattle.cql_here.proofs.Cutting.{square_of_has}
 
 -- the values of a list of filters
 pub values_mapped : (tree : SearchedTree) (e : Names) (n : ℕ) (xs : List Filter) → values tree [] e (filter_trees xs) n ≡ map (λ f. value tree [] e (filter_tree f) n) xs
@@ -109,10 +114,79 @@ module _ (every : Bool) (test : ℕ → Bool) (set : ℕ) (some : 0 < set) (fits
       (λ e. let f = square_found (settles every (is_in set) test) e in there f.k (omega (arith, f.high)) f.passes) back
 
 -- the same where the lowest square and its bit have names
-pub settled_first : (every : Bool) (test : ℕ → Bool) (set square bit : ℕ) → 0 < set → set < 2 ^ 64 → square ≡ trailing_zeros w64 set → bit ≡ square
-    → list_any (settles every (is_in set) test) squares ≡ ((if every then not (test square) else test square) || list_any (settles every (is_in (cleared set bit)) test) squares)
-settled_first every test set square bit some fits e f =
+pub settled_first : (every : Bool) (test : ℕ → Bool) (set least bit : ℕ) → 0 < set → set < 2 ^ 64 → least ≡ trailing_zeros w64 set → bit ≡ least
+    → list_any (settles every (is_in set) test) squares ≡ ((if every then not (test least) else test least) || list_any (settles every (is_in (cleared set bit)) test) squares)
+settled_first every test set least bit some fits e f =
     subst (λ q. list_any (settles every (is_in set) test) squares ≡ ((if every then not (test q) else test q) || list_any (settles every (is_in (cleared set bit)) test) squares)) (sym e)
     (subst (λ q. list_any (settles every (is_in set) test) squares
     ≡ ((if every then not (test (trailing_zeros w64 set)) else test (trailing_zeros w64 set)) || list_any (settles every (is_in (cleared set q)) test) squares)) (sym (f ∙ e))
     (lowest_first every test set some fits))
+
+-- a set without squares settles nothing
+pub none_settles : (every : Bool) (test : ℕ → Bool) (set : ℕ) → set ≡ 0 → list_any (settles every (is_in set) test) squares ≡ false
+none_settles every test set none = ap (λ m. list_any (settles every (is_in m) test) squares) none
+    ∙ same_truth (list_any (settles every (is_in 0) test) squares) false
+    (λ e. let f = square_found (settles every (is_in 0) test) e in let g = sym (nothing_in f.k) ∙ left (is_in 0 f.k) (if every then not (test f.k) else test f.k) f.passes in cc) (λ e. cc)
+
+-- a truth that differs from what is asked of every square, or that is as asked of some
+pub settling : (every b t : Bool) → b ≡ t → not (beq b every) ≡ true → (if every then not t else t) ≡ true
+settling true true t is e = cc
+settling true false t is e = ap not (sym is)
+settling false true t is e = sym is
+settling false false t is e = cc
+
+pub not_settling : (every b t : Bool) → b ≡ t → not (beq b every) ≡ false → (if every then not t else t) ≡ false
+not_settling true true t is e = ap not (sym is)
+not_settling true false t is e = cc
+not_settling false true t is e = cc
+not_settling false false t is e = sym is
+
+pub by_found : (found every : Bool) → not (beq found every) ≡ (if found then not every else every)
+by_found true true = refl
+by_found true false = refl
+by_found false true = refl
+by_found false false = refl
+
+-- a name that is bound again
+pub rebound_again : (e : Names) (s t : ℕ) → rebound (rebound e s) t ≡ rebound e t
+rebound_again [] s t = refl
+rebound_again (x ∷ e) s t = refl
+
+pub rebound_outer : (a b : Names) → rebound a 0 ≡ rebound b 0 → drop 1 a ≡ drop 1 b
+rebound_outer [] [] e = refl
+rebound_outer [] (y ∷ b) e = cc
+rebound_outer (x ∷ a) [] e = cc
+rebound_outer (x ∷ a) (y ∷ b) e = ap (drop 1) e
+
+pub rebound_some : (a b : Names) → 0 < length b → rebound a 0 ≡ rebound b 0 → 0 < length a
+rebound_some [] [] low e = low
+rebound_some [] (y ∷ b) low e = cc
+rebound_some (x ∷ a) b low e = omega arith
+
+pub rebound_length : (a : Names) (s : ℕ) → length (rebound a s) ≡ length a
+rebound_length [] s = refl
+rebound_length (x ∷ a) s = refl
+
+-- what is asked of each square of a set
+pub square_value : (tree : SearchedTree) (e : Names) (n : ℕ) (whole a b : FilterTree) (at : ℕ) (every : Bool) (text : List ℕ) (set : ℕ) (x : Value)
+    → whole ≡ filter_at at (square every text a b) → x ≡ value tree [] e a n → has x ≡ is_in set
+    → square_of every (as_squares (is_in set)) (λ s. holds (value tree [] ((text, s) ∷ e) b n)) ≡ value tree [] e whole n
+unfolding value
+square_value tree e n whole a b at every text set x is of_a of_set =
+    square_of_has every (as_squares (is_in set)) (value tree [] e a n) (λ s. holds (value tree [] ((text, s) ∷ e) b n)) (sym of_set ∙ ap has of_a)
+    ∙ sym (ap (λ w. value tree [] e w n) is)
+
+-- the union of sets, and what they have in common
+pub union_whole : (tree : SearchedTree) (e : Names) (n : ℕ) (xs : List Filter) (fs : FilterTrees) (i mask : ℕ) → mask < 2 ^ 64 → length xs ≤ i → filter_trees xs ≡ fs
+    → IsBitboard mask (λ s. list_any (λ f. has (value tree [] e (filter_tree f) n) s) (take i xs)) → as_squares (is_in mask) ≡ union_of (values tree [] e fs n)
+union_whole tree e n xs fs i mask fits high is m =
+    ap as_squares (union_is mask xs (λ f. value tree [] e (filter_tree f) n) has fits
+    (subst (λ l. IsBitboard mask (λ s. list_any (λ f. has (value tree [] e (filter_tree f) n) s) l)) (take_all i xs high) m))
+    ∙ ap union_of (sym (values_mapped tree e n xs) ∙ ap (λ ys. values tree [] e ys n) is)
+
+pub common_whole : (tree : SearchedTree) (e : Names) (n : ℕ) (xs : List Filter) (fs : FilterTrees) (i mask : ℕ) → mask < 2 ^ 64 → length xs ≤ i → filter_trees xs ≡ fs
+    → IsBitboard mask (λ s. list_all (λ f. has (value tree [] e (filter_tree f) n) s) (take i xs)) → as_squares (is_in mask) ≡ intersection_of (values tree [] e fs n)
+common_whole tree e n xs fs i mask fits high is m =
+    ap as_squares (intersection_is mask xs (λ f. value tree [] e (filter_tree f) n) has fits
+    (subst (λ l. IsBitboard mask (λ s. list_all (λ f. has (value tree [] e (filter_tree f) n) s) l)) (take_all i xs high) m))
+    ∙ ap intersection_of (sym (values_mapped tree e n xs) ∙ ap (λ ys. values tree [] e ys n) is)

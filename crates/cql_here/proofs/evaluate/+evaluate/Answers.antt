@@ -1,76 +1,260 @@
+use Rattle.std.proofs.Common.{rules, ◌≡◌, ℕ, ◌+◌, ◌^◌, ◌<◌, ◌∷◌, [], List, Bool, true, false, ◌||◌, refl, drop, length, map, ap, ap₂, sym, ◌∙◌, subst, arith, Some}
+use Rattle.std.specs.Prelude.{IfOk, IfSome, OnOk, if◌then◌else◌, not}
+use Rattle.std.specs.List.{list_any, list_all}
+use Rattle.cq_bits.proofs.Gathering.{cleared, smaller}
+use Rattle.cq_geometry.specs.Squares.{squares}
+use Rattle.cq_position.specs.Games.{node_at, way_up}
+use Rattle.cq_position.proofs.WaysUp.{way_from, way_on}
+use Rattle.cq_symmetry.specs.Images.{is_in}
+use Rattle.cql_syntax.specs.Meaning.{meets, written_value, before}
+use Rattle.cql_syntax.specs.TreeOf.{filter_tree, filters_tree, form_tree}
+use Rattle.cql_syntax.specs.Trees.{filter_at, square}
+use Rattle.cql_syntax.specs.Values.{holds, has, as_truth, as_squares, square_of}
+use Rattle.cql_syntax.specs.declared.tree.Filter.{Filter}
+use Rattle.cql_values.proofs.Evaluated.{by_settling, word_here}
+use Rattle.cql_values.proofs.Masks.{union_step, intersection_step, all_squares}
+use Rattle.cql_values.proofs.Ways.{within_up}
+use Rattle.cql_values.specs.Asked.{settles, of_value}
+use Rattle.cql_values.specs.Bindings.{rebound}
+use Rattle.cql_values.specs.Shown.{meant}
+use Rattle.cql_here.specs.Places.{tree_of, value_at, values_at, holds_at}
+use Rattle.cql_here.proofs.Cutting.{standing_is, move_met, origin_of, goal_of, taken_of, promoted_of}
+use Rattle.cql_here.proofs.Loops.{all_values, any_values, all_stop, all_end, any_stop, any_end, settled_first, none_settles, settling, not_settling, by_found, rebound_again, rebound_outer, rebound_some, rebound_length, square_value, union_whole, common_whole}
 use Rattle.cql_here.proofs.evaluate.+evaluate.Goals as goal
 
 pub all_of-returns-then-not-holds-clause-value : goal.all_of-returns-then-not-holds-clause-value
-all_of-returns-then-not-holds-clause-value t c = ?
+all_of-returns-then-not-holds-clause-value t c =
+    let place = c.args.place.now in
+    let e = c.args.names.now in
+    let items = c.as_slice-part-items.result.now in
+    let f = c.part-item.result in
+    let p : Filter → Bool = λ f. holds (value_at place e (filter_tree f) place.node) in
+    let is : p f ≡ false = ap (λ (b : _). holds (value_at place b (filter_tree f) place.node)) (sym c.loop-part.invariant.names)
+    ∙ sym (c.holds.ensures ∙ ap holds c.in_ok-value.ensures.value) ∙ c.if-not-holds.true in
+    all_stop p items (list_all p items) c.loop-part.part-index f c.loop-part-test.true c.part-item.is is c.loop-part.invariant.left
+    ∙ sym (all_values holds (tree_of place) e place.node items) ∙ ap (λ fs. list_all holds (values_at place e fs place.node)) c.as_slice-part-items.ensures.tree
 
 pub all_of-returns-clause-value : goal.all_of-returns-clause-value
-all_of-returns-clause-value t c = ?
-
-pub common_of-loop-part-init : goal.common_of-loop-part-init
-common_of-loop-part-init t c = ?
-
-pub common_of-loop-part-preserved : goal.common_of-loop-part-preserved
-common_of-loop-part-preserved t c = ?
-
-pub common_of-returns-clause-value : goal.common_of-returns-clause-value
-common_of-returns-clause-value t c = ?
-
-pub evaluate-returns-in-Squares-clause-value : goal.evaluate-returns-in-Squares-clause-value
-evaluate-returns-in-Squares-clause-value t c = ?
-
-pub evaluate-returns-in_ok-holds-in-Square-clause-value : goal.evaluate-returns-in_ok-holds-in-Square-clause-value
-evaluate-returns-in_ok-holds-in-Square-clause-value t c = ?
-
-pub has_it-returns-in_ok-value-in-Some-clause-value : goal.has_it-returns-in_ok-value-in-Some-clause-value
-has_it-returns-in_ok-value-in-Some-clause-value t c = ?
-
-pub played_at-returns-clause-value : goal.played_at-returns-clause-value
-played_at-returns-clause-value t c = ?
-
-pub some_above-returns-then-holds-clause-value : goal.some_above-returns-then-holds-clause-value
-some_above-returns-then-holds-clause-value t c = ?
-
-pub some_above-loop-at-preserved : goal.some_above-loop-at-preserved
-some_above-loop-at-preserved t c = ?
+all_of-returns-clause-value t c =
+    let place = c.args.place.now in
+    let e = c.args.names.now in
+    let items = c.as_slice-part-items.result.now in
+    let p : Filter → Bool = λ f. holds (value_at place e (filter_tree f) place.node) in
+    all_end p items (list_all p items) c.loop-part.part-index c.loop-part-test.false c.loop-part.invariant.left
+    ∙ sym (all_values holds (tree_of place) e place.node items) ∙ ap (λ fs. list_all holds (values_at place e fs place.node)) c.as_slice-part-items.ensures.tree
 
 pub some_of-returns-then-holds-clause-value : goal.some_of-returns-then-holds-clause-value
-some_of-returns-then-holds-clause-value t c = ?
+some_of-returns-then-holds-clause-value t c =
+    let place = c.args.place.now in
+    let e = c.args.names.now in
+    let items = c.as_slice-part-items.result.now in
+    let f = c.part-item.result in
+    let p : Filter → Bool = λ f. holds (value_at place e (filter_tree f) place.node) in
+    let is : p f ≡ true = ap (λ (b : _). holds (value_at place b (filter_tree f) place.node)) (sym c.loop-part.invariant.names)
+    ∙ sym (c.holds.ensures ∙ ap holds c.in_ok-value.ensures.value) ∙ c.if-holds.true in
+    any_stop p items (list_any p items) c.loop-part.part-index f c.loop-part-test.true c.part-item.is is c.loop-part.invariant.left
+    ∙ sym (any_values holds (tree_of place) e place.node items) ∙ ap (λ fs. list_any holds (values_at place e fs place.node)) c.as_slice-part-items.ensures.tree
 
 pub some_of-returns-clause-value : goal.some_of-returns-clause-value
-some_of-returns-clause-value t c = ?
-
-pub some_settles-returns-then-holds-every-clause-value : goal.some_settles-returns-then-holds-every-clause-value
-some_settles-returns-then-holds-every-clause-value t c = ?
-
-pub some_settles-loop-left-smaller : goal.some_settles-loop-left-smaller
-some_settles-loop-left-smaller t c = ?
-
-pub some_settles-loop-left-preserved : goal.some_settles-loop-left-preserved
-some_settles-loop-left-preserved t c = ?
-
-pub some_settles-returns-clause-value : goal.some_settles-returns-clause-value
-some_settles-returns-clause-value t c = ?
-
-pub square_at-returns-then-left-eq0-clause-value : goal.square_at-returns-then-left-eq0-clause-value
-square_at-returns-then-left-eq0-clause-value t c = ?
-
-pub square_at-unbind-requires : goal.square_at-unbind-requires
-square_at-unbind-requires t c = ?
-
-pub square_at-returns-in-Ok-clause-value : goal.square_at-returns-in-Ok-clause-value
-square_at-returns-in-Ok-clause-value t c = ?
-
-pub square_at-returns-in-Ok-clause-names : goal.square_at-returns-in-Ok-clause-names
-square_at-returns-in-Ok-clause-names t c = ?
-
-pub square_at-returns-in-Err-clause-names : goal.square_at-returns-in-Err-clause-names
-square_at-returns-in-Err-clause-names t c = ?
-
-pub unary_at-returns-in_ok-value-in-Not : goal.unary_at-returns-in_ok-value-in-Not
-unary_at-returns-in_ok-value-in-Not t c = ?
+some_of-returns-clause-value t c =
+    let place = c.args.place.now in
+    let e = c.args.names.now in
+    let items = c.as_slice-part-items.result.now in
+    let p : Filter → Bool = λ f. holds (value_at place e (filter_tree f) place.node) in
+    any_end p items (list_any p items) c.loop-part.part-index c.loop-part-test.false c.loop-part.invariant.left
+    ∙ sym (any_values holds (tree_of place) e place.node items) ∙ ap (λ fs. list_any holds (values_at place e fs place.node)) c.as_slice-part-items.ensures.tree
 
 pub union_of-loop-part-preserved : goal.union_of-loop-part-preserved
-union_of-loop-part-preserved t c = ?
+union_of-loop-part-preserved t c =
+    let place = c.args.place.now in
+    let e = c.args.names.now in
+    let f = c.part-item.result in
+    let x : Filter → ℕ → Bool = λ f. has (value_at place e (filter_tree f) place.node) in
+    let is : x f ≡ is_in c.squares-mask.result = ap (λ (b : _). has (value_at place b (filter_tree f) place.node)) (sym c.loop-part.invariant.names)
+    ∙ sym (ap has c.in_ok-value.ensures.value) ∙ c.squares-mask.ensures in
+    record {
+      mask = union_step c.loop-part.mask c.squares-mask.result c.as_slice-part-items.result.now x c.loop-part.part-index f c.loop-part-test.true
+          (ap x (sym c.part-item.is) ∙ is) c.loop-part.invariant.mask;
+      names = c.evaluate.ensures.names ∙ c.loop-part.invariant.names;
+    }
 
 pub union_of-returns-clause-value : goal.union_of-returns-clause-value
-union_of-returns-clause-value t c = ?
+union_of-returns-clause-value t c =
+    union_whole (tree_of c.args.place.now) c.args.names.now c.args.place.now.node c.as_slice-part-items.result.now (filters_tree c.args.parts.now) c.loop-part.part-index c.loop-part.mask
+    (omega arith) c.loop-part-test.false c.as_slice-part-items.ensures.tree c.loop-part.invariant.mask
+
+pub common_of-loop-part-init : goal.common_of-loop-part-init
+common_of-loop-part-init t c = record { mask = all_squares; names = search rules }
+
+pub common_of-loop-part-preserved : goal.common_of-loop-part-preserved
+common_of-loop-part-preserved t c =
+    let place = c.args.place.now in
+    let e = c.args.names.now in
+    let f = c.part-item.result in
+    let x : Filter → ℕ → Bool = λ f. has (value_at place e (filter_tree f) place.node) in
+    let is : x f ≡ is_in c.squares-mask.result = ap (λ (b : _). has (value_at place b (filter_tree f) place.node)) (sym c.loop-part.invariant.names)
+    ∙ sym (ap has c.in_ok-value.ensures.value) ∙ c.squares-mask.ensures in
+    record {
+      mask = intersection_step c.loop-part.mask c.squares-mask.result c.as_slice-part-items.result.now x c.loop-part.part-index f c.loop-part-test.true
+          (ap x (sym c.part-item.is) ∙ is) c.loop-part.invariant.mask;
+      names = c.evaluate.ensures.names ∙ c.loop-part.invariant.names;
+    }
+
+pub common_of-returns-clause-value : goal.common_of-returns-clause-value
+common_of-returns-clause-value t c =
+    common_whole (tree_of c.args.place.now) c.args.names.now c.args.place.now.node c.as_slice-part-items.result.now (filters_tree c.args.parts.now) c.loop-part.part-index c.loop-part.mask
+    (omega arith) c.loop-part-test.false c.as_slice-part-items.ensures.tree c.loop-part.invariant.mask
+
+pub evaluate-returns-in-Squares-clause-value : goal.evaluate-returns-in-Squares-clause-value
+evaluate-returns-in-Squares-clause-value t c =
+    standing_is (tree_of c.args.place.now) c.args.names.now c.args.place.now.node c.args.f.now c.in-Squares.d c.standing_on.result
+    c.in-Squares.is (omega arith) (rw c.position.ensures at c.standing_on.ensures)
+
+pub evaluate-returns-in_ok-holds-in-Square-clause-value : goal.evaluate-returns-in_ok-holds-in-Square-clause-value
+evaluate-returns-in_ok-holds-in-Square-clause-value t c =
+    let place = c.args.place.now in
+    let f = c.args.f.now in
+    let e = c.args.names.now in
+    let a = filter_tree c.deref-in-Square.result.now in
+    let b = filter_tree c.deref-in-Square-2.result.now in
+    let v : as_truth c.in_ok-holds-in-Square.holds ≡ square_of c.in-Square.every (as_squares (is_in c.squares.result)) (holds_at place c.in-Square.name e b)
+    = c.in_ok-holds-in-Square.ensures.value ∙ ap₂ (λ text names. square_of c.in-Square.every (as_squares (is_in c.squares.result)) (holds_at place text names b))
+    c.as_slice-in-Square.ensures c.evaluate-in-Square.ensures.names in
+    v ∙ square_value (tree_of place) e place.node (filter_tree f) a b f.at c.in-Square.every c.in-Square.name c.squares.result (meant c.in_ok-squares-in-Square.squares)
+    (ap (λ form. filter_at f.at (form_tree form)) c.in-Square.is
+    ∙ sym (ap₂ (λ p q. filter_at f.at (square c.in-Square.every c.in-Square.name (filter_tree p) (filter_tree q))) c.deref-in-Square.ensures c.deref-in-Square-2.ensures))
+    c.in_ok-squares-in-Square.ensures.value c.squares.ensures
+
+pub has_it-returns-in_ok-value-in-Some-clause-value : goal.has_it-returns-in_ok-value-in-Some-clause-value
+has_it-returns-in_ok-value-in-Some-clause-value t c =
+    let v = value_at c.args.place.now c.args.names.now (filter_tree c.args.part.now) c.args.place.now.node in
+    c.has_square.ensures ∙ ap (λ x. x c.in-Some.square) (sym c.squares.ensures) ∙ ap (λ x. has x c.in-Some.square) c.in_ok-value-in-Some.ensures.value
+    ∙ ap (meets (Some v)) (sym c.in-Some.is)
+
+pub some_above-returns-then-holds-clause-value : goal.some_above-returns-then-holds-clause-value
+some_above-returns-then-holds-clause-value t c =
+    let place = c.args.place.now in
+    let nodes = place.game.now.nodes in
+    let m = c.in-Some.node in
+    let f = filter_tree c.args.part.now in
+    let p : ℕ → Bool = λ k. holds (value_at place c.args.names.now f k) in
+    let is : p m ≡ true = ap (λ (b : _). holds (value_at place b f m)) (sym c.loop-at.invariant.names) ∙ sym (c.holds.ensures ∙ ap holds c.in_ok-value.ensures.value) ∙ c.if-holds.true in
+    let had = subst (λ o. list_any p (way_from nodes o) ≡ list_any p (way_up nodes place.node)) c.in-Some.is c.loop-at.invariant.left in
+    sym (ap (λ b. b || list_any p (way_from nodes (node_at nodes m).parent)) is) ∙ sym (ap (list_any p) (way_on nodes m (node_at nodes m).parent c.requires.tree refl)) ∙ had
+
+pub some_above-loop-at-preserved : goal.some_above-loop-at-preserved
+some_above-loop-at-preserved t c =
+    let place = c.args.place.now in
+    let nodes = place.game.now.nodes in
+    let m = c.in-Some.node in
+    let o = c.parent-at.result in
+    let f = filter_tree c.args.part.now in
+    let p : ℕ → Bool = λ k. holds (value_at place c.args.names.now f k) in
+    let is : p m ≡ false = ap (λ (b : _). holds (value_at place b f m)) (sym c.loop-at.invariant.names) ∙ sym (c.holds.ensures ∙ ap holds c.in_ok-value.ensures.value) ∙ c.if-holds.false in
+    let had = subst (λ o. list_any p (way_from nodes o) ≡ list_any p (way_up nodes place.node)) c.in-Some.is c.loop-at.invariant.left in
+    let low : m < length nodes = subst (λ o. IfSome o (λ k. k < length nodes)) c.in-Some.is c.loop-at.invariant.within in
+    record {
+      left = sym (ap (λ b. b || list_any p (way_from nodes o)) is) ∙ sym (ap (list_any p) (way_on nodes m o c.requires.tree (sym c.parent-at.ensures.value))) ∙ had;
+      within = within_up nodes m o c.requires.tree c.parent-at.ensures.value low;
+      names = c.evaluate.ensures.names ∙ c.loop-at.invariant.names;
+    }
+
+pub some_settles-returns-then-holds-every-clause-value : goal.some_settles-returns-then-holds-every-clause-value
+some_settles-returns-then-holds-every-clause-value t c =
+    let place = c.args.place.now in
+    let sq = c.lowest_square-square.result in
+    let f = filter_tree c.args.asked.now in
+    let test : ℕ → Bool = λ s. holds (value_at place (rebound c.args.names.now s) f place.node) in
+    let is : c.holds.result ≡ test sq = c.holds.ensures ∙ ap holds c.in_ok-value.ensures.value
+    ∙ ap (λ (b : _). holds (value_at place b f place.node)) (c.rebind.ensures ∙ c.loop-left.invariant.names sq) in
+    let first = settled_first c.args.every test c.loop-left.left sq c.number.result (omega arith) (search rules) c.lowest_square-square.ensures.value c.number.ensures.value in
+    sym (ap (λ b. b || list_any (settles c.args.every (is_in (cleared c.loop-left.left c.number.result)) test) squares) (settling c.args.every c.holds.result (test sq) is c.if-holds-every.true)) ∙ sym first ∙ c.loop-left.invariant.left
+
+pub some_settles-loop-left-smaller : goal.some_settles-loop-left-smaller
+some_settles-loop-left-smaller t c =
+    let some : 0 < c.loop-left.left = omega arith in
+    let fits : c.loop-left.left < 2 ^ 64 = search rules in
+    smaller c.loop-left.left c.lowest_square-square.result c.number.result some fits c.lowest_square-square.ensures.value c.number.ensures.value
+
+pub some_settles-loop-left-preserved : goal.some_settles-loop-left-preserved
+some_settles-loop-left-preserved t c =
+    let place = c.args.place.now in
+    let sq = c.lowest_square-square.result in
+    let f = filter_tree c.args.asked.now in
+    let test : ℕ → Bool = λ s. holds (value_at place (rebound c.args.names.now s) f place.node) in
+    let is : c.holds.result ≡ test sq = c.holds.ensures ∙ ap holds c.in_ok-value.ensures.value
+    ∙ ap (λ (b : _). holds (value_at place b f place.node)) (c.rebind.ensures ∙ c.loop-left.invariant.names sq) in
+    let first = settled_first c.args.every test c.loop-left.left sq c.number.result (omega arith) (search rules) c.lowest_square-square.ensures.value c.number.ensures.value in
+    record {
+      left = sym (ap (λ b. b || list_any (settles c.args.every (is_in (cleared c.loop-left.left c.number.result)) test) squares) (not_settling c.args.every c.holds.result (test sq) is c.if-holds-every.false)) ∙ sym first ∙ c.loop-left.invariant.left;
+      bound = subst (λ (b : _). 0 < length b) (sym (c.evaluate.ensures.names ∙ c.rebind.ensures)) (let l = rebound_length c.loop-left.names sq in omega (arith, l, c.loop-left.invariant.bound));
+      names = λ s. ap (λ (b : _). rebound b s) (c.evaluate.ensures.names ∙ c.rebind.ensures) ∙ rebound_again c.loop-left.names sq s ∙ c.loop-left.invariant.names s;
+    }
+
+pub some_settles-returns-clause-value : goal.some_settles-returns-clause-value
+some_settles-returns-clause-value t c =
+    let place = c.args.place.now in
+    let test : ℕ → Bool = λ s. holds (value_at place (rebound c.args.names.now s) (filter_tree c.args.asked.now) place.node) in
+    sym (none_settles c.args.every test c.loop-left.left (omega (arith, c.loop-left-test.false))) ∙ c.loop-left.invariant.left
+
+pub square_at-returns-then-left-eq0-clause-value : goal.square_at-returns-then-left-eq0-clause-value
+square_at-returns-then-left-eq0-clause-value t c =
+    let test = holds_at c.args.place.now c.args.name.now c.args.names.now (filter_tree c.args.asked.now) in
+    sym (by_settling c.args.every (as_squares (is_in c.tried-left.result)) test false (sym (none_settles c.args.every test c.tried-left.result (omega (arith, c.if-left-eq0.true)))))
+    ∙ c.tried-left.ensures
+
+pub square_at-unbind-requires : goal.square_at-unbind-requires
+square_at-unbind-requires t c = rebound_some c.some_settles-found.new.names c.bind.new.self (search rules) (c.some_settles-found.ensures.names 0)
+
+pub square_at-returns-in-Ok-clause-value : goal.square_at-returns-in-Ok-clause-value
+square_at-returns-in-Ok-clause-value t c =
+    let place = c.args.place.now in
+    let f = filter_tree c.args.asked.now in
+    let test = holds_at place c.args.name.now c.args.names.now f in
+    let left = c.tried-left.result in
+    let value : c.in-Ok.found ≡ list_any (settles c.args.every (is_in left) (λ s. holds (value_at place (rebound c.bind.new.self s) f place.node))) squares
+    = subst (λ r. IfOk r (λ b. b ≡ list_any (settles c.args.every (is_in left) (λ s. holds (value_at place (rebound c.bind.new.self s) f place.node))) squares)) c.in-Ok.is
+    c.some_settles-found.ensures.value in
+    let bound : c.bind.new.self ≡ (c.args.name.now, c.lowest_square.result) ∷ c.args.names.now = c.in_ok-bind.ensures.ok in
+    ap as_truth (by_found c.in-Ok.found c.args.every)
+    ∙ sym (by_settling c.args.every (as_squares (is_in left)) test c.in-Ok.found (value
+    ∙ ap (λ (b : _). list_any (settles c.args.every (is_in left) (λ s. holds (value_at place (rebound b s) f place.node))) squares) bound))
+    ∙ c.tried-left.ensures
+
+pub square_at-returns-in-Ok-clause-names : goal.square_at-returns-in-Ok-clause-names
+square_at-returns-in-Ok-clause-names t c =
+    c.unbind.ensures ∙ rebound_outer c.some_settles-found.new.names c.bind.new.self (c.some_settles-found.ensures.names 0) ∙ ap (drop 1) c.in_ok-bind.ensures.ok
+
+pub square_at-returns-in-Err-clause-names : goal.square_at-returns-in-Err-clause-names
+square_at-returns-in-Err-clause-names t c =
+    c.unbind.ensures ∙ rebound_outer c.some_settles-found.new.names c.bind.new.self (c.some_settles-found.ensures.names 0) ∙ ap (drop 1) c.in_ok-bind.ensures.ok
+
+pub played_at-returns-clause-value : goal.played_at-returns-clause-value
+played_at-returns-clause-value t c =
+    let place = c.args.place.now in
+    let e = c.args.names.now in
+    let p = c.args.played.now in
+    let l = c.in-Some.led in
+    let n1 = c.is_met.ensures.names in
+    let n2 = c.is_met-2.ensures.names ∙ n1 in
+    let n3 = c.is_met-3.ensures.names ∙ n2 in
+    let at_origin : meets (written_value (tree_of place) [] e (origin_of p) (before (tree_of place) place.node)) (Some l.origin) ≡ true
+    = ap (λ k. meets (written_value (tree_of place) [] e (origin_of p) k) (Some l.origin)) (sym c.before-2.ensures.value) ∙ sym c.in_ok-is_met.ensures.value ∙ c.if-not-branch.false in
+    let at_goal : meets (written_value (tree_of place) [] e (goal_of p) place.node) (Some l.goal) ≡ true
+    = ap (λ (b : _). meets (written_value (tree_of place) [] b (goal_of p) place.node) (Some l.goal)) (sym n1) ∙ sym c.in_ok-is_met-2.ensures.value ∙ c.if-not-branch-2.false in
+    let at_taken : meets (written_value (tree_of place) [] e (taken_of p) (before (tree_of place) place.node)) l.taken ≡ true
+    = ap₂ (λ (b : _) k. meets (written_value (tree_of place) [] b (taken_of p) k) l.taken) (sym n2) (sym c.before-2.ensures.value)
+    ∙ sym c.in_ok-is_met-3.ensures.value ∙ c.if-not-branch-3.false in
+    move_met (tree_of place) e place.node p l c.in_ok-promoted.promoted (sym c.in-Some.is ∙ c.led_to.ensures) at_origin at_goal at_taken
+    (c.in_ok-promoted.ensures.value ∙ ap₂ (λ (b : _) s. meets (written_value (tree_of place) [] b (promoted_of p) place.node) s) n3 c.promoted_on.ensures)
+
+pub unary_at-returns-in_ok-value-in_default : goal.unary_at-returns-in_ok-value-in_default
+unary_at-returns-in_ok-value-in_default t c =
+    let tree = tree_of c.args.place.now in
+    let at = value_at c.args.place.now c.args.names.now (filter_tree c.args.part.now) in
+    record {
+      value = c.unary_here.ensures ∙ ap (λ p. of_value p.men c.args.word (meant c.in_ok-value-in_default.value)) c.position.ensures
+          ∙ word_here tree c.args.word at c.args.place.now.node (meant c.in_ok-value-in_default.value) c.in_default.not-Find c.in_default.not-FindUp c.in_default.not-Child
+          c.in_default.not-Parent c.in_ok-value-in_default.ensures.value;
+      names = c.evaluate.ensures.names;
+    }
