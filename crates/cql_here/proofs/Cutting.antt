@@ -1,5 +1,5 @@
 -- Squares that are worth trying for a name.
-use Rattle.std.proofs.Common.{◌≡◌, ℕ, zero, suc, ◌+◌, ◌^◌, ◌<◌, Bool, true, false, ◌&&◌, ◌||◌, ◌==◌, nat_lt, List, [], ◌∷◌, length, get_or, refl, sym, ap, ap₂, ◌∙◌, subst, arith, inl, inr, Option, option_map, Some, None}
+use Rattle.std.proofs.Common.{◌≡◌, ℕ, zero, suc, ◌+◌, ◌^◌, ◌<◌, Bool, true, false, ◌&&◌, ◌||◌, ◌==◌, nat_lt, List, [], ◌∷◌, length, get_or, ◌⊎◌, refl, sym, ap, ap₂, ◌∙◌, subst, arith, inl, inr, Option, option_map, Some, None}
 use Rattle.std.specs.Prelude.{bit_and}
 use Rattle.std.specs.List.{filter, list_any, list_all}
 use Rattle.std.specs.Str.{bytes_eq}
@@ -17,9 +17,11 @@ use Rattle.cql_played.specs.declared.led.Led.{Led}
 use Rattle.cql_syntax.specs.Contexts.{designator_image}
 use Rattle.cql_syntax.specs.Meaning.{Names, value, values, written_value, played_value, meets, meets_all, goal_if, before, stands_on, position_at}
 use Rattle.cql_syntax.specs.TreeOf.{filter_tree, filter_trees, form_tree, held_tree, played_tree, written_tree}
-use Rattle.cql_syntax.specs.Trees.{FilterTrees, PlayedTree, WrittenTree, filter_at, move_of}
-use Rattle.cql_syntax.specs.Values.{Value, holds, has, as_truth, as_squares, square_of, squares_where, related, intersection_of}
+use Rattle.cql_syntax.specs.Trees.{FilterTree, FilterTrees, pair, PlayedTree, WrittenTree, filter_at, move_of}
+use Rattle.cql_syntax.specs.Values.{Value, holds, has, as_truth, as_squares, as_number, pair_of, square_of, squares_where, related, intersection_of}
 use Rattle.cql_syntax.specs.declared.leaves.Designator.{Designator}
+use Rattle.cql_syntax.specs.declared.leaves.Pair.{Pair}
+use Rattle.cql_syntax.specs.declared.leaves.Pair.TheVariants.{Attacks, AttackedBy}
 use Rattle.cql_syntax.specs.declared.tree.Filter.{Filter}
 use Rattle.cql_syntax.specs.declared.tree.Form.{Squares}
 use Rattle.cql_syntax.specs.declared.tree.Played.{Played, Played', out-Played, outs-Played', Held-Played-origin, view-Played-origin, None', Some'}
@@ -27,13 +29,13 @@ use Rattle.cql_values.proofs.Masks.{above, in_both, is_in_bit, is_mask, nothing_
 use Rattle.cql_values.proofs.Evaluated.{by_settling}
 use Rattle.cql_values.proofs.Ranges.{left, right, both, same_any, same_truth, some_square, square_found}
 use Rattle.cql_values.specs.Asked.{settles}
-use Rattle.cql_here.specs.Cuts.{IsCut, IsName, HaveName, Allows}
+use Rattle.cql_here.specs.Cuts.{IsCut, IsName, IsOwn, HaveName, Allows}
 
 -- cut twice, where what is asked asks as much each time
-pub cut_again : (test more : ℕ → Bool) (old mid new : ℕ) → ((s : ℕ) → test s ≡ true → more s ≡ true) → IsCut test old mid → IsCut more mid new → IsCut test old new
+pub cut_again : (test more : ℕ → Bool) (old mid new : ℕ) → ((s : ℕ) → is_in old s ≡ true → test s ≡ true → more s ≡ true) → IsCut test old mid → IsCut more mid new → IsCut test old new
 cut_again test more old mid new implies first second = record {
   within = λ s e. first.within s (second.within s e);
-  keeps = λ s e h. second.keeps s (first.keeps s e h) (implies s h);
+  keeps = λ s e h. second.keeps s (first.keeps s e h) (implies s e h);
 }
 
 pub cut_more : (test more : ℕ → Bool) (old new : ℕ) → ((s : ℕ) → test s ≡ true → more s ≡ true) → IsCut more old new → IsCut test old new
@@ -60,11 +62,35 @@ each_passes test tree e n (x ∷ fs) (suc i) f low is all =
 own_square : (s t : ℕ) → (nat_lt t 64 && (s == t)) ≡ true → s ≡ t
 own_square s t e = eqb-true s t (right (nat_lt t 64) (s == t) e)
 
--- a filter among others that is the name
-pub named : (name : List ℕ) (fs : List Filter) (i : ℕ) (f : Filter) → i < length fs → f ≡ get_or fs i f → IsName name (filter_tree f) → HaveName name (filter_trees fs)
+pub name_own : (name : List ℕ) (f : FilterTree) → IsName name f → IsOwn name f
+name_own name f is = record { own = λ tree e n s t h. own_square s t (sym (ap (λ v. has v t) (is.own tree e n s)) ∙ h) }
+
+-- the squares of a filter that are so related to another's
+pub related_own : (name : List ℕ) (whole a b : FilterTree) (at : ℕ) (p : Pair) → (p ≡ Attacks) ⊎ (p ≡ AttackedBy) → whole ≡ filter_at at (pair p a b) → IsName name a → IsOwn name whole
+unfolding value
+related_own name whole a b at p (inl e) is own = record {
+  own = λ tree m n s t h. (name_own name a own).own tree m n s t
+      (left (has (value tree [] ((name, s) ∷ m) a n) t) _ (right (nat_lt t 64) _
+      (sym (ap (λ q. has (pair_of (position_at tree n).men q (value tree [] ((name, s) ∷ m) a n) (value tree [] ((name, s) ∷ m) b n)) t) e)
+      ∙ sym (ap (λ w. has (value tree [] ((name, s) ∷ m) w n) t) is) ∙ h)));
+}
+related_own name whole a b at p (inr e) is own = record {
+  own = λ tree m n s t h. (name_own name a own).own tree m n s t
+      (left (has (value tree [] ((name, s) ∷ m) a n) t) _ (right (nat_lt t 64) _
+      (sym (ap (λ q. has (pair_of (position_at tree n).men q (value tree [] ((name, s) ∷ m) a n) (value tree [] ((name, s) ∷ m) b n)) t) e)
+      ∙ sym (ap (λ w. has (value tree [] ((name, s) ∷ m) w n) t) is) ∙ h)));
+}
+
+-- a set that has a square holds
+pub having_holds : (v : Value) (s : ℕ) → s < 64 → has v s ≡ true → holds v ≡ true
+having_holds (as_truth b) s low e = cc
+having_holds (as_squares x) s low e = some_square x s low e
+having_holds (as_number n) s low e = cc
+
+-- a filter among others that has no square but the name's
+pub named : (name : List ℕ) (fs : List Filter) (i : ℕ) (f : Filter) → i < length fs → f ≡ get_or fs i f → IsOwn name (filter_tree f) → HaveName name (filter_trees fs)
 named name fs i f low is own = record {
-  own = λ tree e n s t all. own_square s t
-      (sym (ap (λ v. has v t) (own.own tree e n s)) ∙ each_passes (λ v. has v t) tree ((name, s) ∷ e) n fs i f low is all);
+  own = λ tree e n s t all. own.own tree e n s t (each_passes (λ v. has v t) tree ((name, s) ∷ e) n fs i f low is all);
 }
 
 -- some square of both that passes, where one of them is alone

@@ -1,14 +1,15 @@
 //! Squares that are worth trying for a name: of the squares of a set those with which what is asked may hold.
-ghost use Rattle.std.specs.Prelude.{◌≡◌, ℕ, ◌<◌, ◌&&◌, [], ◌∷◌, true, IfSome};
+ghost use Rattle.std.specs.Prelude.{◌≡◌, ℕ, ◌<◌, ◌⊎◌, ◌&&◌, [], ◌∷◌, true, IfSome};
 ghost use Rattle.std.specs.List.{list_any, list_all};
 ghost use Rattle.cq_geometry.specs.Squares.{squares};
 ghost use Rattle.cq_position.specs.Attacks.{attacks};
 ghost use Rattle.cq_symmetry.specs.Images.{is_in};
-ghost use Rattle.cql_here.specs.Cuts.{IsCut, IsFixed, IsName, HaveName, Allows, value_with, values_with, position_of};
+ghost use Rattle.cql_here.specs.Cuts.{IsCut, IsFixed, IsName, IsOwn, HaveName, Allows, value_with, values_with, position_of};
 ghost use Rattle.cql_here.specs.Places.{IsAt, tree_of, holds_at};
 ghost use Rattle.cql_syntax.specs.Meaning as meaning;
 ghost use Rattle.cql_syntax.specs.TreeOf.{filter_tree, filters_tree, written_tree, played_tree};
 ghost use Rattle.cql_syntax.specs.Values as spec;
+ghost use Rattle.cql_syntax.specs.declared.leaves.Pair.TheVariants.{Attacks, AttackedBy};
 
 use crate::place::Place;
 use cq_geometry::Square;
@@ -57,6 +58,9 @@ fn worth(trial: &Trial, asked: &Filter, set: u64) -> u64
     requires { IsAt trial.now.place.now }
     ensures { IsCut (λ s. spec.holds (value_with trial.now (filter_tree asked.now) s)) set result }
 {
+    if set == 0 {
+        return 0;
+    }
     match &asked.form {
         Form::Chain(chain, parts) => worth_in_chain(trial, *chain, parts, set),
         Form::Pair(pair, first, second) => worth_in_pair(trial, *pair, first, second, set),
@@ -98,22 +102,36 @@ fn worth_in_common(trial: &Trial, parts: &Filters, set: u64) -> u64
     }
     let mut left = set;
     for part in parts.as_slice() {
-        left &= fixed_or_all(trial, part);
+        left = worth_of_pair(trial, part, left) & fixed_or_all(trial, part);
     }
     left
 }
 
+// Whether one of some sets has no square but the one that is bound to the name.
 fn has_name(name: &[u8], parts: &Filters) -> bool 
     ensures { result ≡ true → HaveName name.now (filters_tree parts.now) }
 {
     for part in parts.as_slice() {
-        if is_name(name, part) {
+        if is_own(name, part) {
             return true;
         }
     }
     false
 }
 
+// The squares with which a filter of two parts may hold.
+#[tactic(auto, unfolding(cql_syntax::specs::Meaning::value))]
+fn worth_of_pair(trial: &Trial, asked: &Filter, set: u64) -> u64
+    requires { IsAt trial.now.place.now }
+    ensures { IsCut (λ s. spec.holds (value_with trial.now (filter_tree asked.now) s)) set result }
+{
+    match &asked.form {
+        Form::Pair(pair, first, second) => worth_in_pair(trial, *pair, first, second, set),
+        _ => set,
+    }
+}
+
+// The squares of a filter, as far as they are known; else all.
 fn fixed_or_all(trial: &Trial, part: &Filter) -> u64 
     requires { IsAt trial.now.place.now }
     ensures { (s t : ℕ) → t < 64 → spec.has (value_with trial.now (filter_tree part.now) s) t ≡ true → is_in result t ≡ true }
@@ -228,6 +246,28 @@ fn fixed(trial: &Trial, f: &Filter) -> Option<u64>
             }
         }
         _ => None,
+    }
+}
+
+// Whether a filter has no square but the one that is bound to the name.
+#[tactic(auto, unfolding(cql_syntax::specs::Meaning::value))]
+fn is_own(name: &[u8], f: &Filter) -> bool
+    ensures { result ≡ true → IsOwn name.now (filter_tree f.now) }
+{
+    match &f.form {
+        Form::Name(_) => is_name(name, f),
+        Form::Pair(pair, first, _) => is_attack(*pair) && is_name(name, first),
+        _ => false,
+    }
+}
+
+// Whether a pair asks which squares of the first set attack the second, or are attacked by it.
+fn is_attack(pair: Pair) -> bool
+    ensures { result ≡ true → (pair ≡ Attacks) ⊎ (pair ≡ AttackedBy) }
+{
+    match pair {
+        Pair::Attacks | Pair::AttackedBy => true,
+        _ => false,
     }
 }
 

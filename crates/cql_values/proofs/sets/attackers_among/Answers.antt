@@ -1,0 +1,29 @@
+use Rattle.std.proofs.Common.{◌≡◌, ◌<◌, ◌^◌, arith, rules}
+use Rattle.cq_bits.specs.Sets.{IsAttacker}
+use Rattle.cq_bits.proofs.Gathering.{gathered_none, gathered_all, more, smaller}
+use Rattle.cql_values.proofs.Seen.{gathered_own, set_of_both}
+use Rattle.cql_values.proofs.sets.attackers_among.Goals as goal
+
+pub returns-then-from-to : goal.returns-then-from-to
+returns-then-from-to c = set_of_both c.args.from c.attackers.result (IsAttacker c.args.position.now.men c.args.to) c.attackers.ensures
+
+pub loop-left-init : goal.loop-left-init
+loop-left-init c = gathered_none (λ s t. (s ≡ t) × IsAttacker c.args.position.now.men c.args.to t) c.args.from
+
+pub loop-left-smaller : goal.loop-left-smaller
+loop-left-smaller c =
+    let some : 0 < c.loop-left.left = omega arith in
+    let fits : c.loop-left.left < 2 ^ 64 = search rules in
+    smaller c.loop-left.left c.lowest_square-square.result c.number.result some fits c.lowest_square-square.ensures.value c.number.ensures.value
+
+pub loop-left-preserved : goal.loop-left-preserved
+loop-left-preserved c =
+    let some : 0 < c.loop-left.left = omega arith in
+    let fits : c.loop-left.left < 2 ^ 64 = search rules in
+    more (λ s t. (s ≡ t) × IsAttacker c.args.position.now.men c.args.to t) c.args.from c.loop-left.left c.loop-left.found c.square_if_attacking-found.result c.lowest_square-square.result c.number.result
+    some fits c.lowest_square-square.ensures.value c.number.ensures.value c.square_if_attacking-found.ensures c.loop-left.invariant
+
+pub returns : goal.returns
+returns c =
+    gathered_own c.args.from c.loop-left.found (IsAttacker c.args.position.now.men c.args.to)
+    (gathered_all (λ s t. (s ≡ t) × IsAttacker c.args.position.now.men c.args.to t) c.args.from c.loop-left.left c.loop-left.found c.loop-left-test.false c.loop-left.invariant)
