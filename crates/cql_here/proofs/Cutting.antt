@@ -223,10 +223,10 @@ unfolding value
 move_value tree e p n = ap (λ m. played_value tree [] e m n) (parts_are p)
 
 -- the parts of a move that are met
-record AreMet (l : Led) (origin goal taken promoted : Option Value) : Type 0 where
-  origin_met : meets origin (Some l.origin) ≡ true
-  goal_met : meets goal (Some l.goal) ≡ true
-  taken_met : meets taken l.taken ≡ true
+pub record AreMet (l : Led) (origin goal taken promoted : Option Value) : Type 0 where
+  pub origin_met : meets origin (Some l.origin) ≡ true
+  pub goal_met : meets goal (Some l.goal) ≡ true
+  pub taken_met : meets taken l.taken ≡ true
 
 four : (a b c d : Bool) → (a && b && c && d) ≡ true → (a ≡ true) × (b ≡ true) × (c ≡ true)
 four true true true d e = (refl, refl, refl)
@@ -245,37 +245,8 @@ are_met (Some m) l x y z w is e =
       taken_met = ap (λ k. meets z k.taken) same ∙ all.2;
     }
 
--- the squares of a move, as far as its parts allow them
-pub move_cut : (tree : SearchedTree) (e : Names) (name : List ℕ) (n set a b c : ℕ) (p : Played) (l : Led) → set < 2 ^ 64 → Some l ≡ option_map as_led (led_to tree.game.nodes n)
-    → Allows name (origin_of p) (Some l.origin) a → Allows name (goal_of p) (Some l.goal) b → Allows name (taken_of p) l.taken c
-    → IsCut (λ s. played_value tree [] ((name, s) ∷ e) (played_tree p) n) set (bit_and (bit_and (bit_and set a) b) c)
-move_cut tree e name n set a b c p l fits is at_origin at_goal at_taken =
-    cut_common test set (bit_and (bit_and set a) b) c (λ s i h. at_taken.keeps tree e (before tree n) s (on_board set s fits i) (met s h).taken_met)
-    (cut_common test set (bit_and set a) b (λ s i h. at_goal.keeps tree e n s (on_board set s fits i) (met s h).goal_met)
-    (cut_common test set set a (λ s i h. at_origin.keeps tree e (before tree n) s (on_board set s fits i) (met s h).origin_met) (uncut test set)))
-  where
-    test : ℕ → Bool
-    test s = played_value tree [] ((name, s) ∷ e) (played_tree p) n
-
-    met : (s : ℕ) → test s ≡ true → AreMet l (written_value tree [] ((name, s) ∷ e) (origin_of p) (before tree n)) (written_value tree [] ((name, s) ∷ e) (goal_of p) n)
-        (written_value tree [] ((name, s) ∷ e) (taken_of p) (before tree n)) (written_value tree [] ((name, s) ∷ e) (promoted_of p) n)
-    met s h = are_met (led_to tree.game.nodes n) l _ _ _ _ is (sym (move_value tree ((name, s) ∷ e) p n) ∙ h)
-
--- a move that is met in its first three parts
-pub move_met : (tree : SearchedTree) (e : Names) (n : ℕ) (p : Played) (l : Led) (b : Bool) → Some l ≡ option_map as_led (led_to tree.game.nodes n)
-    → meets (written_value tree [] e (origin_of p) (before tree n)) (Some l.origin) ≡ true → meets (written_value tree [] e (goal_of p) n) (Some l.goal) ≡ true
-    → meets (written_value tree [] e (taken_of p) (before tree n)) l.taken ≡ true → b ≡ meets (written_value tree [] e (promoted_of p) n) (goal_if l.promoted l.goal)
-    → b ≡ played_value tree [] e (played_tree p) n
-move_met tree e n p l b is x y z w = by (led_to tree.game.nodes n) _ _ _ _ is x y z w ∙ sym (move_value tree e p n)
-  where
-    true_three : (f g h k : Bool) → f ≡ true → g ≡ true → h ≡ true → b ≡ k → b ≡ (f && g && h && k)
-    true_three f g h k e1 e2 e3 e4 = rw (e1, e2, e3) e4
-
-    by : (o : Option PlainLed) (x y z w : Option Value) → Some l ≡ option_map as_led o → meets x (Some l.origin) ≡ true → meets y (Some l.goal) ≡ true → meets z l.taken ≡ true
-        → b ≡ meets w (goal_if l.promoted l.goal) → b ≡ meets_all o x y z w
-    by None x y z w is e1 e2 e3 e4 = cc
-    by (Some m) x y z w is e1 e2 e3 e4 =
-        let same : as_led m ≡ l = cc in
-        true_three (meets x (Some m.origin)) (meets y (Some m.goal)) (meets z m.taken) (meets w (goal_if m.promoted m.goal))
-        (ap (λ k. meets x (Some k.origin)) same ∙ e1) (ap (λ k. meets y (Some k.goal)) same ∙ e2) (ap (λ k. meets z k.taken) same ∙ e3)
-        (e4 ∙ sym (ap (λ k. meets w (goal_if k.promoted k.goal)) same))
+-- what is asked of a move, where it holds with a square bound to a name
+pub move_meets : (tree : SearchedTree) (e : Names) (n : ℕ) (p : Played) (l : Led) → Some l ≡ option_map as_led (led_to tree.game.nodes n) → played_value tree [] e (played_tree p) n ≡ true
+    → AreMet l (written_value tree [] e (origin_of p) (before tree n)) (written_value tree [] e (goal_of p) n) (written_value tree [] e (taken_of p) (before tree n))
+    (written_value tree [] e (promoted_of p) n)
+move_meets tree e n p l is h = are_met (led_to tree.game.nodes n) l _ _ _ _ is (sym (move_value tree e p n) ∙ h)

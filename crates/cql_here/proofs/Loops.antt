@@ -44,14 +44,8 @@ next_item xs i x low is = drop_more xs i x low ∙ ap (λ y. y ∷ drop (i + 1) 
 
 module _ {A : Type 0} (p : A → Bool) (xs : List A) (whole : Bool) where
   module _ (i : ℕ) (x : A) (low : i < length xs) (is : x ≡ get_or xs i x) where
-    pub all_on : p x ≡ true → list_all p (drop i xs) ≡ whole → list_all p (drop (i + 1) xs) ≡ whole
-    all_on here e = sym (ap (λ b. b && list_all p (drop (i + 1) xs)) here) ∙ sym (ap (list_all p) (next_item xs i x low is)) ∙ e
-
     pub all_stop : p x ≡ false → list_all p (drop i xs) ≡ whole → false ≡ whole
     all_stop here e = sym (ap (λ b. b && list_all p (drop (i + 1) xs)) here) ∙ sym (ap (list_all p) (next_item xs i x low is)) ∙ e
-
-    pub any_on : p x ≡ false → list_any p (drop i xs) ≡ whole → list_any p (drop (i + 1) xs) ≡ whole
-    any_on here e = sym (ap (λ b. b || list_any p (drop (i + 1) xs)) here) ∙ sym (ap (list_any p) (next_item xs i x low is)) ∙ e
 
     pub any_stop : p x ≡ true → list_any p (drop i xs) ≡ whole → true ≡ whole
     any_stop here e = sym (ap (λ b. b || list_any p (drop (i + 1) xs)) here) ∙ sym (ap (list_any p) (next_item xs i x low is)) ∙ e
@@ -168,13 +162,11 @@ rebound_length [] s = refl
 rebound_length (x ∷ a) s = refl
 
 -- what is asked of each square of a set
-pub square_value : (tree : SearchedTree) (e : Names) (n : ℕ) (whole a b : FilterTree) (at : ℕ) (every : Bool) (text : List ℕ) (set : ℕ) (x : Value)
-    → whole ≡ filter_at at (square every text a b) → x ≡ value tree [] e a n → has x ≡ is_in set
-    → square_of every (as_squares (is_in set)) (λ s. holds (value tree [] ((text, s) ∷ e) b n)) ≡ value tree [] e whole n
+pub square_value : (tree : SearchedTree) (e : Names) (n at : ℕ) (every : Bool) (text : List ℕ) (a b : FilterTree) (set : ℕ) (x : Value) → x ≡ value tree [] e a n → has x ≡ is_in set
+    → square_of every (as_squares (is_in set)) (λ s. holds (value tree [] ((text, s) ∷ e) b n)) ≡ value tree [] e (filter_at at (square every text a b)) n
 unfolding value
-square_value tree e n whole a b at every text set x is of_a of_set =
+square_value tree e n at every text a b set x of_a of_set =
     square_of_has every (as_squares (is_in set)) (value tree [] e a n) (λ s. holds (value tree [] ((text, s) ∷ e) b n)) (sym of_set ∙ ap has of_a)
-    ∙ sym (ap (λ w. value tree [] e w n) is)
 
 -- the union of sets, and what they have in common
 pub union_whole : (tree : SearchedTree) (e : Names) (n : ℕ) (xs : List Filter) (fs : FilterTrees) (i mask : ℕ) → mask < 2 ^ 64 → length xs ≤ i → filter_trees xs ≡ fs
