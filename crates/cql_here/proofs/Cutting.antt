@@ -1,16 +1,13 @@
 -- Squares that are worth trying for a name.
-use Rattle.std.proofs.Common.{◌≡◌, ℕ, zero, suc, ◌+◌, ◌^◌, ◌<◌, Bool, true, false, ◌&&◌, ◌||◌, ◌==◌, nat_lt, List, [], ◌∷◌, length, get_or, ◌⊎◌, refl, sym, ap, ap₂, ◌∙◌, subst, arith, inl, inr, Option, option_map, Some, None}
+use Rattle.std.proofs.Common.{◌≡◌, ℕ, zero, suc, ◌^◌, ◌<◌, Bool, true, false, ◌&&◌, ◌==◌, nat_lt, List, [], ◌∷◌, length, get_or, ◌⊎◌, refl, sym, ap, ap₂, ◌∙◌, arith, inl, inr, Option, option_map, Some, None}
 use Rattle.std.specs.Prelude.{bit_and}
 use Rattle.std.specs.List.{filter, list_any, list_all}
-use Rattle.std.specs.Str.{bytes_eq}
 use Rattle.std.proofs.lemmas.Bool.{cases_lt, eqb-true, lt-ltb}
 use Rattle.std.proofs.lemmas.Nat.Bits.{bit_at_ones}
 use Rattle.cq_geometry.specs.Squares.{squares}
-use Rattle.cq_position.specs.Attacks.{attacks}
 use Rattle.cq_position.specs.Bitboards.{IsBitboard}
 use Rattle.cq_position.specs.Led.{PlainLed, led_to}
 use Rattle.cq_position.specs.Search.{SearchedTree}
-use Rattle.cq_position.specs.declared.men.Man.{Man}
 use Rattle.cq_symmetry.specs.Images.{is_in}
 use Rattle.cql_played.specs.Led.{as_led}
 use Rattle.cql_played.specs.declared.led.Led.{Led}
@@ -29,7 +26,7 @@ use Rattle.cql_values.proofs.Masks.{above, in_both, is_in_bit, is_mask, nothing_
 use Rattle.cql_values.proofs.Evaluated.{by_settling}
 use Rattle.cql_values.proofs.Ranges.{left, right, both, same_any, same_truth, some_square, square_found}
 use Rattle.cql_values.specs.Asked.{settles}
-use Rattle.cql_here.specs.Cuts.{IsCut, IsName, IsOwn, HaveName, Allows}
+use Rattle.cql_here.specs.Cuts.{IsCut, IsName, IsOwn, HaveName}
 
 -- cut twice, where what is asked asks as much each time
 pub cut_again : (test more : ℕ → Bool) (old mid new : ℕ) → ((s : ℕ) → is_in old s ≡ true → test s ≡ true → more s ≡ true) → IsCut test old mid → IsCut more mid new → IsCut test old new

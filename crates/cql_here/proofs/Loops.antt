@@ -1,12 +1,12 @@
 -- Loops over filters, the nodes above one, and the squares of a set.
-use Rattle.std.proofs.Common.{◌≡◌, ◌≢◌, ℕ, ◌+◌, ◌*◌, ◌%◌, ◌^◌, ◌<◌, ◌≤◌, Bool, true, false, not, ◌&&◌, ◌||◌, List, [], ◌∷◌, map, take, drop, length, get_or, refl, sym, ap, ◌∙◌, subst, inl, inr, arith}
-use Rattle.std.specs.Prelude.{if◌then◌else◌, bit_and}
+use Rattle.std.proofs.Common.{◌≡◌, ℕ, ◌+◌, ◌*◌, ◌%◌, ◌^◌, ◌<◌, ◌≤◌, Bool, true, false, not, ◌&&◌, ◌||◌, List, [], ◌∷◌, map, take, drop, length, get_or, refl, sym, ap, ◌∙◌, subst, inl, inr, arith}
+use Rattle.std.specs.Prelude.{if◌then◌else◌}
 use Rattle.std.specs.List.{list_any, list_all}
-use Rattle.std.specs.Int.{bit_at, bit_not, trailing_zeros, w64}
+use Rattle.std.specs.Int.{bit_not, trailing_zeros, w64}
 use Rattle.std.proofs.lemmas.Bool.{cases_Bool, cases_eq}
 use Rattle.std.proofs.lemmas.List.{drop_more, drop_all, take_all}
 use Rattle.std.proofs.Math.Bool.{beq}
-use Rattle.std.proofs.lemmas.Nat.Bits.{bit_at-trailing_zeros, bit_at_clear_same, bit_at_clear_other}
+use Rattle.std.proofs.lemmas.Nat.Bits.{bit_at-trailing_zeros, bit_at_clear_other}
 use Rattle.cq_bits.proofs.Gathering.{cleared}
 use Rattle.cq_geometry.specs.Squares.{squares}
 use Rattle.cq_position.specs.Bitboards.{IsBitboard}
@@ -16,7 +16,7 @@ use Rattle.cq_symmetry.specs.Images.{is_in}
 use Rattle.cql_syntax.specs.Meaning.{Names, value, values}
 use Rattle.cql_syntax.specs.TreeOf.{filter_tree, filter_trees}
 use Rattle.cql_syntax.specs.Trees.{FilterTree, FilterTrees, filter_at, square}
-use Rattle.cql_syntax.specs.Values.{Value, as_truth, as_squares, holds, has, square_of, union_of, intersection_of}
+use Rattle.cql_syntax.specs.Values.{Value, as_squares, holds, has, square_of, union_of, intersection_of}
 use Rattle.cql_syntax.specs.declared.tree.Filter.{Filter}
 use Rattle.cql_values.proofs.Masks.{has_bit, bit_in, nothing_in, union_is, intersection_is}
 use Rattle.cql_values.proofs.Ranges.{same_truth, some_square, square_found, both, left, right, any_mapped, all_mapped}

@@ -69,6 +69,7 @@ fn worth(trial: &Trial, asked: &Filter, set: u64) -> u64
     }
 }
 
+// The same of a chain of filters.
 #[cycle(worth)]
 fn worth_in_chain(trial: &Trial, chain: Chain, parts: &Filters, set: u64) -> u64
     requires { IsAt trial.now.place.now }
@@ -81,6 +82,7 @@ fn worth_in_chain(trial: &Trial, chain: Chain, parts: &Filters, set: u64) -> u64
     }
 }
 
+// Of filters that must all hold.
 #[cycle(worth)]
 fn worth_in_all(trial: &Trial, parts: &Filters, set: u64) -> u64
     requires { IsAt trial.now.place.now }
@@ -93,6 +95,7 @@ fn worth_in_all(trial: &Trial, parts: &Filters, set: u64) -> u64
     left
 }
 
+// Of sets that have a square in common.
 fn worth_in_common(trial: &Trial, parts: &Filters, set: u64) -> u64
     requires { IsAt trial.now.place.now }
     ensures { IsCut (λ s. spec.holds (spec.intersection_of (values_with trial.now (filters_tree parts.now) s))) set result }
@@ -142,6 +145,7 @@ fn fixed_or_all(trial: &Trial, part: &Filter) -> u64
     }
 }
 
+// Of men that attack a square, or that are attacked from it.
 fn worth_in_pair(trial: &Trial, pair: Pair, first: &Filter, second: &Filter, set: u64) -> u64
     requires { IsAt trial.now.place.now }
     ensures { IsCut (λ s. spec.holds (spec.pair_of (position_of trial.now).men pair
@@ -185,6 +189,7 @@ fn attacking_some(trial: &Trial, goal: &Filter, set: u64) -> u64
     }
 }
 
+// The squares of a set that a man on a square of a filter attacks, as far as its squares are known.
 fn attacked_by_some(trial: &Trial, origin: &Filter, set: u64) -> u64
     requires { IsAt trial.now.place.now }
     ensures { IsCut (λ s. list_any (λ t. spec.has (value_with trial.now (filter_tree origin.now) s) t
@@ -199,6 +204,7 @@ fn attacked_by_some(trial: &Trial, origin: &Filter, set: u64) -> u64
     }
 }
 
+// The squares of the move that led to the node, as far as its parts are the name.
 #[tactic(auto, unfolding(cql_syntax::specs::Meaning::value))]
 fn worth_in_move(trial: &Trial, played: &Played, set: u64) -> u64
     requires { IsAt trial.now.place.now }

@@ -1,4 +1,4 @@
-use Rattle.std.proofs.Common.{◌≡◌, ℕ, Bool, true, ◌∷◌, [], ap, sym, ◌∙◌}
+use Rattle.std.proofs.Common.{ℕ, Bool, ◌∷◌, [], sym, ◌∙◌}
 use Rattle.std.specs.Prelude.{bit_and}
 use Rattle.cq_position.specs.Led.{led_to}
 use Rattle.cql_syntax.specs.Meaning.{played_value, before}
