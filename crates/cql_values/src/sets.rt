@@ -10,7 +10,7 @@ ghost use Rattle.cql_values.specs.Shown.{meant};
 ghost use Rattle.cql_values.specs.Squares.{is_step_to};
 
 use crate::value::Value;
-use cq_bits::{attacked, attackers, between_all};
+use cq_bits::{attacked, attackers_among, between_all};
 use cq_geometry::{Compass, Square, toward};
 use cq_position::Position;
 
@@ -71,7 +71,7 @@ pub fn has_square(set: u64, square: Square) -> bool
 pub fn attacking(position: &Position, x: Value, y: Value) -> Value
     ensures { meant result ≡ spec.related (attacks position.now.men) (meant x) (meant y) }
 {
-    Value::Set(x.squares() & attackers(position, y.squares()))
+    Value::Set(attackers_among(position, x.squares(), y.squares()))
 }
 
 /// The squares of the first set that a man on a square of the second attacks.
