@@ -190,7 +190,7 @@ parts_are (Played' o g t p) =
     ∙ ap₂ (λ x y. move_of x y (written_tree (view-Played-origin t)) (written_tree (view-Played-origin p))) (held_is o) (held_is g)
     ∙ ap₂ (λ x y. move_of (held_tree o) (held_tree g) x y) (held_is t) (held_is p))
 
-move_value : (tree : SearchedTree) (e : Names) (p : Played) (n : ℕ) → played_value tree [] e (played_tree p) n
+pub move_value : (tree : SearchedTree) (e : Names) (p : Played) (n : ℕ) → played_value tree [] e (played_tree p) n
     ≡ meets_all (led_to tree.game.nodes n) (written_value tree [] e (origin_of p) (before tree n)) (written_value tree [] e (goal_of p) n)
     (written_value tree [] e (taken_of p) (before tree n)) (written_value tree [] e (promoted_of p) n)
 unfolding value

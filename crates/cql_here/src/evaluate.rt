@@ -14,6 +14,7 @@ ghost use Rattle.cql_values.specs.Asked.{settles};
 ghost use Rattle.cql_values.specs.Bindings.{rebound};
 ghost use Rattle.cql_values.specs.Shown.{meant};
 
+use crate::ends::ends_of;
 use crate::halt::{Elsewhere, Halt};
 use crate::leaves::word_here;
 use crate::place::Place;
@@ -24,7 +25,7 @@ use cql_played::Led;
 use cql_syntax::{Chain, Filter, Filters, Form, Kind, Played, Unary};
 use cql_values::combine::{if_of, pair_of, unary_here};
 use cql_values::headers::{has_text, is_result, rating};
-use cql_values::led::{before, led_to};
+use cql_values::led::led_to;
 use cql_values::names::Names;
 use cql_values::numbers::counted;
 use cql_values::sets::{has_square, reached};
@@ -327,19 +328,25 @@ fn played_at(played: &Played, place: &Place, names: &mut Names) -> Result<bool, 
     ensures value { IfOk result (λ b. b ≡ meaning.played_value (tree_of place.now) [] names.old (played_tree played.now) place.now.node) }
     ensures names { names.new ≡ names.old }
 {
-    let Some(led) = led_to(place.game, place.node) else {
+    let Some(ends) = ends_of(place.game, place.node) else {
         return Ok(false);
     };
     let above = Place {
-        node: before(place.game, place.variations, place.node),
+        node: ends.before,
         ..*place
     };
-    if !is_met(&played.origin, Some(led.origin), &above, names)? {
+    if !is_met(&played.origin, Some(ends.origin), &above, names)? {
         return Ok(false);
     }
-    if !is_met(&played.goal, Some(led.goal), place, names)? {
+    if !is_met(&played.goal, Some(ends.goal), place, names)? {
         return Ok(false);
     }
+    if played.taken.is_none() && played.promoted.is_none() {
+        return Ok(true);
+    }
+    let Some(led) = led_to(place.game, place.node) else {
+        return Ok(false);
+    };
     if !is_met(&played.taken, led.taken, &above, names)? {
         return Ok(false);
     }

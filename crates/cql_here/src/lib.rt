@@ -6,6 +6,7 @@
 
 mod calls;
 mod cheap;
+mod ends;
 mod evaluate;
 mod halt;
 mod leaves;

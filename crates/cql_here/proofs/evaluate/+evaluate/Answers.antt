@@ -229,25 +229,6 @@ pub square_at-returns-in-Err-clause-names : goal.square_at-returns-in-Err-clause
 square_at-returns-in-Err-clause-names t c =
     c.unbind.ensures ∙ rebound_outer c.some_settles-found.new.names c.bind.new.self (c.some_settles-found.ensures.names 0) ∙ ap (drop 1) c.in_ok-bind.ensures.ok
 
-pub played_at-returns-clause-value : goal.played_at-returns-clause-value
-played_at-returns-clause-value t c =
-    let place = c.args.place.now in
-    let e = c.args.names.now in
-    let p = c.args.played.now in
-    let l = c.in-Some.led in
-    let n1 = c.is_met.ensures.names in
-    let n2 = c.is_met-2.ensures.names ∙ n1 in
-    let n3 = c.is_met-3.ensures.names ∙ n2 in
-    let at_origin : meets (written_value (tree_of place) [] e (origin_of p) (before (tree_of place) place.node)) (Some l.origin) ≡ true
-    = ap (λ k. meets (written_value (tree_of place) [] e (origin_of p) k) (Some l.origin)) (sym c.before-2.ensures.value) ∙ sym c.in_ok-is_met.ensures.value ∙ c.if-not-branch.false in
-    let at_goal : meets (written_value (tree_of place) [] e (goal_of p) place.node) (Some l.goal) ≡ true
-    = ap (λ (b : _). meets (written_value (tree_of place) [] b (goal_of p) place.node) (Some l.goal)) (sym n1) ∙ sym c.in_ok-is_met-2.ensures.value ∙ c.if-not-branch-2.false in
-    let at_taken : meets (written_value (tree_of place) [] e (taken_of p) (before (tree_of place) place.node)) l.taken ≡ true
-    = ap₂ (λ (b : _) k. meets (written_value (tree_of place) [] b (taken_of p) k) l.taken) (sym n2) (sym c.before-2.ensures.value)
-    ∙ sym c.in_ok-is_met-3.ensures.value ∙ c.if-not-branch-3.false in
-    move_met (tree_of place) e place.node p l c.in_ok-promoted.promoted (sym c.in-Some.is ∙ c.led_to.ensures) at_origin at_goal at_taken
-    (c.in_ok-promoted.ensures.value ∙ ap₂ (λ (b : _) s. meets (written_value (tree_of place) [] b (promoted_of p) place.node) s) n3 c.promoted_on.ensures)
-
 pub unary_at-returns-in_ok-value-in_default : goal.unary_at-returns-in_ok-value-in_default
 unary_at-returns-in_ok-value-in_default t c =
     let tree = tree_of c.args.place.now in
