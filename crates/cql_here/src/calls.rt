@@ -16,11 +16,7 @@ use cql_values::value::Value;
 use pgn_tree::Game;
 
 /// What a filter gives at a node. Nothing of a filter that is not answered node by node: of a line, a family, a sum and the like.
-pub fn value_here(
-    f: &Filter,
-    place: &Place,
-    names: &mut Names,
-) -> Result<Option<Value>, NoMemory>
+pub fn value_here(f: &Filter, place: &Place, names: &mut Names) -> Result<Option<Value>, NoMemory>
     requires { place.now.node < length place.now.game.now.nodes }
     ensures value { IfOk result (λ found. IfSome found (λ v.
         meant v ≡ meaning.value (tree_of place.now) [] names.old (filter_tree f.now) place.now.node)) }

@@ -14,7 +14,8 @@ pub(crate) fn is_cheap(f: &Filter, upwards: bool) -> bool {
         Form::If(condition, then, otherwise) => {
             is_cheap(condition, upwards) && is_cheap(then, upwards) && is_cheap(otherwise, upwards)
         }
-        Form::Square(_, _, squares, asked) => is_cheap(squares, upwards) && is_cheap(asked, upwards),
+        Form::Square(_, _, squares, asked) => is_cheap(squares, upwards)
+            && is_cheap(asked, upwards),
         Form::Played(played) => is_cheap_move(played, upwards),
         Form::Sort(.., part) => is_cheap(part, upwards),
         Form::Any(kind, parts) => is_cheap_kind(*kind) && are_cheap(parts, upwards),

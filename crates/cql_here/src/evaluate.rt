@@ -72,7 +72,14 @@ pub(crate) fn evaluate(f: &Filter, place: &Place, names: &mut Names) -> Result<V
         }
         Form::Square(every, name, squares, asked) => {
             let squares = evaluate(squares, place, names)?;
-            let holds = square_at(*every, name.as_slice(), squares.squares(), asked, place, names)?;
+            let holds = square_at(
+                *every,
+                name.as_slice(),
+                squares.squares(),
+                asked,
+                place,
+                names,
+            )?;
             Ok(Value::Truth(holds))
         }
         Form::Played(played) => {
@@ -91,12 +98,7 @@ pub(crate) fn evaluate(f: &Filter, place: &Place, names: &mut Names) -> Result<V
 
 // What a word or mark before a part gives.
 #[cycle(evaluate)]
-fn unary_at(
-    word: Unary,
-    part: &Filter,
-    place: &Place,
-    names: &mut Names,
-) -> Result<Value, Halt>
+fn unary_at(word: Unary, part: &Filter, place: &Place, names: &mut Names) -> Result<Value, Halt>
     requires { IsAt place.now }
     ensures value { IfOk result (λ v. meant v ≡ meaning.unary_of (tree_of place.now) word
         (value_at place.now names.old (filter_tree part.now)) place.now.node) }
@@ -202,12 +204,7 @@ fn some_above(part: &Filter, place: &Place, names: &mut Names) -> Result<bool, H
 
 // What a chain gives.
 #[cycle(evaluate)]
-fn chain_at(
-    chain: Chain,
-    parts: &Filters,
-    place: &Place,
-    names: &mut Names,
-) -> Result<Value, Halt>
+fn chain_at(chain: Chain, parts: &Filters, place: &Place, names: &mut Names) -> Result<Value, Halt>
     requires { IsAt place.now }
     ensures value { IfOk result (λ v. meant v ≡ spec.chain_of chain (values_at place.now names.old (filters_tree parts.now) place.now.node)) }
     ensures names { names.new ≡ names.old }

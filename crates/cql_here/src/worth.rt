@@ -66,7 +66,7 @@ fn worth(trial: &Trial, asked: &Filter, set: u64) -> u64
 }
 
 #[cycle(worth)]
-fn worth_in_chain(trial: &Trial, chain: Chain, parts: &Filters, set: u64) -> u64 
+fn worth_in_chain(trial: &Trial, chain: Chain, parts: &Filters, set: u64) -> u64
     requires { IsAt trial.now.place.now }
     ensures { IsCut (λ s. spec.holds (spec.chain_of chain (values_with trial.now (filters_tree parts.now) s))) set result }
 {
@@ -78,7 +78,7 @@ fn worth_in_chain(trial: &Trial, chain: Chain, parts: &Filters, set: u64) -> u64
 }
 
 #[cycle(worth)]
-fn worth_in_all(trial: &Trial, parts: &Filters, set: u64) -> u64 
+fn worth_in_all(trial: &Trial, parts: &Filters, set: u64) -> u64
     requires { IsAt trial.now.place.now }
     ensures { IsCut (λ s. list_all spec.holds (values_with trial.now (filters_tree parts.now) s)) set result }
 {
@@ -89,7 +89,7 @@ fn worth_in_all(trial: &Trial, parts: &Filters, set: u64) -> u64
     left
 }
 
-fn worth_in_common(trial: &Trial, parts: &Filters, set: u64) -> u64 
+fn worth_in_common(trial: &Trial, parts: &Filters, set: u64) -> u64
     requires { IsAt trial.now.place.now }
     ensures { IsCut (λ s. spec.holds (spec.intersection_of (values_with trial.now (filters_tree parts.now) s))) set result }
 {
@@ -103,7 +103,7 @@ fn worth_in_common(trial: &Trial, parts: &Filters, set: u64) -> u64
     left
 }
 
-fn has_name(name: &[u8], parts: &Filters) -> bool 
+fn has_name(name: &[u8], parts: &Filters) -> bool
     ensures { result ≡ true → HaveName name.now (filters_tree parts.now) }
 {
     for part in parts.as_slice() {
@@ -114,7 +114,7 @@ fn has_name(name: &[u8], parts: &Filters) -> bool
     false
 }
 
-fn fixed_or_all(trial: &Trial, part: &Filter) -> u64 
+fn fixed_or_all(trial: &Trial, part: &Filter) -> u64
     requires { IsAt trial.now.place.now }
     ensures { (s t : ℕ) → t < 64 → spec.has (value_with trial.now (filter_tree part.now) s) t ≡ true → is_in result t ≡ true }
 {
@@ -124,7 +124,7 @@ fn fixed_or_all(trial: &Trial, part: &Filter) -> u64
     }
 }
 
-fn worth_in_pair(trial: &Trial, pair: Pair, first: &Filter, second: &Filter, set: u64) -> u64 
+fn worth_in_pair(trial: &Trial, pair: Pair, first: &Filter, second: &Filter, set: u64) -> u64
     requires { IsAt trial.now.place.now }
     ensures { IsCut (λ s. spec.holds (spec.pair_of (position_of trial.now).men pair
         (value_with trial.now (filter_tree first.now) s) (value_with trial.now (filter_tree second.now) s))) set result }
@@ -153,7 +153,7 @@ fn worth_in_pair(trial: &Trial, pair: Pair, first: &Filter, second: &Filter, set
 }
 
 // The squares of a set whose men attack a square of a filter, as far as its squares are known.
-fn attacking_some(trial: &Trial, goal: &Filter, set: u64) -> u64 
+fn attacking_some(trial: &Trial, goal: &Filter, set: u64) -> u64
     requires { IsAt trial.now.place.now }
     ensures { IsCut (λ s. list_any (λ t. spec.has (value_with trial.now (filter_tree goal.now) s) t
         && attacks (position_of trial.now).men s t) squares) set result }
@@ -167,7 +167,7 @@ fn attacking_some(trial: &Trial, goal: &Filter, set: u64) -> u64
     }
 }
 
-fn attacked_by_some(trial: &Trial, origin: &Filter, set: u64) -> u64 
+fn attacked_by_some(trial: &Trial, origin: &Filter, set: u64) -> u64
     requires { IsAt trial.now.place.now }
     ensures { IsCut (λ s. list_any (λ t. spec.has (value_with trial.now (filter_tree origin.now) s) t
         && attacks (position_of trial.now).men t s) squares) set result }
@@ -182,7 +182,7 @@ fn attacked_by_some(trial: &Trial, origin: &Filter, set: u64) -> u64
 }
 
 #[tactic(auto, unfolding(cql_syntax::specs::Meaning::value))]
-fn worth_in_move(trial: &Trial, played: &Played, set: u64) -> u64 
+fn worth_in_move(trial: &Trial, played: &Played, set: u64) -> u64
     requires { IsAt trial.now.place.now }
     ensures { IsCut (λ s. meaning.played_value (tree_of trial.now.place.now) [] ((trial.now.name.now, s) ∷ trial.now.names.now)
         (played_tree played.now) trial.now.place.now.node) set result }
@@ -197,7 +197,7 @@ fn worth_in_move(trial: &Trial, played: &Played, set: u64) -> u64
 
 // The squares that a part of a move allows for a name.
 #[tactic(auto, unfolding(cql_syntax::specs::Meaning::value))]
-fn allowed(name: &[u8], part: &Option<Box<Filter>>, square: Option<Square>) -> u64 
+fn allowed(name: &[u8], part: &Option<Box<Filter>>, square: Option<Square>) -> u64
     ensures { Allows name.now (written_tree part.now) square result }
 {
     match part {
@@ -214,7 +214,7 @@ fn allowed(name: &[u8], part: &Option<Box<Filter>>, square: Option<Square>) -> u
 
 // The squares of a filter whose value the name does not change, where it is plain that it doesn't.
 #[tactic(auto, unfolding(cql_syntax::specs::Meaning::value, cql_syntax::specs::Contexts::designator_image))]
-fn fixed(trial: &Trial, f: &Filter) -> Option<u64> 
+fn fixed(trial: &Trial, f: &Filter) -> Option<u64>
     requires { IsAt trial.now.place.now }
     ensures { IfSome result (IsFixed trial.now (filter_tree f.now)) }
 {
@@ -233,7 +233,7 @@ fn fixed(trial: &Trial, f: &Filter) -> Option<u64>
 
 // Whether a filter is the name alone.
 #[tactic(auto, unfolding(cql_syntax::specs::Meaning::value))]
-fn is_name(name: &[u8], f: &Filter) -> bool 
+fn is_name(name: &[u8], f: &Filter) -> bool
     ensures { result ≡ true → IsName name.now (filter_tree f.now) }
 {
     match &f.form {

@@ -189,8 +189,10 @@ among_here men from set mask s low m =
     (some_square test f.1.0 f.1.1 (both (is_in set f.1.0) (attacks men s f.1.0) (bit_in set f.1.0 f.1.2) f.1.3)))
     (λ e. let f = square_found test (right (is_in from s) (list_any test squares) e) in
     let low' : f.k < 64 = omega (arith, f.high) in
-    bit_in mask s ((m s low).1 (has_bit from s (left (is_in from s) (list_any test squares) e),
-    (f.k, low', has_bit set f.k (left (is_in set f.k) (attacks men s f.k) f.passes), right (is_in set f.k) (attacks men s f.k) f.passes))))
+    bit_in mask s ((m s low).1 (
+      has_bit from s (left (is_in from s) (list_any test squares) e),
+      (f.k, low', has_bit set f.k (left (is_in set f.k) (attacks men s f.k) f.passes), right (is_in set f.k) (attacks men s f.k) f.passes),
+    )))
 
 pub among_is : (men : List Man) (from set mask : ℕ) → mask < 2 ^ 64 → IsSetOf mask (λ q. Has from q × IsAttacker men set q)
     → is_in mask ≡ (λ s. nat_lt s 64 && (is_in from s && list_any (λ t. is_in set t && attacks men s t) squares))

@@ -15,7 +15,7 @@ returns-then-attacks_from-to-eq0 c square below =
     let seen = bitboard_has c.attacks_from.result (attacks c.args.position.now.men c.args.square) c.attacks_from.ensures in (
       (λ h. absurd (nothing_there square h)),
       (λ p. absurd (nothing_there p.1.0 (subst (λ n. Has n p.1.0) c.if-attacks_from-to-eq0.true
-      (both_have c.attacks_from.result c.args.to p.1.0 ((seen p.1.0 p.1.1).1 p.1.3) p.1.2)))),
+          (both_have c.attacks_from.result c.args.to p.1.0 ((seen p.1.0 p.1.1).1 p.1.3) p.1.2)))),
     )
 
 pub returns-else-attacks_from-to-eq0 : goal.returns-else-attacks_from-to-eq0
