@@ -1,5 +1,5 @@
 -- What is gathered from the squares of a set, the lowest first.
-use Rattle.std.proofs.Common.{◌≡◌, ℕ, ◌*◌, ◌%◌, ◌^◌, ◌<◌, ◌≤◌, ◌⊎◌, inl, inr, ⊎_elim, sym, ap, ◌∙◌, subst, arith}
+use Rattle.std.proofs.Common.{◌≡◌, ℕ, ◌*◌, ◌%◌, ◌^◌, ◌<◌, ◌≤◌, ◌⊎◌, inl, inr, ⊎_elim, refl, sym, ap, ◌∙◌, subst, arith}
 use Rattle.std.specs.Prelude.{bit_and, bit_or}
 use Rattle.std.specs.Int.{bit_at, bit_not, trailing_zeros, w64}
 use Rattle.std.proofs.lemmas.Bool.{cases_eq}
@@ -75,3 +75,11 @@ gathered_all P set left found none so_far s low = (
   (λ h. let p = (so_far.done s low).0 h in (p.0, p.1, p.2, p.4)),
   (λ p. (so_far.done s low).1 (p.0, p.1, p.2, (λ h. nothing_there p.0 (subst (λ n. Has n p.0) none h)), p.3)),
 )
+
+-- where to each square nothing but itself belongs
+pub gathered_alone : (P : ℕ → Type 0) (set left found : ℕ) → left ≡ 0 → IsGathered (λ s t. (s ≡ t) × P t) set left found → IsSetOf found (λ s. Has set s × P s)
+gathered_alone P set left found none so_far s low =
+    let all = gathered_all (λ s t. (s ≡ t) × P t) set left found none so_far s low in (
+      (λ h. let p = all.0 h in subst (λ t. Has set t × P t) (sym p.3.0) (p.2, p.3.1)),
+      (λ p. all.1 (s, low, p.0, (refl, p.1))),
+    )

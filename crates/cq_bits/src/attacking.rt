@@ -1,13 +1,13 @@
 //! Whose men attack the squares of a set.
-ghost use Rattle.std.specs.Prelude.{◌<◌};
+ghost use Rattle.std.specs.Prelude.{◌≡◌, ◌<◌};
 ghost use Rattle.cq_position.specs.Attacks.{attacks};
 ghost use Rattle.cq_position.specs.Board.{man_at};
 ghost use Rattle.cq_sets.specs.Bitboards.{IsBitboard};
-ghost use Rattle.cq_bits.specs.Sets.{IsSetOf, IsAttacker, leaps_to};
+ghost use Rattle.cq_bits.specs.Sets.{Has, IsSetOf, IsAttacker, leaps_to};
 
 use crate::attacks::{Kind, either_side, standing};
 use cq_geometry::Square;
-use cq_position::{Man, Men, Position};
+use cq_position::{Man, Men, Position, attacks_from};
 use cq_sets::{
     BitSet64, king_steps, knight_steps, lowest_square, slanted_squares, steps_down, steps_up,
     straight_squares,
@@ -25,6 +25,43 @@ pub fn attackers(position: &Position, to: BitSet64) -> BitSet64
         found |= attackers_of(position.men(), square);
     }
     found
+}
+
+/// The squares of `among` on which a man stands that attacks a square of `to`, looked at from the set with fewer squares.
+pub fn attackers_among(position: &Position, among: BitSet64, to: BitSet64) -> BitSet64
+    ensures { IsSetOf result (λ from. Has among from × IsAttacker position.now.men to from) }
+{
+    if among.count_ones() <= to.count_ones() {
+        attackers_by_each(position, among, to)
+    } else {
+        among & attackers(position, to)
+    }
+}
+
+// The same, looked at from each square of `among`.
+fn attackers_by_each(position: &Position, among: BitSet64, to: BitSet64) -> BitSet64
+    ensures { IsSetOf result (λ from. Has among from × IsAttacker position.now.men to from) }
+{
+    let mut found = 0;
+    let mut left = among;
+    while left != 0 {
+        let square = lowest_square(left);
+        left &= !(1 << square.number());
+        found |= attacker_alone(position, square, to);
+    }
+    found
+}
+
+// A square alone if the man on it attacks a square of `to`, else none.
+fn attacker_alone(position: &Position, square: Square, to: BitSet64) -> BitSet64
+    requires { square < 64 }
+    ensures { IsSetOf result (λ from. (from ≡ square) × IsAttacker position.now.men to square) }
+{
+    if attacks_from(position, square) & to == 0 {
+        0
+    } else {
+        1 << square.number()
+    }
 }
 
 // The squares on which a man stands that attacks a square: each is seen from there as it sees it.

@@ -26,8 +26,22 @@ pub(crate) enum Kind {
     Diagonal,
 }
 
+/// The most squares of which each is looked at by itself, which costs less than to look in all directions at once.
+const FEW: u32 = 3;
+
 /// The squares that the men on the squares of `from` attack, whatever stands there (FIDE Laws of Chess, articles 3.1 to 3.8).
 pub fn attacked(position: &Position, from: BitSet64) -> BitSet64
+    ensures { IsSetOf result (IsAttacked position.now.men from) }
+{
+    if from.count_ones() <= FEW {
+        attacked_by_each(position, from)
+    } else {
+        attacked_at_once(position, from)
+    }
+}
+
+// The same in all directions at once.
+fn attacked_at_once(position: &Position, from: BitSet64) -> BitSet64
     ensures { IsSetOf result (IsAttacked position.now.men from) }
 {
     let empty = chosen(position, Kind::Nothing, BitSet64::MAX);
@@ -38,6 +52,20 @@ pub fn attacked(position: &Position, from: BitSet64) -> BitSet64
         (diagonal, 1, 1), (diagonal, -1, 1), (diagonal, 1, -1), (diagonal, -1, -1)
     );
     slides | leaps(position, from)
+}
+
+// The same square by square.
+fn attacked_by_each(position: &Position, from: BitSet64) -> BitSet64
+    ensures { IsSetOf result (IsAttacked position.now.men from) }
+{
+    let mut reached = 0;
+    let mut left = from;
+    while left != 0 {
+        let square = lowest_square(left);
+        left &= !(1 << square.number());
+        reached |= attacks_from(position, square);
+    }
+    reached
 }
 
 // The squares of `among` on which this stands.
@@ -71,15 +99,8 @@ pub(crate) fn either_side(men: &Men, white: Man, black: Man) -> BitSet64
 fn leaps(position: &Position, from: BitSet64) -> BitSet64
     ensures { IsSetOf result (λ to. (square : ℕ) × (square < 64) × IsLeap position.now.men from square to) }
 {
-    let mut reached = 0;
     let leapers = leapers(position.men(), from);
-    let mut left = leapers;
-    while left != 0 {
-        let square = lowest_square(left);
-        left &= !(1 << square.number());
-        reached |= attacks_from(position, square);
-    }
-    reached
+    attacked_by_each(position, leapers)
 }
 
 // The squares of a set on which neither a rook, a bishop nor a queen stands.

@@ -5,7 +5,7 @@ pub mod attacking;
 pub mod attacks;
 pub mod between;
 
-pub use attacking::attackers;
+pub use attacking::{attackers, attackers_among};
 pub use attacks::attacked;
 pub use between::between_all;
 pub use cq_sets::{BitSet64, slide};

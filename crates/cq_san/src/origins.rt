@@ -1,8 +1,10 @@
 //! The squares from which a move comes that agrees with the parts of a text.
-ghost use Rattle.std.specs.Prelude.{◌≡◌, ◌<◌, ◌==◌, ◌&&◌, not, ℕ, true, false, map};
+ghost use Rattle.std.specs.Prelude.{◌≡◌, ◌<◌, ◌==◌, ◌&&◌, not, ℕ, Bool, true, false, map};
 ghost use Rattle.cq_position.specs.Attacks.{is_occupied};
 ghost use Rattle.cq_sets.specs.Bitboards.{IsBitboard};
 ghost use Rattle.cq_moves.specs.Candidates.{may_come};
+ghost use Rattle.cq_position.specs.Board.{Board, stands};
+ghost use Rattle.cq_position.specs.Men.{man_of};
 ghost use Rattle.cq_position.specs.Legal as legal;
 ghost use Rattle.cq_position.specs.Legality.{legal_test};
 ghost use Rattle.cq_san.specs.Fits as fit;
@@ -10,7 +12,7 @@ ghost use Rattle.cq_san.specs.Origins as origin;
 ghost use Rattle.cq_san.specs.Reading.{only};
 
 use crate::fault::SanFault;
-use crate::fit::agrees_in_parts;
+use crate::fit::comes_from;
 use crate::parts::PieceMove;
 use arrayvec::ArrayVec;
 use cq_geometry::Square;
@@ -32,7 +34,7 @@ pub(crate) fn origins(position: &Position, parts: &PieceMove) -> ArrayVec<Square
     while left != 0 {
         let from = lowest_square(left);
         left &= !(1 << from.number());
-        if is_origin(position, parts, seen, from) {
+        if is_origin(position, parts, seen, there, from) {
             found.push(from);
         }
     }
@@ -54,7 +56,7 @@ pub(crate) fn only_move(position: &Position, parts: &PieceMove) -> Result<Move, 
     while left != 0 {
         let from = lowest_square(left);
         left &= !(1 << from.number());
-        if is_origin(position, parts, seen, from) {
+        if is_origin(position, parts, seen, there, from) {
             if found.is_some() {
                 return Err(SanFault::AmbiguousMove);
             }
@@ -78,14 +80,34 @@ pub(crate) fn comes_alone(position: &Position, parts: &PieceMove, from: Square) 
     seen & there & !(1 << from.number()) == 0
 }
 
-// The parts are asked before the laws of chess, which take longer. `seen` has the squares from which the piece may come.
+// The parts are asked before the laws of chess, which take longer. `seen` has the squares from which the piece may come, and `there` those
+// where one stands.
 #[inline(always)]
-fn is_origin(position: &Position, parts: &PieceMove, seen: u64, from: Square) -> bool
-    requires { IsBitboard seen (may_come position.now.side parts.now.piece (is_occupied position.now.men) parts.now.goal) }
+fn is_origin(position: &Position, parts: &PieceMove, seen: u64, there: u64, from: Square) -> bool
+    requires seen { IsBitboard seen (may_come position.now.side parts.now.piece (is_occupied position.now.men) parts.now.goal) }
+    requires there { IsBitboard there (λ square. stands position.now.men square (man_of position.now.side parts.now.piece)) }
     ensures { result ≡ origin.is_origin position.now parts.now from }
 {
+    prove!(position.is_position());
     let m = move_from(parts, from);
-    agrees_in_parts(position, parts, &m) && is_plain_and_legal(position, parts, seen, &m)
+    agrees_there(parts, there, from) && is_plain_and_legal(position, parts, seen, &m)
+}
+
+// Whether the move from a square agrees with the parts, by the set of the squares where the piece stands.
+#[inline(always)]
+fn agrees_there(parts: &PieceMove, there: u64, from: Square) -> bool
+    ensures { (p : Board) → IsBitboard there (λ square. stands p.men square (man_of p.side parts.now.piece)) →
+        result ≡ fit.agrees_in_parts p parts.now (origin.move_from parts.now from) }
+{
+    contains(there, from) && comes_from(parts, from)
+}
+
+// Whether the set has the square.
+#[inline(always)]
+fn contains(set: u64, square: Square) -> bool
+    ensures { (test : ℕ → Bool) → IsBitboard set test → result ≡ test square }
+{
+    set >> square.number() & 1 == 1
 }
 
 // Whether a move that agrees with the parts is legal and no castling.

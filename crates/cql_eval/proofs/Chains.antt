@@ -16,7 +16,7 @@ use Rattle.cql_values.proofs.Ranges.{any_last}
 use Rattle.cql_syntax.specs.declared.leaves.Unary.{Unary}
 use Rattle.std.proofs.Math.Path.{fun_ext}
 use Rattle.cql_values.specs.Asked.{settles}
-use Rattle.cql_eval.specs.Asked.{AreUnsettled, AreHaving, AreLeft}
+use Rattle.cql_eval.specs.Asked.{AreUnsettled, AreHaving, AreLeftOpen}
 use Rattle.cql_eval.specs.Columns.{is_live, is_so, shown, AreAsked, IsColumn, IsNarrowed}
 use Rattle.cql_eval.specs.declared.filter_column.FilterColumn.{FilterColumn}
 use Rattle.cql_eval.proofs.Filling.{narrowed_asked, both_left, live_below}
@@ -130,7 +130,7 @@ if_open live held failed given again a b c u v w is is_too first held_is failed_
 
 -- squares that are tried one by one
 pub turn_law : (tree : SearchedTree) (every : Bool) (x : ℕ → Value) (v : ℕ → Value) (s : ℕ) (left given there later : List Bool) (c : FilterColumn)
-    → AreHaving x s left there → IsColumn c there v → AreLeft every (λ n. holds (shown c n)) left there later → AreUnsettled every x (λ n. holds (v n)) s left later
+    → AreHaving x s left there → IsColumn c there v → AreLeftOpen every (λ n. holds (shown c n)) left there later → AreUnsettled every x (λ n. holds (v n)) s left later
 turn_law tree every x v s left given there later c having column is = record {
   count = is.count;
   each = λ n. is.each n ∙ by (is_live left n) (has (x n) s) (is_live there n) (holds (shown c n)) (holds (v n)) (having.each n) (λ l. ap holds (column n l));
@@ -199,10 +199,10 @@ square_end tree live every x asked k left bs end whole had is n l =
 
 pub turn_all : (tree : SearchedTree) (every : Bool) (x : ℕ → Value) (v : ℕ → Value) (s : ℕ) (left there g1 g3 g4 g5 later : List Bool)
     (c : FilterColumn) → g1 ≡ left → g3 ≡ there → g4 ≡ left → g5 ≡ there
-    → AreHaving x s g1 there → IsColumn c g3 v → AreLeft every (λ n. holds (shown c n)) g4 g5 later → AreUnsettled every x (λ n. holds (v n)) s left later
+    → AreHaving x s g1 there → IsColumn c g3 v → AreLeftOpen every (λ n. holds (shown c n)) g4 g5 later → AreUnsettled every x (λ n. holds (v n)) s left later
 turn_all tree every x v s left there g1 g3 g4 g5 later c e1 e3 e4 e5 having column is =
     turn_law tree every x v s left there there later c (subst (λ l. AreHaving x s l there) e1 having) (subst (λ l. IsColumn c l v) e3 column)
-    (subst (λ l. AreLeft every (λ n. holds (shown c n)) left l later) e5 (subst (λ l. AreLeft every (λ n. holds (shown c n)) l g5 later) e4 is))
+    (subst (λ l. AreLeftOpen every (λ n. holds (shown c n)) left l later) e5 (subst (λ l. AreLeftOpen every (λ n. holds (shown c n)) l g5 later) e4 is))
 
 pub turn_stop : (every : Bool) (x : ℕ → Value) (asked : ℕ → Bool) (s : ℕ) (left there g1 g2 : List Bool) → g1 ≡ left → g2 ≡ there → AreHaving x s g1 there → list_any (λ b. b) g2 ≡ false
     → AreUnsettled every x asked s left left

@@ -251,11 +251,11 @@ lowered_sets_all nodes there back k tree end had = record {
 }
 
 -- where a word holds its part holds at a node at which it is asked
-record HoldsAt (tree : SearchedTree) (word : Unary) (v : ℕ → Value) (n : ℕ) : Type 0 where
-  m : ℕ
-  asks : Asks tree.game.nodes word n m
-  down : goes_down word ≡ true → (m < length tree.game.nodes) × Searched tree m
-  holds_there : holds (v m) ≡ true
+pub record HoldsAt (tree : SearchedTree) (word : Unary) (v : ℕ → Value) (n : ℕ) : Type 0 where
+  pub m : ℕ
+  pub asks : Asks tree.game.nodes word n m
+  pub down : goes_down word ≡ true → (m < length tree.game.nodes) × Searched tree m
+  pub holds_there : holds (v m) ≡ true
 
 holds_below : (tree : SearchedTree) (v : ℕ → Value) (n : ℕ) → list_any (λ m. holds (v m)) (below_in tree n) ≡ true → HoldsAt tree Find v n
 holds_below tree v n e =
@@ -298,7 +298,7 @@ holds_parent tree v n e = by (node_at tree.game.nodes n).parent refl e
     by None is e = cc
     by (Some p) is e = record { m = p; asks = is; down = λ no. cc; holds_there = one_first (holds (v p)) e }
 
-holds_at : (tree : SearchedTree) (word : Unary) (v : ℕ → Value) (n : ℕ) → asks_elsewhere word ≡ true → holds (unary_of tree word v n) ≡ true → HoldsAt tree word v n
+pub holds_at : (tree : SearchedTree) (word : Unary) (v : ℕ → Value) (n : ℕ) → asks_elsewhere word ≡ true → holds (unary_of tree word v n) ≡ true → HoldsAt tree word v n
 holds_at tree Find v n sure h = holds_below tree v n h
 holds_at tree FindUp v n sure h = holds_above tree v n h
 holds_at tree Child v n sure h = holds_child tree v n h

@@ -1,5 +1,5 @@
 -- Filters that hold at none of a game's nodes that are asked for.
-use Rattle.std.proofs.Common.{◌≡◌, ◌⊎◌, ⊎_elim, ℕ, ◌+◌, ◌-◌, ◌^◌, ◌<◌, ◌&&◌, ◌||◌, not, nat_lt, Bool, true, false, List, [], ◌∷◌, Some, zero, suc, get_or, length, refl, sym, ap, ap₂, ◌∙◌, subst, arith}
+use Rattle.std.proofs.Common.{◌≡◌, ◌⊎◌, ⊎_elim, ℕ, ◌+◌, ◌-◌, ◌^◌, ◌<◌, ◌&&◌, ◌||◌, not, nat_lt, Bool, true, false, List, [], ◌∷◌, ◌++◌, Some, zero, suc, get_or, take, drop, length, refl, sym, ap, ◌∙◌, subst, arith}
 use Rattle.std.specs.Prelude.{bit_and}
 use Rattle.std.specs.List.{list_all}
 use Rattle.std.proofs.lemmas.Bool.{lt-ltb}
@@ -20,13 +20,14 @@ use Rattle.cql_syntax.specs.declared.tree.Filter.{Filter}
 use Rattle.cql_values.proofs.Masks.{in_both, nothing_in, is_in_bit, all_squares}
 use Rattle.cql_values.proofs.Ranges.{left, right, both, square_found}
 use Rattle.cql_eval.specs.Asked.{AreWanted}
-use Rattle.cql_eval.specs.Classes.{all_classes, is_before, is_so_if, IsLeft}
+use Rattle.cql_eval.specs.Classes.{is_so_if, IsLeft}
 use Rattle.cql_values.specs.Shown.{meant}
 use Rattle.cql_values.specs.declared.value.Value.TheVariants.{Set}
 use Rattle.cql_eval.specs.Columns.{is_live, AreAsked, AreSets, Where}
 use Rattle.cql_eval.specs.Ever.{anywhere, IsEver, AreEver, StandsNowhere, HoldsNowhere}
 use Rattle.cql_eval.specs.declared.ever.Ever.{Ever}
 use Rattle.cql_eval.proofs.Filling.{both_left}
+use Rattle.cql_eval.proofs.Keeping.{written}
 
 never : (b : Bool) → (b ≡ true → ⊥) → b ≡ false
 never true f = absurd (f refl)
@@ -84,6 +85,14 @@ ever_is tree live d men squares sets same are wanted = record {
 pub ever_fewer : (tree : SearchedTree) (live left : List Bool) (test : ℕ → Bool) (evers : List Ever) → IsLeft tree live test left → AreEver tree live evers → AreEver tree left evers
 ever_fewer tree live left test evers is are = λ k d low. record { each = λ n s l h. (are k d low).each n s (both_left (is_live live n) (test n) (sym (is.each n) ∙ l)) h }
 
+pub ever_begun : (tree : SearchedTree) (live left : List Bool) (evers given : List Ever) → left ≡ live → given ≡ evers → AreEver tree live evers → AreEver tree left given
+ever_begun tree live left evers given same is are = subst (λ l. AreEver tree l given) (sym same) (subst (AreEver tree live) (sym is) are)
+
+pub ever_later : (tree : SearchedTree) (left given later : List Bool) (test : ℕ → Bool) (evers : List Ever) (len : ℕ) → len ≡ length later → given ≡ left → IsLeft tree given test later
+    → AreEver tree left evers → AreEver tree (take len (later ++ drop (length later) left)) evers
+ever_later tree left given later test evers len count is asked are = subst (λ l. AreEver tree l evers) (sym (written len later left count))
+    (ever_fewer tree given later test evers asked (subst (λ l. AreEver tree l evers) (sym is) are))
+
 -- all of some hold nowhere, where one of them does
 pub one_fails : (tree : SearchedTree) (e : Names) (n : ℕ) (xs : List Filter) (i : ℕ) (f : Filter) → i < length xs → f ≡ get_or xs i f → holds (value tree [] e (filter_tree f) n) ≡ false
     → list_all holds (values tree [] e (filter_trees xs) n) ≡ false
@@ -99,11 +108,11 @@ one_fails tree e n (x ∷ xs) (suc i) f low is fails =
     and_false false = refl
 
 -- what holds nowhere takes no node away
-pub left_unasked : (tree : SearchedTree) (e : Names) (f : FilterTree) (live : List Bool) → AreAsked tree live → HoldsNowhere tree live e f
-    → IsLeft tree live (is_so_if (is_before all_classes) tree e false f) live
-left_unasked tree e f live asked nowhere = record {
+pub left_unasked : (taken : FilterTree → Bool) (tree : SearchedTree) (e : Names) (f : FilterTree) (live : List Bool) → AreAsked tree live → HoldsNowhere tree live e f
+    → IsLeft tree live (is_so_if taken tree e false f) live
+left_unasked taken tree e f live asked nowhere = record {
   asked = asked;
-  each = λ n. by (is_live live n) (holds (value tree [] e f n)) (is_before all_classes f) (nowhere n);
+  each = λ n. by (is_live live n) (holds (value tree [] e f n)) (taken f) (nowhere n);
 }
   where
     by : (a h t : Bool) → (a ≡ true → h ≡ false) → a ≡ (a && (not t || not h))

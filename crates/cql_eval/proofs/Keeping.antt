@@ -6,7 +6,7 @@ use Rattle.std.proofs.lemmas.List.{get_or-set_same, get_or-set_other, length-set
 use Rattle.cql_eval.specs.Columns.{is_live, shown, AreKept, IsNumbered}
 use Rattle.cql_eval.specs.declared.filter_column.FilterColumn.{FilterColumn}
 use Rattle.cql_syntax.specs.Values.{Value, amount, has}
-use Rattle.cql_eval.specs.Asked.{AreHaving, AreLeft}
+use Rattle.cql_eval.specs.Asked.{AreHaving, AreLeftOpen}
 use Rattle.cql_eval.proofs.Filling.{split_last, split_at, past, any_default}
 
 -- the first k nodes are tried
@@ -75,7 +75,7 @@ pub left_from : (left there : List Bool) (t : ℕ → Bool) (k : ℕ) → ((n : 
 left_from left there t k none = record { count = refl; tried = λ n h. all_left (get_or left n false) (get_or there n false) (t n) (none n h); rest = λ n h. refl }
 
 pub left_by_kept : (every : Bool) (asked : ℕ → Bool) (left there later : List Bool) (end k : ℕ) → end ≤ k → ((n : ℕ) → end ≤ n → get_or there n false ≡ false)
-    → KeptTo (λ n. not (get_or there n false && (if every then not (asked n) else asked n))) left k later → AreLeft every asked left there later
+    → KeptTo (λ n. not (get_or there n false && (if every then not (asked n) else asked n))) left k later → AreLeftOpen every asked left there later
 left_by_kept every asked left there later end k done none had = record {
   count = had.count;
   each = λ n. ⊎_elim (had.tried n)

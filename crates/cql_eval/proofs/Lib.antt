@@ -13,8 +13,10 @@ mod CoverMoves
 mod CoverSome
 mod ElsewhereLaw
 mod EverLaw
+mod FoundLaw
 mod FreeLaw
 pub mod Gathering
+mod HereLaw
 pub mod HitsLaw
 pub mod Keeping
 pub mod LineAtoms

@@ -17,9 +17,10 @@ use Rattle.cql_syntax.specs.declared.tree.Played.{Played, Played', out-Played, o
 use Rattle.cql_eval.specs.Columns.{is_live, shown, IsColumn, Where}
 use Rattle.cql_eval.specs.Costs.{filter_cost, played_cost, written_cost}
 use Rattle.cql_eval.specs.FlatTrees.{unflat, IsFlat, IsFlatPart}
+use Rattle.cql_eval.specs.Moved.{ArePartColumns, is_as_asked}
 use Rattle.cql_eval.specs.Promoting.{ArePromoting, is_promotion}
-use Rattle.cql_eval.specs.Trees.{AreBeforeLive}
 use Rattle.cql_eval.specs.declared.filter_column.FilterColumn.{FilterColumn}
+use Rattle.cql_eval.specs.declared.moves.PartColumns.{PartColumns}
 
 held_is : (held : Held-Played-origin) → written_tree (view-Played-origin held) ≡ held_tree held
 held_is None' = refl
@@ -59,18 +60,15 @@ move_value tree e p n = ap (λ m. played_value tree [] e m n) (parts_are p)
 abbrev pub IsPartColumn : SearchedTree → Names → List Bool → Option FilterColumn → WrittenTree → Type 0
 IsPartColumn tree e live c w = Where live (λ n. option_map (λ x. shown x n) c ≡ written_value tree [] e w n)
 
-pub move_is : (tree : SearchedTree) (e : Names) (p : Played) (live wide first third : List Bool) (origin goal taken promoted : Option FilterColumn) → AreBeforeLive tree live wide
-    → first ≡ wide → third ≡ wide → IsPartColumn tree e first origin (origin_of p) → IsPartColumn tree e live goal (goal_of p)
-    → IsPartColumn tree e third taken (taken_of p) → IsPartColumn tree e live promoted (promoted_of p) → (n : ℕ) → is_live live n ≡ true
-    → as_truth (meets_all (led_to tree.game.nodes n) (option_map (λ x. shown x (before tree n)) origin) (option_map (λ x. shown x n) goal)
-    (option_map (λ x. shown x (before tree n)) taken) (option_map (λ x. shown x n) promoted)) ≡ as_truth (played_value tree [] e (played_tree p) n)
-move_is tree e p live wide first third origin goal taken promoted covers is is_too a b c d n l =
-    let there = covers.covers n l in
+pub move_is : (tree : SearchedTree) (e : Names) (p : Played) (live : List Bool) (parts : PartColumns) (goal : Option FilterColumn) → ArePartColumns tree e p live parts
+    → IsPartColumn tree e live goal (goal_of p) → (n : ℕ) → is_live live n ≡ true
+    → as_truth (is_as_asked tree parts (option_map (λ x. shown x n) goal) n) ≡ as_truth (played_value tree [] e (played_tree p) n)
+move_is tree e p live parts goal are is n l =
     let led = led_to tree.game.nodes n in
-    ap as_truth (ap₂ (λ x y. meets_all led x y (option_map (λ z. shown z (before tree n)) taken) (option_map (λ z. shown z n) promoted))
-    (a (before tree n) (ap (λ s. is_live s (before tree n)) is ∙ there)) (b n l)
+    ap as_truth (ap₂ (λ x y. meets_all led x y (option_map (λ z. shown z (before tree n)) parts.taken) (option_map (λ z. shown z n) parts.promoted))
+    (are.origin n l) (is n l)
     ∙ ap₂ (λ x y. meets_all led (written_value tree [] e (origin_of p) (before tree n)) (written_value tree [] e (goal_of p) n) x y)
-    (c (before tree n) (ap (λ s. is_live s (before tree n)) is_too ∙ there)) (d n l)
+    (are.taken n l) (are.promoted n l)
     ∙ sym (move_value tree e p n))
 
 -- what isn't a promotion meets nothing that asks for one
@@ -98,7 +96,7 @@ unpromoted nodes (Some m) (Some p) away a b c x =
     if_unmet m.null (record { origin = m.from; goal = m.to; taken = taken_square (node_at nodes p).position m; promoted = not (is_none m.promotion) }) away a b c x
 
 -- where a promotion is asked for no other move holds
-only_promoted : (tree : SearchedTree) (e : Names) (p : Played) (n : ℕ) → is_some (out-Played p).promoted ≡ true → is_promotion (node_at tree.game.nodes n).led_by ≡ false
+pub only_promoted : (tree : SearchedTree) (e : Names) (p : Played) (n : ℕ) → is_some (out-Played p).promoted ≡ true → is_promotion (node_at tree.game.nodes n).led_by ≡ false
     → played_value tree [] e (played_tree p) n ≡ false
 unfolding value
 only_promoted tree e p n asked away = move_value tree e p n ∙ by_part (out-Played p).promoted asked
@@ -108,7 +106,7 @@ only_promoted tree e p n asked away = move_value tree e p n ∙ by_part (out-Pla
     by_part None is = cc
     by_part (Some f) is = unpromoted tree.game.nodes (node_at tree.game.nodes n).led_by (node_at tree.game.nodes n).parent away _ _ _ _
 
-left_out : (there wanted promoted : Bool) → there ≡ (true && (not wanted || promoted)) → there ≡ false → (wanted ≡ true) × (promoted ≡ false)
+pub left_out : (there wanted promoted : Bool) → there ≡ (true && (not wanted || promoted)) → there ≡ false → (wanted ≡ true) × (promoted ≡ false)
 left_out true wanted promoted is away = cc
 left_out false true false is away = (refl, refl)
 left_out false true true is away = cc

@@ -1,9 +1,11 @@
 -- Squares that are tried one by one, where the move is asked whether it went to the square.
-use Rattle.std.proofs.Common.{◌≡◌, ◌⊎◌, ⊎_elim, ℕ, ◌<◌, ◌≤◌, ◌^◌, ◌==◌, ◌&&◌, nat_lt, Bool, true, false, List, [], ◌∷◌, length, get_or, Option, Some, None, refl, sym, ap, ap₂, ◌∙◌, subst, arith}
-use Rattle.std.specs.List.{list_any}
+use Rattle.std.proofs.Common.{◌≡◌, ◌⊎◌, ⊎_elim, ℕ, ◌<◌, ◌^◌, ◌==◌, ◌&&◌, ◌||◌, not, nat_lt, Bool, true, false, List, [], ◌∷◌, Option, Some, None, refl, sym, ap, ap₂, ◌∙◌, subst}
+use Rattle.std.specs.List.{list_any, filter}
+use Rattle.std.specs.Prelude.{is_some}
 use Rattle.std.proofs.Math.Path.{fun_ext}
 use Rattle.std.proofs.lemmas.Bool.{eqb-true, eq-eqb, lt-ltb}
 use Rattle.cq_geometry.specs.Squares.{squares}
+use Rattle.cq_position.specs.Games.{node_at}
 use Rattle.cq_position.specs.Led.{PlainLed, led_to}
 use Rattle.cq_position.specs.Search.{SearchedTree}
 use Rattle.cq_symmetry.specs.Images.{is_in}
@@ -13,18 +15,19 @@ use Rattle.cql_syntax.specs.TreeOf.{played_tree}
 use Rattle.cql_syntax.specs.Values.{Value, as_truth, as_squares, holds, has, square_of, squares_where, chain_of}
 use Rattle.cql_syntax.specs.declared.leaves.Chain.{Chain}
 use Rattle.cql_syntax.specs.declared.leaves.Chain.TheVariants.{And, All}
-use Rattle.cql_syntax.specs.declared.tree.Played.{Played}
+use Rattle.cql_syntax.specs.declared.tree.Played.{Played, out-Played}
 use Rattle.cql_values.proofs.Masks.{above}
 use Rattle.cql_values.proofs.Ranges.{same_any, same_truth, some_square, square_found}
-use Rattle.cql_eval.specs.Attacked.{IsItsName}
 use Rattle.cql_eval.specs.Columns.{is_live}
-use Rattle.cql_eval.specs.Covers.{Agree, IsFreePart}
-use Rattle.cql_eval.specs.Moved.{AsksGoal, IsNamePart, goes_to}
+use Rattle.cql_eval.specs.Covers.{IsFreePart}
+use Rattle.cql_eval.specs.Moved.{ArePartColumns, AsksGoal, IsNamePart, goes_to, goes_as_asked}
+use Rattle.cql_eval.specs.Promoting.{ArePromoting, is_promotion}
+use Rattle.cql_eval.specs.declared.moves.PartColumns.{PartColumns}
 use Rattle.cql_eval.proofs.AttackLaw.{and_true}
 use Rattle.cql_eval.proofs.CoverForms.{first_true, second_true, yes_both, wider, agree_same}
 use Rattle.cql_eval.proofs.Filling.{split_at}
 use Rattle.cql_eval.proofs.FindLaw.{any_filtered}
-use Rattle.cql_eval.proofs.MoveLaw.{move_value, origin_of, goal_of, taken_of, promoted_of}
+use Rattle.cql_eval.proofs.MoveLaw.{move_value, origin_of, goal_of, taken_of, promoted_of, only_promoted, left_out}
 
 -- a filter is its form, a chain that of one filter, and the move that of a node
 pub goal_form : (tree : SearchedTree) (e : Names) (given : List ℕ) (every : Bool) (x : Value) (n i : ℕ) (f : FilterTree) (p : PlayedTree) → f ≡ filter_at i (played p)
@@ -102,8 +105,8 @@ name_part : (tree : SearchedTree) (given : List ℕ) (e : Names) (w : WrittenTre
 unfolding value
 name_part tree given e w s n own = ap (λ x. written_value tree [] ((given, s) ∷ e) x n) own.is ∙ ap Some (own.own.each tree e s n)
 
--- at a node that is asked for
-pub moved_is : (tree : SearchedTree) (e : Names) (given : List ℕ) (every : Bool) (p : Played) (x : Value) (set n : ℕ) (met : Bool) (o t q : Option Value)
+-- at a node that is looked at
+moved_is : (tree : SearchedTree) (e : Names) (given : List ℕ) (every : Bool) (p : Played) (x : Value) (set n : ℕ) (met : Bool) (o t q : Option Value)
     → every ≡ false → AsksGoal ((given, 0) ∷ []) given p → is_in set ≡ has x → o ≡ written_value tree [] e (origin_of p) (before tree n) → t ≡ written_value tree [] e (taken_of p) (before tree n)
     → q ≡ written_value tree [] e (promoted_of p) n → met ≡ goes_to (led_to tree.game.nodes n) o set t q
     → as_truth met ≡ square_of every x (λ s. played_value tree [] ((given, s) ∷ e) (played_tree p) n)
@@ -124,5 +127,25 @@ moved_is tree e given false p x set n met o t q some goal same is is_too is_last
         ∙ ap₂ (λ a b. meets_all led o (Some (squares_where (λ u. s == u))) a b)
         (free_part tree given e (taken_of p) s (before tree n) goal.taken ∙ sym is_too) (free_part tree given e (promoted_of p) s n goal.promoted ∙ sym is_last)
 
-pub met_there : (truth live met : Bool) → truth ≡ (live && met) → live ≡ true → truth ≡ met
-met_there truth live met is there = is ∙ ap (λ b. b && met) there
+none_of : (p : ℕ → Bool) (xs : List ℕ) → ((s : ℕ) → p s ≡ false) → list_any p xs ≡ false
+none_of p [] away = refl
+none_of p (x ∷ xs) away = ap (λ b. b || list_any p xs) (away x) ∙ none_of p xs away
+
+none_asked : (every : Bool) (x : Value) (asked : ℕ → Bool) → every ≡ false → ((s : ℕ) → asked s ≡ false) → as_truth false ≡ square_of every x asked
+none_asked true x asked some away = cc
+none_asked false x asked some away = ap as_truth (sym (none_of asked (filter (has x) squares) away))
+
+-- at a node that is asked for, whether or not it is looked at
+pub goal_met_is : (tree : SearchedTree) (e : Names) (given : List ℕ) (every : Bool) (p : Played) (x : Value) (live some : List Bool) (wanted found : Bool) (set n : ℕ) (parts : PartColumns)
+    → every ≡ false → AsksGoal ((given, 0) ∷ []) given p → wanted ≡ is_some (out-Played p).promoted → ArePromoting tree wanted live some
+    → (is_live some n ≡ true → is_in set ≡ has x) → ArePartColumns tree e p some parts → found ≡ (is_live some n && goes_as_asked tree parts set n) → is_live live n ≡ true
+    → as_truth found ≡ square_of every x (λ s. played_value tree [] ((given, s) ∷ e) (played_tree p) n)
+goal_met_is tree e given every p x live some wanted found set n parts one goal asks looked same are is l = by_look (is_live some n) refl
+  where
+    by_look : (b : Bool) → is_live some n ≡ b → as_truth found ≡ square_of every x (λ s. played_value tree [] ((given, s) ∷ e) (played_tree p) n)
+    by_look true in_ = moved_is tree e given every p x set n found _ _ _ one goal (same in_) (are.origin n in_) (are.taken n in_) (are.promoted n in_)
+        (is ∙ ap (λ b. b && goes_as_asked tree parts set n) in_)
+    by_look false out_ =
+        let why = left_out (is_live some n) wanted _ (looked.each n ∙ ap (λ b. b && (not wanted || is_promotion (node_at tree.game.nodes n).led_by)) l) out_ in
+        ap as_truth (is ∙ ap (λ b. b && goes_as_asked tree parts set n) out_)
+        ∙ none_asked every x (λ s. played_value tree [] ((given, s) ∷ e) (played_tree p) n) one (λ s. only_promoted tree ((given, s) ∷ e) p n (sym asks ∙ why.0) why.1)

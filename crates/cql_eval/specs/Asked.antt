@@ -16,7 +16,7 @@ pub record AreUnsettled (every : Bool) (x : ℕ → Value) (asked : ℕ → Bool
   pub each : (n : ℕ) → is_live later n ≡ (is_live left n && not (settles every (has (x n)) (λ t. asked n) s))
 
 -- the nodes of a set that a square does not settle, from those of them at which it is tried and from what is asked of it there
-pub record AreLeft (every : Bool) (asked : ℕ → Bool) (left there later : List Bool) : Type 0 where
+pub record AreLeftOpen (every : Bool) (asked : ℕ → Bool) (left there later : List Bool) : Type 0 where
   pub count : length later ≡ length left
   pub each : (n : ℕ) → is_live later n ≡ (is_live left n && not (is_live there n && (if every then not (asked n) else asked n)))
 

@@ -33,10 +33,6 @@ form_class (sort least text f) = 5
 abbrev pub filter_class : FilterTree → ℕ
 filter_class (filter_at at f) = form_class f
 
--- how many classes there are
-abbrev pub all_classes : ℕ
-all_classes = 6
-
 -- it is of a class, or of one before it
 abbrev pub is_of : ℕ → FilterTree → Bool
 is_of class f = filter_class f == class

@@ -20,7 +20,7 @@ is_open opened text = holds (squares_where (is_bound_to opened text))
 pub record Agree (opened inner outer : Names) : Type 0 where
   pub each : (text : List ℕ) → is_open opened text ≡ false → (t : ℕ) → is_bound_to inner text t ≡ is_bound_to outer text t
 
--- no opened name stands in it, and it takes no steps
+-- it has the same values whatever is bound to the opened names, and takes no steps
 pub record IsFree (opened : Names) (f : FilterTree) : Type 0 where
   pub each : (tree : SearchedTree) (inner outer : Names) (n : ℕ) → Agree opened inner outer → value tree [] inner f n ≡ value tree [] outer f n
   pub cost : (nodes : ℕ) → filter_cost nodes f ≡ 0
@@ -46,7 +46,7 @@ pub record IsOwn (name : List ℕ) (v : SearchedTree → Names → ℕ → Value
   pub only : (tree : SearchedTree) (e : Names) (n s t : ℕ) → Binds e name s → has (v tree e n) t ≡ true → s ≡ t
   pub some : (tree : SearchedTree) (e : Names) (n s : ℕ) → Binds e name s → holds (v tree e n) ≡ true → has (v tree e n) s ≡ true
 
--- a part of a move is written, and has no other square
+-- a part of a move is written, and with a square bound to a name it has no other, and holds only where it has that one
 pub record IsOwnPart (name : List ℕ) (w : WrittenTree) : Type 0 where
   pub part : FilterTree
   pub is : w ≡ written part
@@ -58,7 +58,7 @@ pub record AreCut (live : List Bool) (P : ℕ → ℕ → Type 0) (old new : Lis
   pub within : (n s : ℕ) → is_in (get_or new n 0) s ≡ true → is_in (get_or old n 0) s ≡ true
   pub keeps : (n s : ℕ) → is_live live n ≡ true → P n s → is_in (get_or old n 0) s ≡ true → is_in (get_or new n 0) s ≡ true
 
--- with a name bound to this square, and whatever is bound to the other opened names, it may hold, or may have the square
+-- with a name bound to this square, and with something bound to the other opened names, it holds, or has the square
 pub record MayHold (opened outer : Names) (name : List ℕ) (v : Names → ℕ → Value) (n s : ℕ) : Type 0 where
   pub inner : Names
   pub agree : Agree opened inner outer
@@ -129,7 +129,7 @@ pub record HasSome (tree : SearchedTree) (live : List Bool) (sets : List ℕ) (s
   pub asked : AreAsked tree some
   pub each : (n : ℕ) → is_live some n ≡ (is_live live n && not (get_or sets n 0 == 0))
 
--- it has the square in relation to a set
+-- what the pair gives of some first value and of this one has the square
 pub record IsSoRelated (men : List Man) (pair : Pair) (y : Value) (s : ℕ) : Type 0 where
   pub first : Value
   pub has_there : has (pair_of men pair first y) s ≡ true

@@ -1,5 +1,5 @@
 -- Words that ask their part at other nodes.
-use Rattle.std.specs.Prelude.{◌≡◌, ℕ, ◌<◌, ◌≤◌, Bool, true, false, List, Option, Some, None, get_or, length}
+use Rattle.std.specs.Prelude.{◌≡◌, ◌↔◌, ℕ, ◌<◌, ◌≤◌, Bool, true, false, List, Option, Some, None, get_or, length}
 use Rattle.cq_position.specs.Games.{Node, node_at, is_below}
 use Rattle.cq_position.specs.Search.{SearchedTree}
 use Rattle.cq_symmetry.specs.Images.{is_in}
@@ -35,12 +35,16 @@ pub record AreLookedAt (tree : SearchedTree) (word : Unary) (live wide : List Bo
   pub covers : (n m : ℕ) → is_live live n ≡ true → Asks tree.game.nodes word n m
       → (goes_down word ≡ true → (m < length tree.game.nodes) × Searched tree m) → is_live wide m ≡ true
 
--- at each node of a game are the squares of the nodes at which the part is asked
+-- a node is found where one of a set is among those at which the part is asked
+pub record AreFound (nodes : List Node) (word : Unary) (set found : List Bool) : Type 0 where
+  pub each : (n : ℕ) → n < length nodes → (get_or found n false ≡ true) ↔ ((m : ℕ) × (get_or set m false ≡ true) × Asks nodes word n m)
+
+-- each node of a game has at least the squares of the nodes at which the part is asked
 pub record AreBroughtBack (nodes : List Node) (word : Unary) (there back : List ℕ) : Type 0 where
   pub count : length back ≡ length nodes
   pub each : (n m s : ℕ) → n < length nodes → Asks nodes word n m → is_in (get_or there m 0) s ≡ true → is_in (get_or back n 0) s ≡ true
 
--- these squares are added at the parent of k
+-- these squares are added at the parent of k, no square is taken away, and from k on nothing changes
 pub record AreRaisedSets (nodes : List Node) (k more : ℕ) (old new : List ℕ) : Type 0 where
   pub count : length new ≡ length old
   pub grows : (n s : ℕ) → is_in (get_or old n 0) s ≡ true → is_in (get_or new n 0) s ≡ true

@@ -3,13 +3,15 @@ ghost use Rattle.std.specs.Prelude.{◌≡◌, ◌<◌, length, true, get_or, bi
 ghost use Rattle.cq_position.specs.Games.{IsTree, node_at};
 ghost use Rattle.cql_syntax.specs.declared.leaves.Unary.TheVariants.{Find, FindUp, Child, Parent};
 ghost use Rattle.cql_eval.specs.Columns.{AreAsked};
-ghost use Rattle.cql_eval.specs.Elsewhere.{asks_elsewhere, AreLookedAt, AreBroughtBack, AreRaisedSets, set_of_node};
+ghost use Rattle.cql_eval.specs.Elsewhere.{asks_elsewhere, AreLookedAt, AreFound, AreBroughtBack, AreRaisedSets, set_of_node};
 ghost use Rattle.cql_eval.specs.Scopes.{tree_in};
 
 use crate::filter_column::{blank_sets, set_at};
 use crate::nodes::same;
 use crate::scope::Scope;
-use crate::tree::{above, below, children, parents};
+use crate::tree::{
+    above, below, children, lowered, none, of_parents, parents, raised, with_parents,
+};
 use cq_outside::NoMemory;
 use cql_syntax::Unary;
 use pgn_tree::Game;
@@ -17,7 +19,7 @@ use std::alloc::Global;
 
 /// Whether a word asks its part at other nodes.
 pub(crate) fn looks_elsewhere(word: Unary) -> bool
-    ensures { result ≡ true → asks_elsewhere word ≡ true }
+    ensures { result ≡ asks_elsewhere word }
 {
     match word {
         Unary::Find | Unary::FindUp | Unary::Child | Unary::Parent => true,
@@ -44,6 +46,32 @@ pub(crate) fn looked_at(
         Unary::Parent => parents(alloc, scope, live),
         Unary::Not | Unary::Complement | Unary::Count | Unary::Power | Unary::Light | Unary::Dark =>
             same(alloc, live),
+    }
+}
+
+/// The nodes at which a word finds one of a set among those at which it asks its part.
+#[tactic(auto, using(crate::proofs::FoundLaw::raised_found, crate::proofs::FoundLaw::lowered_found, crate::proofs::FoundLaw::parents_found, crate::proofs::FoundLaw::flags_found, crate::proofs::FoundLaw::never_found))]
+pub(crate) fn found_from(
+    alloc: Global,
+    word: Unary,
+    game: &Game,
+    set: Vec<bool>,
+) -> Result<Vec<bool>, NoMemory>
+    requires tree { IsTree game.now.nodes }
+    requires count { length set.items ≡ length game.now.nodes }
+    requires word { asks_elsewhere word ≡ true }
+    ensures { IfOk result (λ found. AreFound game.now.nodes word set.items found.items) }
+{
+    match word {
+        Unary::Find => Ok(raised(game, set)),
+        Unary::FindUp => lowered(alloc, game, &set),
+        Unary::Child => {
+            let start = none(alloc, game)?;
+            Ok(with_parents(game, &set, start))
+        }
+        Unary::Parent => of_parents(alloc, game, &set),
+        Unary::Not | Unary::Complement | Unary::Count | Unary::Power | Unary::Light | Unary::Dark =>
+            Ok(set),
     }
 }
 

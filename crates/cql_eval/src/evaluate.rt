@@ -8,6 +8,7 @@ ghost use Rattle.cql_syntax.specs.Values as spec;
 ghost use Rattle.cql_eval.specs.Asked.{AreUnsettled};
 ghost use Rattle.cql_eval.specs.Columns.{AreAsked, AreTruths, IsColumn, Where, shown, all_shown, terms_shown};
 ghost use Rattle.cql_eval.specs.Costs.{filter_cost, filters_cost, terms_cost, played_cost, written_cost, line_cost, searched_len};
+ghost use Rattle.cql_eval.specs.Elsewhere.{asks_elsewhere};
 ghost use Rattle.cql_eval.specs.FlatTrees.{IsFlat, AreFlat, AreFlatTerms, IsFlatMove, IsFlatPart, IsFlatLine};
 ghost use Rattle.cql_eval.specs.Scopes.{tree_in, value_in, values_in};
 
@@ -22,19 +23,18 @@ mod played;
 mod squares;
 mod trial;
 
+use crate::binding::Binding;
 use crate::combine::{
     any_values, chain_values, chosen, negated, numbered, pair_values, reached_values, sum_values,
     unary_values,
 };
+use crate::elsewhere::{found_from, looked_at, looks_elsewhere};
 use crate::filter_column::FilterColumn;
 use crate::leaves::{standing_sets, word_values};
 use crate::nodes::{any_live, narrowed, part_of};
 use crate::scope::Scope;
-use crate::tree::{
-    above, below, children, lowered, none, of_parents, parents, raised, with_parents,
-};
 pub(crate) use chains::left_by;
-use chains::{all_hold, columns_of, no_member_holds, none_holds, terms_of};
+use chains::{all_hold, columns_of, none_holds, terms_of};
 use cq_outside::{NoMemory, Steps};
 use cql_syntax::{Chain, Filter, Filters, Form, Kind, Unary};
 use cql_values::headers::{has_text, is_result, rating};
@@ -43,7 +43,7 @@ use cql_values::value::Value;
 use cql_values::words::directions;
 use lines::line_numbers;
 use played::played_truths;
-use squares::{Binding, asked_truths};
+use squares::asked_truths;
 use std::alloc::Global;
 use std::sync::ledger::Ledger;
 
@@ -164,34 +164,10 @@ fn unary_column<L: Ledger>(
     ensures cost { steps.new ≤ steps.old + filter_cost (searched_len (tree_in scope.now)) (filter_tree part.now) }
     ensures rises { steps.old ≤ steps.new }
 {
+    if looks_elsewhere(word) {
+        return elsewhere_column(alloc, word, part, scope, live, steps);
+    }
     match word {
-        Unary::Find => {
-            let wide = below(alloc, scope, live)?;
-            let column = evaluate(alloc, part, scope, &wide, steps)?;
-            let set = narrowed(alloc, &wide, &column, true)?;
-            Ok(FilterColumn::Truths(raised(scope.game, set)))
-        }
-        Unary::FindUp => {
-            let wide = above(alloc, scope, live)?;
-            let column = evaluate(alloc, part, scope, &wide, steps)?;
-            let set = narrowed(alloc, &wide, &column, true)?;
-            let found = lowered(alloc, scope.game, &set)?;
-            Ok(FilterColumn::Truths(found))
-        }
-        Unary::Child => {
-            let wide = children(alloc, scope, live)?;
-            let column = evaluate(alloc, part, scope, &wide, steps)?;
-            let set = narrowed(alloc, &wide, &column, true)?;
-            let start = none(alloc, scope.game)?;
-            Ok(FilterColumn::Truths(with_parents(scope.game, &set, start)))
-        }
-        Unary::Parent => {
-            let wide = parents(alloc, scope, live)?;
-            let column = evaluate(alloc, part, scope, &wide, steps)?;
-            let set = narrowed(alloc, &wide, &column, true)?;
-            let found = of_parents(alloc, scope.game, &set)?;
-            Ok(FilterColumn::Truths(found))
-        }
         Unary::Not => {
             let column = evaluate(alloc, part, scope, live, steps)?;
             let truths = negated(alloc, &column, live)?;
@@ -203,6 +179,32 @@ fn unary_column<L: Ledger>(
             Ok(FilterColumn::Values(values))
         }
     }
+}
+
+/// What a word gives that asks its part at other nodes.
+#[cycle(evaluate)]
+fn elsewhere_column<L: Ledger>(
+    alloc: Global,
+    word: Unary,
+    part: &Filter,
+    scope: &Scope,
+    live: &[bool],
+    steps: &mut Steps<L>,
+) -> Result<FilterColumn, NoMemory>
+    requires tree { IsTree scope.now.game.now.nodes }
+    requires asked { AreAsked (tree_in scope.now) live.now }
+    requires flat { IsFlat (filter_tree part.now) }
+    requires word { asks_elsewhere word ≡ true }
+    ensures value { IfOk result (λ c. IsColumn c live.now (meaning.unary_of (tree_in scope.now) word
+        (value_in scope.now (filter_tree part.now)))) }
+    ensures cost { steps.new ≤ steps.old + filter_cost (searched_len (tree_in scope.now)) (filter_tree part.now) }
+    ensures rises { steps.old ≤ steps.new }
+{
+    let wide = looked_at(alloc, word, scope, live)?;
+    let column = evaluate(alloc, part, scope, &wide, steps)?;
+    let set = narrowed(alloc, &wide, &column, true)?;
+    let found = found_from(alloc, word, scope.game, set)?;
+    Ok(FilterColumn::Truths(found))
 }
 
 /// What a filter of any number of parts gives.
@@ -261,7 +263,7 @@ fn any_column<L: Ledger>(
 {
     match kind {
         Kind::Position => {
-            let fails = no_member_holds(alloc, parts, scope, live, steps)?;
+            let fails = none_holds(alloc, parts, scope, live, steps)?;
             let truths = negated(alloc, &FilterColumn::Truths(fails), live)?;
             Ok(FilterColumn::Truths(truths))
         }

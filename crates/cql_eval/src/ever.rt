@@ -1,4 +1,4 @@
-//! Members of families that hold nowhere in a game, since men that they ask for never stand on a square that they name.
+//! Filters that hold nowhere in a game, since men that they ask for never stand on a square that they name.
 ghost use Rattle.std.specs.Prelude.{◌≡◌, Bool, List, [], false, true, IfOk, OnOk};
 ghost use Rattle.cq_position.specs.Search.{SearchedTree};
 ghost use Rattle.cql_syntax.specs.Meaning.{Names, values};
@@ -26,20 +26,26 @@ pub(crate) struct Ever {
     squares: u64,
 }
 
+/// How filters are asked.
+#[derive(Clone, Copy)]
+pub(crate) struct Asking<'a> {
+    /// Whether each must hold, or each must not.
+    pub(crate) want: bool,
+    /// Where men stand that they ask for, as far as that is known.
+    pub(crate) evers: &'a [Ever],
+}
+
 // Of so many sets of men at most it is asked where they stand.
 const MOST_SETS_OF_MEN: usize = 8;
 
-// From so many members on a family is looked at for those that hold nowhere.
-const MANY_MEMBERS: usize = 8;
+// From so many filters on it pays to look where the men stand that they ask for.
+const MANY_FILTERS: usize = 8;
 
-/// Whether a family has so many members that it pays to look where their men stand.
-pub(crate) fn is_large(members: &Filters) -> bool {
-    members.len() >= MANY_MEMBERS
-}
-
-/// Where the men stand that designators of some filters ask for, or of their parts.
+/// Where the men stand that designators of some filters ask for, or of their parts. Nothing is told of few filters, and of such as must
+/// hold.
 pub(crate) fn evers_of(
     alloc: Global,
+    want: bool,
     filters: &Filters,
     scope: &Scope,
     live: &[bool],
@@ -48,12 +54,32 @@ pub(crate) fn evers_of(
     ensures { IfOk result (λ evers. AreEver (tree_in scope.now) live.now evers.items) }
 {
     let mut evers = Vec::new(alloc);
-    for filter in filters.as_slice() {
-        add_filter(alloc, filter, scope, live, &mut evers)?;
+    if want || filters.len() < MANY_FILTERS {
+        return Ok(evers);
     }
+    add_filters(alloc, filters, scope, live, &mut evers)?;
     Ok(evers)
 }
 
+#[cycle(add_filters)]
+fn add_filters(
+    alloc: Global,
+    filters: &Filters,
+    scope: &Scope,
+    live: &[bool],
+    evers: &mut Vec<Ever>,
+) -> Result<(), NoMemory>
+    requires asked { AreAsked (tree_in scope.now) live.now }
+    requires evers { AreEver (tree_in scope.now) live.now evers.old.items }
+    ensures { OnOk result (AreEver (tree_in scope.now) live.now evers.new.items) }
+{
+    for filter in filters.as_slice() {
+        add_filter(alloc, filter, scope, live, evers)?;
+    }
+    Ok(())
+}
+
+#[cycle(add_filters)]
 fn add_filter(
     alloc: Global,
     filter: &Filter,
@@ -66,43 +92,10 @@ fn add_filter(
     ensures { OnOk result (AreEver (tree_in scope.now) live.now evers.new.items) }
 {
     match &filter.form {
-        Form::Chain(chain, parts) if is_all(*chain) => {
-            add_parts(alloc, parts, scope, live, evers)
-        }
-        _ => add_part(alloc, filter, scope, live, evers),
-    }
-}
-
-fn add_parts(
-    alloc: Global,
-    parts: &Filters,
-    scope: &Scope,
-    live: &[bool],
-    evers: &mut Vec<Ever>,
-) -> Result<(), NoMemory>
-    requires asked { AreAsked (tree_in scope.now) live.now }
-    requires evers { AreEver (tree_in scope.now) live.now evers.old.items }
-    ensures { OnOk result (AreEver (tree_in scope.now) live.now evers.new.items) }
-{
-    for part in parts.as_slice() {
-        add_part(alloc, part, scope, live, evers)?;
-    }
-    Ok(())
-}
-
-fn add_part(
-    alloc: Global,
-    part: &Filter,
-    scope: &Scope,
-    live: &[bool],
-    evers: &mut Vec<Ever>,
-) -> Result<(), NoMemory>
-    requires asked { AreAsked (tree_in scope.now) live.now }
-    requires evers { AreEver (tree_in scope.now) live.now evers.old.items }
-    ensures { OnOk result (AreEver (tree_in scope.now) live.now evers.new.items) }
-{
-    match &part.form {
         Form::Squares(d) => add_men(alloc, d.men, scope, live, evers),
+        Form::Chain(chain, parts) if is_all(*chain) => {
+            add_filters(alloc, parts, scope, live, evers)
+        }
         _ => Ok(()),
     }
 }
@@ -154,9 +147,19 @@ fn on_any_square(men: u16) -> Designator
     }
 }
 
-/// True only where a filter holds at none of the nodes that are asked for. Forms other than designators, and braces of such, give false.
+/// Whether filters must not hold, and this one holds nowhere.
+pub(crate) fn fails_anyway(asking: &Asking, filter: &Filter) -> bool
+    ensures want { result ≡ true → asking.now.want ≡ false }
+    ensures nowhere { result ≡ true → (tree : SearchedTree) (live : List Bool) (e : Names) → AreEver tree live asking.now.evers.now
+        → HoldsNowhere tree live e (filter_tree filter.now) }
+{
+    !asking.want && holds_nowhere(asking.evers, filter)
+}
+
+// True only where a filter holds at none of the nodes that are asked for. Forms other than designators, and braces of such, give false.
+#[cycle(holds_nowhere)]
 #[tactic(auto, unfolding(cql_syntax::specs::Meaning::value, cql_syntax::specs::Contexts::designator_image))]
-pub(crate) fn holds_nowhere(evers: &[Ever], filter: &Filter) -> bool
+fn holds_nowhere(evers: &[Ever], filter: &Filter) -> bool
     ensures { result ≡ true → (tree : SearchedTree) (live : List Bool) (e : Names) → AreEver tree live evers.now
         → HoldsNowhere tree live e (filter_tree filter.now) }
 {
@@ -168,27 +171,17 @@ pub(crate) fn holds_nowhere(evers: &[Ever], filter: &Filter) -> bool
 }
 
 // Whether one of some filters holds nowhere, so that they hold nowhere together.
+#[cycle(holds_nowhere)]
 fn one_nowhere(evers: &[Ever], parts: &Filters) -> bool
     ensures { result ≡ true → (tree : SearchedTree) (live : List Bool) (e : Names) → AreEver tree live evers.now
         → Where live (λ n. holds (all_hold (values tree [] e (filters_tree parts.now) n)) ≡ false) }
 {
     for part in parts.as_slice() {
-        if part_nowhere(evers, part) {
+        if holds_nowhere(evers, part) {
             return true;
         }
     }
     false
-}
-
-#[tactic(auto, unfolding(cql_syntax::specs::Meaning::value, cql_syntax::specs::Contexts::designator_image))]
-fn part_nowhere(evers: &[Ever], part: &Filter) -> bool
-    ensures { result ≡ true → (tree : SearchedTree) (live : List Bool) (e : Names) → AreEver tree live evers.now
-        → HoldsNowhere tree live e (filter_tree part.now) }
-{
-    match &part.form {
-        Form::Squares(d) => stands_nowhere(evers, d),
-        _ => false,
-    }
 }
 
 fn stands_nowhere(evers: &[Ever], d: &Designator) -> bool

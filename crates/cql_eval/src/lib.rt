@@ -5,6 +5,7 @@
 #![tactic(auto)]
 
 mod attacks;
+mod binding;
 pub mod column;
 mod combine;
 mod covers;
@@ -13,6 +14,7 @@ mod evaluate;
 mod ever;
 pub mod filter_column;
 mod free;
+mod here;
 pub mod laws;
 mod leaves;
 mod moved;

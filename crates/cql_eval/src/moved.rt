@@ -1,25 +1,20 @@
 //! Squares that are tried one by one, where the move is asked whether it went to the square: all at once.
-ghost use Rattle.std.specs.Prelude.{◌≡◌, ◌&&◌, ℕ, ◌<◌, length, get_or, true, false, option_map, IfOk};
+ghost use Rattle.std.specs.Prelude.{◌≡◌, ◌&&◌, ℕ, ◌<◌, length, get_or, true, false, IfOk};
 ghost use Rattle.cq_position.specs.Games.{IsTree};
-ghost use Rattle.cq_position.specs.Led.{led_to as led_to_in};
-ghost use Rattle.cql_values.specs.Shown.{meant};
-ghost use Rattle.cql_syntax.specs.Meaning as meaning;
 ghost use Rattle.cql_syntax.specs.TreeOf.{written_tree};
-ghost use Rattle.cql_eval.specs.Columns.{AreAsked, is_live, shown};
-ghost use Rattle.cql_eval.specs.Moved.{AsksGoal, IsNamePart, goes_to};
+ghost use Rattle.cql_eval.specs.Columns.{AreAsked, is_live};
+ghost use Rattle.cql_eval.specs.Moved.{AsksGoal, IsNamePart, goes_as_asked};
 ghost use Rattle.cql_eval.specs.Scopes.{tree_in};
 
 use crate::attacks::is_its_name;
-use crate::filter_column::{FilterColumn, blank_truths, set_at};
+use crate::filter_column::{blank_truths, set_at};
 use crate::free::is_free_part;
-use crate::moves::written_at;
+use crate::moves::{PartColumns, meets_parts};
 use crate::scope::Scope;
 use cq_outside::NoMemory;
 use cql_syntax::{Filter, Played};
-use cql_values::led::{before, led_to, meets_all};
 use cql_values::names::Names;
 use cql_values::value::Value;
-use pgn_tree::Game;
 use std::alloc::Global;
 
 /// Whether of the move it is asked that it went to the square of a name, and nothing else in which an open name stands.
@@ -45,73 +40,39 @@ fn is_name_part(name: &[u8], part: &Option<Box<Filter>>) -> bool
 pub(crate) fn moves_to(
     alloc: Global,
     scope: &Scope,
-    origin: &Option<FilterColumn>,
+    parts: &PartColumns,
     sets: &[u64],
-    taken: &Option<FilterColumn>,
-    promoted: &Option<FilterColumn>,
     live: &[bool],
 ) -> Result<Vec<bool>, NoMemory>
     requires tree { IsTree scope.now.game.now.nodes }
     requires asked { AreAsked (tree_in scope.now) live.now }
     ensures { IfOk result (λ truths. (n : ℕ) → get_or truths.items n false
-        ≡ (is_live live.now n && goes_to (led_to_in scope.now.game.now.nodes n)
-        (option_map (λ c. shown c (meaning.before (tree_in scope.now) n)) origin.now) (get_or sets.now n 0)
-        (option_map (λ c. shown c (meaning.before (tree_in scope.now) n)) taken.now)
-        (option_map (λ c. shown c n) promoted.now))) }
+        ≡ (is_live live.now n && goes_as_asked (tree_in scope.now) parts.now (get_or sets.now n 0) n)) }
 {
     let mut truths = blank_truths(alloc, scope.game.len() as usize)?;
     for n in 0..scope.game.len() {
-        truths[n as usize] = is_moved_to(live[n as usize], scope, origin, sets, taken, promoted, n);
+        truths[n as usize] = is_moved_to(live[n as usize], scope, parts, sets, n);
     }
     Ok(truths)
 }
 
-fn is_moved_to(
-    asked: bool,
-    scope: &Scope,
-    origin: &Option<FilterColumn>,
-    sets: &[u64],
-    taken: &Option<FilterColumn>,
-    promoted: &Option<FilterColumn>,
-    n: u32,
-) -> bool
+fn is_moved_to(asked: bool, scope: &Scope, parts: &PartColumns, sets: &[u64], n: u32) -> bool
     requires tree { IsTree scope.now.game.now.nodes }
     requires node { n < length scope.now.game.now.nodes }
-    ensures { result ≡ (asked && goes_to (led_to_in scope.now.game.now.nodes n)
-        (option_map (λ c. shown c (meaning.before (tree_in scope.now) n)) origin.now) (get_or sets.now n 0)
-        (option_map (λ c. shown c (meaning.before (tree_in scope.now) n)) taken.now)
-        (option_map (λ c. shown c n) promoted.now)) }
+    ensures { result ≡ (asked && goes_as_asked (tree_in scope.now) parts.now (get_or sets.now n 0) n) }
 {
     if !asked {
         return false;
     }
-    let before = before(scope.game, scope.variations, n) as usize;
-    let origin = written_at(origin, before);
     let set = set_at(sets, n as usize);
-    let taken = written_at(taken, before);
-    let promoted = written_at(promoted, n as usize);
-    meets_goal(scope.game, origin, set, taken, promoted, n)
+    meets_goal(scope, parts, set, n)
 }
 
-// Whether the move to a node went to a square of the set, and is as it is asked for in each other part that is written.
-fn meets_goal(
-    game: &Game,
-    origin: Option<Value>,
-    set: u64,
-    taken: Option<Value>,
-    promoted: Option<Value>,
-    n: u32,
-) -> bool
-    requires tree { IsTree game.now.nodes }
-    requires node { n < length game.now.nodes }
-    ensures { result ≡ goes_to (led_to_in game.now.nodes n) (option_map meant origin) set
-        (option_map meant taken) (option_map meant promoted) }
+// Whether the move to a node went to a square of the set, and is as columns ask.
+fn meets_goal(scope: &Scope, parts: &PartColumns, set: u64, n: u32) -> bool
+    requires tree { IsTree scope.now.game.now.nodes }
+    requires node { n < length scope.now.game.now.nodes }
+    ensures { result ≡ goes_as_asked (tree_in scope.now) parts.now set n }
 {
-    meets_all(
-        led_to(game, n),
-        origin,
-        Some(Value::Set(set)),
-        taken,
-        promoted,
-    )
+    meets_parts(scope, parts, Some(Value::Set(set)), n)
 }

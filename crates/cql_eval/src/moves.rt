@@ -1,10 +1,9 @@
 //! Whether the moves to nodes are as columns ask.
 ghost use Rattle.std.specs.Prelude.{◌≡◌, ℕ, ◌<◌, ◌&&◌, length, get_or, false, option_map, Option, IfOk};
 ghost use Rattle.cq_position.specs.Games.{IsTree, node_at};
-ghost use Rattle.cq_position.specs.Led.{led_to as led_to_in};
-ghost use Rattle.cql_syntax.specs.Meaning as meaning;
 ghost use Rattle.cql_values.specs.Shown.{meant};
 ghost use Rattle.cql_eval.specs.Columns.{AreAsked, AreKept, is_live, shown};
+ghost use Rattle.cql_eval.specs.Moved.{is_as_asked};
 ghost use Rattle.cql_eval.specs.Promoting.{ArePromoting, is_promotion};
 ghost use Rattle.cql_eval.specs.Scopes.{tree_in};
 
@@ -59,29 +58,30 @@ fn is_promoted(asked: bool, game: &Game, n: u32) -> bool
     }
 }
 
-/// Whether a node is of a set, and the move to it is as columns ask in each part that is written: the first and the third at the node
-/// before, the others at the node itself.
+/// The columns of the parts of a move, its goal aside: None of a part that isn't written.
+#[derive(Drop)]
+pub(crate) struct PartColumns {
+    pub(crate) origin: Option<FilterColumn>,
+    pub(crate) taken: Option<FilterColumn>,
+    pub(crate) promoted: Option<FilterColumn>,
+}
+
+/// Whether a node is of a set, and the move to it is as columns ask in each part that is written.
 pub(crate) fn moves_met(
     alloc: Global,
     scope: &Scope,
-    origin: &Option<FilterColumn>,
+    parts: &PartColumns,
     goal: &Option<FilterColumn>,
-    taken: &Option<FilterColumn>,
-    promoted: &Option<FilterColumn>,
     live: &[bool],
 ) -> Result<Vec<bool>, NoMemory>
     requires tree { IsTree scope.now.game.now.nodes }
     requires asked { AreAsked (tree_in scope.now) live.now }
     ensures { IfOk result (λ truths. (n : ℕ) → get_or truths.items n false
-        ≡ (is_live live.now n && meaning.meets_all (led_to_in scope.now.game.now.nodes n)
-        (option_map (λ c. shown c (meaning.before (tree_in scope.now) n)) origin.now)
-        (option_map (λ c. shown c n) goal.now)
-        (option_map (λ c. shown c (meaning.before (tree_in scope.now) n)) taken.now)
-        (option_map (λ c. shown c n) promoted.now))) }
+        ≡ (is_live live.now n && is_as_asked (tree_in scope.now) parts.now (option_map (λ c. shown c n) goal.now) n)) }
 {
     let mut truths = blank_truths(alloc, scope.game.len() as usize)?;
     for n in 0..scope.game.len() {
-        truths[n as usize] = is_met(live[n as usize], scope, origin, goal, taken, promoted, n);
+        truths[n as usize] = is_met(live[n as usize], scope, parts, goal, n);
     }
     Ok(truths)
 }
@@ -89,33 +89,37 @@ pub(crate) fn moves_met(
 fn is_met(
     asked: bool,
     scope: &Scope,
-    origin: &Option<FilterColumn>,
+    parts: &PartColumns,
     goal: &Option<FilterColumn>,
-    taken: &Option<FilterColumn>,
-    promoted: &Option<FilterColumn>,
     n: u32,
 ) -> bool
     requires tree { IsTree scope.now.game.now.nodes }
     requires node { n < length scope.now.game.now.nodes }
-    ensures { result ≡ (asked && meaning.meets_all (led_to_in scope.now.game.now.nodes n)
-        (option_map (λ c. shown c (meaning.before (tree_in scope.now) n)) origin.now)
-        (option_map (λ c. shown c n) goal.now)
-        (option_map (λ c. shown c (meaning.before (tree_in scope.now) n)) taken.now)
-        (option_map (λ c. shown c n) promoted.now)) }
+    ensures { result ≡ (asked && is_as_asked (tree_in scope.now) parts.now (option_map (λ c. shown c n) goal.now) n) }
 {
     if !asked {
         return false;
     }
-    let before = before(scope.game, scope.variations, n) as usize;
-    let origin = written_at(origin, before);
     let goal = written_at(goal, n as usize);
-    let taken = written_at(taken, before);
-    let promoted = written_at(promoted, n as usize);
+    meets_parts(scope, parts, goal, n)
+}
+
+/// Whether the move to a node is as the columns of its parts ask, and as a goal does. Where it came from and what it took is asked at the
+/// node before.
+pub(crate) fn meets_parts(scope: &Scope, parts: &PartColumns, goal: Option<Value>, n: u32) -> bool
+    requires tree { IsTree scope.now.game.now.nodes }
+    requires node { n < length scope.now.game.now.nodes }
+    ensures { result ≡ is_as_asked (tree_in scope.now) parts.now (option_map meant goal) n }
+{
+    let before = before(scope.game, scope.variations, n) as usize;
+    let origin = written_at(&parts.origin, before);
+    let taken = written_at(&parts.taken, before);
+    let promoted = written_at(&parts.promoted, n as usize);
     meets_all(led_to(scope.game, n), origin, goal, taken, promoted)
 }
 
-/// The value of a part that is written.
-pub(crate) fn written_at(column: &Option<FilterColumn>, n: usize) -> Option<Value>
+// The value of a part that is written.
+fn written_at(column: &Option<FilterColumn>, n: usize) -> Option<Value>
     ensures { option_map meant result ≡ option_map (λ c. shown c n) column.now }
 {
     match column {

@@ -18,7 +18,7 @@ use cql_syntax::{Chain, Filter, Filters, Form, Pair};
 
 /// Where squares of a name are tried beside those of another, which are among a column's.
 #[derive(Clone, Copy)]
-pub(crate) struct Paired<'a> {
+pub(crate) struct PairTrial<'a> {
     pub(crate) scope: &'a Scope<'a>,
     /// The nodes at which it is asked.
     pub(crate) live: &'a [bool],
@@ -54,7 +54,7 @@ fn some_pair(name: &[u8], other: &[u8], parts: &Filters) -> bool {
 /// Leaves those squares of a name with which what is asked may hold, where the square of another name is among a column's.
 #[cycle(cut_paired)]
 #[tactic(auto, unfolding(cql_syntax::specs::Meaning::value))]
-pub(crate) fn cut_paired(sets: &mut [u64], paired: &Paired, asked: &Filter)
+pub(crate) fn cut_paired(sets: &mut [u64], paired: &PairTrial, asked: &Filter)
     requires asked { AreAsked (tree_in paired.now.scope.now) paired.now.live.now }
     requires count { length sets.old ≡ length paired.now.live.now }
     ensures cut { LeavesPaired paired.now
@@ -78,7 +78,7 @@ pub(crate) fn cut_paired(sets: &mut [u64], paired: &Paired, asked: &Filter)
 
 // Of the filters of a chain: of those that must all hold.
 #[cycle(cut_paired)]
-fn cut_chain(sets: &mut [u64], paired: &Paired, chain: Chain, parts: &Filters)
+fn cut_chain(sets: &mut [u64], paired: &PairTrial, chain: Chain, parts: &Filters)
     requires asked { AreAsked (tree_in paired.now.scope.now) paired.now.live.now }
     requires count { length sets.old ≡ length paired.now.live.now }
     ensures cut { LeavesPaired paired.now
@@ -93,7 +93,7 @@ fn cut_chain(sets: &mut [u64], paired: &Paired, chain: Chain, parts: &Filters)
 
 // Of filters that must all hold.
 #[cycle(cut_paired)]
-fn cut_each(sets: &mut [u64], paired: &Paired, parts: &Filters)
+fn cut_each(sets: &mut [u64], paired: &PairTrial, parts: &Filters)
     requires asked { AreAsked (tree_in paired.now.scope.now) paired.now.live.now }
     requires count { length sets.old ≡ length paired.now.live.now }
     ensures cut { LeavesPaired paired.now
@@ -107,7 +107,7 @@ fn cut_each(sets: &mut [u64], paired: &Paired, parts: &Filters)
 
 // Of what is asked of some square under a third name, whatever that square is.
 #[cycle(cut_paired)]
-fn cut_third(sets: &mut [u64], paired: &Paired, every: bool, third: &[u8], part: &Filter)
+fn cut_third(sets: &mut [u64], paired: &PairTrial, every: bool, third: &[u8], part: &Filter)
     requires asked { AreAsked (tree_in paired.now.scope.now) paired.now.live.now }
     requires count { length sets.old ≡ length paired.now.live.now }
     ensures cut { (x : meaning.Names → ℕ → spec.Value) → LeavesPaired paired.now
@@ -122,7 +122,7 @@ fn cut_third(sets: &mut [u64], paired: &Paired, every: bool, third: &[u8], part:
 }
 
 // Of two sets, one of which has no square but that of the one name, and the other none but that of the other name.
-fn cut_pair(sets: &mut [u64], paired: &Paired, pair: Pair, first: &Filter, second: &Filter)
+fn cut_pair(sets: &mut [u64], paired: &PairTrial, pair: Pair, first: &Filter, second: &Filter)
     requires asked { AreAsked (tree_in paired.now.scope.now) paired.now.live.now }
     requires count { length sets.old ≡ length paired.now.live.now }
     ensures cut { LeavesPaired paired.now

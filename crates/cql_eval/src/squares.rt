@@ -3,7 +3,7 @@ ghost use Rattle.std.specs.Prelude.{◌≡◌, ℕ, ◌<◌, ◌&&◌, length, g
 ghost use Rattle.cq_symmetry.specs.Images.{is_in};
 ghost use Rattle.cql_syntax.specs.Values as spec;
 ghost use Rattle.cql_values.specs.Shown.{meant};
-ghost use Rattle.cql_eval.specs.Asked.{AreHaving, AreLeft, AreWanted};
+ghost use Rattle.cql_eval.specs.Asked.{AreHaving, AreLeftOpen, AreWanted};
 ghost use Rattle.cql_values.specs.declared.value.Value.TheVariants.{Set};
 ghost use Rattle.cql_eval.specs.Columns.{shown, AreKept};
 
@@ -98,7 +98,7 @@ pub(crate) fn unsettled(
     column: &FilterColumn,
 ) -> Vec<bool>
     requires { length there.now ≡ length left.items }
-    ensures { AreLeft every (λ n. spec.holds (shown column.now n)) left.items there.now result.items }
+    ensures { AreLeftOpen every (λ n. spec.holds (shown column.now n)) left.items there.now result.items }
 {
     let mut later = left;
     settle(every, &mut later, there, column);
@@ -107,7 +107,7 @@ pub(crate) fn unsettled(
 
 fn settle(every: bool, left: &mut [bool], there: &[bool], column: &FilterColumn)
     requires { length there.now ≡ length left.old }
-    ensures { AreLeft every (λ n. spec.holds (shown column.now n)) left.old there.now left.new }
+    ensures { AreLeftOpen every (λ n. spec.holds (shown column.now n)) left.old there.now left.new }
 {
     for n in first_live(there)..end_of(there) {
         left[n] = keeps(every, left[n], truth_at(there, n), column, n);

@@ -1,3 +1,4 @@
+pub mod Children
 pub mod Cutting
 pub mod Ended
 pub mod Loops

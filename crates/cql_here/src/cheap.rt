@@ -60,7 +60,7 @@ fn is_cheap_word(word: Plain) -> bool {
 
 fn is_cheap_mark(word: Unary, upwards: bool) -> bool {
     match word {
-        Unary::Find | Unary::Child => false,
+        Unary::Find => false,
         Unary::FindUp => upwards,
         _ => true,
     }

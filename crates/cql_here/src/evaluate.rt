@@ -1,10 +1,11 @@
 //! What a filter gives at a node, by recursion on the filter.
-ghost use Rattle.std.specs.Prelude.{◌≡◌, ◌<◌, [], length, ℕ, Some, IfOk, option_to_list};
+ghost use Rattle.std.specs.Prelude.{◌≡◌, ◌<◌, ◌&&◌, [], length, ℕ, Some, IfOk, option_to_list};
 ghost use Rattle.std.specs.List.{list_any, list_all};
 ghost use Rattle.cq_geometry.specs.Squares.{squares};
 ghost use Rattle.cq_position.specs.Bitboards.{IsBitboard};
 ghost use Rattle.cq_position.specs.Games as games;
 ghost use Rattle.cq_position.specs.Games.{IsTree};
+ghost use Rattle.cq_position.specs.Search.{children_in};
 ghost use Rattle.cq_symmetry.specs.Images.{is_in};
 ghost use Rattle.cql_here.specs.Places.{tree_of, value_at, values_at, holds_at, IsAt};
 ghost use Rattle.cql_syntax.specs.Meaning as meaning;
@@ -30,6 +31,7 @@ use cql_values::names::Names;
 use cql_values::numbers::counted;
 use cql_values::sets::{has_square, reached};
 use cql_values::value::Value;
+use cql_values::walks::is_searched;
 use cql_values::words::{directions, standing_on};
 
 /// What a filter gives at a node.
@@ -104,7 +106,10 @@ fn unary_at(word: Unary, part: &Filter, place: &Place, names: &mut Names) -> Res
 {
     match word {
         Unary::Find => Err(Halt::Fault(Elsewhere)),
-        Unary::Child => Err(Halt::Fault(Elsewhere)),
+        Unary::Child => {
+            let found = some_child(part, place, names)?;
+            Ok(Value::Truth(found))
+        }
         Unary::FindUp => {
             let found = some_above(part, place, names)?;
             Ok(Value::Truth(found))
@@ -136,6 +141,44 @@ fn at_parent(part: &Filter, place: &Place, names: &mut Names) -> Result<bool, Ha
         ..*place
     };
     let value = evaluate(part, &above, names)?;
+    Ok(value.holds())
+}
+
+// Whether a filter holds at a child of a node, one of those that are searched.
+#[cycle(evaluate)]
+fn some_child(part: &Filter, place: &Place, names: &mut Names) -> Result<bool, Halt>
+    requires { IsAt place.now }
+    ensures value { IfOk result (λ b. b ≡ list_any (λ m. spec.holds (value_at place.now names.old (filter_tree part.now) m))
+        (children_in (tree_of place.now) place.now.node)) }
+    ensures names { names.new ≡ names.old }
+{
+    let mut at = place.game.first_child(place.node);
+    while let Some(child) = at {
+        let below = Place {
+            node: child,
+            ..*place
+        };
+        let there = holds_searched(part, &below, names)?;
+        if there {
+            return Ok(true);
+        }
+        at = place.game.next_sibling(child);
+    }
+    Ok(false)
+}
+
+// Whether a node is searched, and a filter holds there.
+#[cycle(evaluate)]
+fn holds_searched(part: &Filter, place: &Place, names: &mut Names) -> Result<bool, Halt>
+    requires { IsAt place.now }
+    ensures value { IfOk result (λ b. b ≡ (games.is_searched place.now.variations place.now.game.now.nodes place.now.node
+        && spec.holds (value_at place.now names.old (filter_tree part.now) place.now.node))) }
+    ensures names { names.new ≡ names.old }
+{
+    if !is_searched(place.game, place.variations, place.node) {
+        return Ok(false);
+    }
+    let value = evaluate(part, place, names)?;
     Ok(value.holds())
 }
 

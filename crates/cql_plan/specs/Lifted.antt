@@ -25,7 +25,7 @@ pub record AreCommon (members common : FilterTrees) : Type 0 where
   pub told : (tree : SearchedTree) (names : Names) (n : ℕ)
       → (one_holds tree names n members && each_holds tree names n common) ≡ one_holds tree names n members
 
--- parts, each of which is among the common ones or in the rest
+-- Parts all of which hold where all of the common ones and of the rest hold, and nowhere else; the parts cost no less than both.
 pub record AreDivided (parts common rest : FilterTrees) : Type 0 where
   pub told : (tree : SearchedTree) (names : Names) (n : ℕ)
       → each_holds tree names n parts ≡ (each_holds tree names n common && each_holds tree names n rest)
@@ -33,21 +33,21 @@ pub record AreDivided (parts common rest : FilterTrees) : Type 0 where
   pub rest_sound : (s : Standing) → may_stand s parts ≡ true → may_stand s rest ≡ true
   pub cost : (searched : ℕ) → filters_cost searched common + filters_cost searched rest ≤ filters_cost searched parts
 
--- where the common ones hold, the rest of some parts tells what these tell
+-- where the common ones hold, all of the rest hold where all of the parts do, and nowhere else, at the cost of the parts at most
 pub record AreLeft (common parts rest : FilterTrees) : Type 0 where
   pub told : (tree : SearchedTree) (names : Names) (n : ℕ) → (each_holds tree names n common && each_holds tree names n parts)
       ≡ (each_holds tree names n common && each_holds tree names n rest)
   pub sound : (s : Standing) → may_stand s parts ≡ true → may_stand s rest ≡ true
   pub cost : (searched : ℕ) → filters_cost searched rest ≤ filters_cost searched parts
 
--- and the rest of a member what the member tells
+-- where the common ones hold, the rest of a member holds where the member does, and nowhere else, at the cost of the member at most
 pub record IsRest (common : FilterTrees) (f g : FilterTree) : Type 0 where
   pub told : (tree : SearchedTree) (names : Names) (n : ℕ) → (each_holds tree names n common && holds (value tree [] names f n))
       ≡ (each_holds tree names n common && holds (value tree [] names g n))
   pub member : (s : Standing) → is_member Position s f ≡ true → is_member Position s g ≡ true
   pub cost : (searched : ℕ) → filter_cost searched g ≤ filter_cost searched f
 
--- The rests of members, the first of which has the common ones among its parts: together they cost what the members cost at most.
+-- where the common ones hold, some rest holds where some member does, and nowhere else; the members cost no less than both
 pub record AreRests (common members rests : FilterTrees) : Type 0 where
   pub told : (tree : SearchedTree) (names : Names) (n : ℕ) → (each_holds tree names n common && one_holds tree names n members)
       ≡ (each_holds tree names n common && one_holds tree names n rests)

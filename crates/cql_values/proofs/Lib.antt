@@ -6,7 +6,6 @@ pub mod MoveCounts
 pub mod Ranges
 pub mod Reaching
 pub mod Reversed
-pub mod Seen
 pub mod Standing
 pub mod Tagged
 pub mod Ways

@@ -174,14 +174,30 @@ joined_is : (joins : ℕ → ℕ → Bool) (from set mask : ℕ) → from < 2 ^ 
     → is_in (bit_and from mask) ≡ (λ s. nat_lt s 64 && (is_in from s && list_any (λ t. is_in set t && joins t s) squares))
 joined_is joins from set mask fits m = both_is from mask (λ s. list_any (λ t. is_in set t && joins t s) squares) fits (λ s low. joined_here joins set mask s low m)
 
--- squares that some man on a set attacks, and those whose men attack a square of one
+-- squares that some man on a set attacks
 pub attacked_is : (men : List Man) (from set mask : ℕ) → from < 2 ^ 64 → IsSetOf mask (IsAttacked men set)
     → is_in (bit_and from mask) ≡ (λ s. nat_lt s 64 && (is_in from s && list_any (λ t. is_in set t && attacks men t s) squares))
 attacked_is men from set mask fits m = joined_is (attacks men) from set mask fits m
 
-pub attackers_is : (men : List Man) (from set mask : ℕ) → from < 2 ^ 64 → IsSetOf mask (IsAttacker men set)
-    → is_in (bit_and from mask) ≡ (λ s. nat_lt s 64 && (is_in from s && list_any (λ t. is_in set t && attacks men s t) squares))
-attackers_is men from set mask fits m = joined_is (λ t s. attacks men s t) from set mask fits m
+-- the squares of a set whose men attack a square of another
+among_here : (men : List Man) (from set mask s : ℕ) → s < 64 → IsSetOf mask (λ q. Has from q × IsAttacker men set q)
+    → is_in mask s ≡ (is_in from s && list_any (λ t. is_in set t && attacks men s t) squares)
+among_here men from set mask s low m =
+    let test = λ (t : ℕ). is_in set t && attacks men s t in
+    same_truth (is_in mask s) (is_in from s && list_any test squares)
+    (λ e. let f = (m s low).0 (has_bit mask s e) in both (is_in from s) (list_any test squares) (bit_in from s f.0)
+    (some_square test f.1.0 f.1.1 (both (is_in set f.1.0) (attacks men s f.1.0) (bit_in set f.1.0 f.1.2) f.1.3)))
+    (λ e. let f = square_found test (right (is_in from s) (list_any test squares) e) in
+    let low' : f.k < 64 = omega (arith, f.high) in
+    bit_in mask s ((m s low).1 (
+      has_bit from s (left (is_in from s) (list_any test squares) e),
+      (f.k, low', has_bit set f.k (left (is_in set f.k) (attacks men s f.k) f.passes), right (is_in set f.k) (attacks men s f.k) f.passes),
+    )))
+
+pub among_is : (men : List Man) (from set mask : ℕ) → mask < 2 ^ 64 → IsSetOf mask (λ q. Has from q × IsAttacker men set q)
+    → is_in mask ≡ (λ s. nat_lt s 64 && (is_in from s && list_any (λ t. is_in set t && attacks men s t) squares))
+among_is men from set mask fits m = guarded (is_in mask) (λ s. is_in from s && list_any (λ t. is_in set t && attacks men s t) squares)
+    (λ s low. among_here men from set mask s low m) (λ s high. above mask s fits high)
 
 between_here : (a b mask s : ℕ) → s < 64 → IsSetOf mask (IsBetween a b) → is_in mask s ≡ list_any (λ f. is_in a f && list_any (λ t. is_in b t && lies_between f t s) squares) squares
 between_here a b mask s low m =

@@ -75,7 +75,8 @@ impl Names {
         Ok(inner)
     }
 
-    fn copy(&self, alloc: Global) -> Result<Names, NoMemory>
+    /// The same bindings.
+    pub fn copy(&self, alloc: Global) -> Result<Names, NoMemory>
         ensures { IfOk result (λ same. same ≡ self.now) }
     {
         let mut copied = Names::new(alloc);

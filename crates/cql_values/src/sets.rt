@@ -1,6 +1,5 @@
 //! Sets of squares that are made of sets: bit k is square k.
 ghost use Rattle.std.specs.Prelude.{◌≡◌, ◌&&◌};
-ghost use Rattle.cq_bits.specs.Sets.{Has, IsSetOf, IsAttacked, IsAttacker};
 ghost use Rattle.std.specs.List.{list_any, list_all};
 ghost use Rattle.cq_geometry.specs.Squares.{squares};
 ghost use Rattle.cq_position.specs.Attacks.{attacks};
@@ -11,16 +10,12 @@ ghost use Rattle.cql_values.specs.Shown.{meant};
 ghost use Rattle.cql_values.specs.Squares.{is_step_to};
 
 use crate::value::Value;
-use cq_bits::{attacked, attackers, between_all};
+use cq_bits::{attacked, attackers_among, between_all};
 use cq_geometry::{Compass, Square, toward};
-use cq_position::{Position, attacks_from};
-use cq_sets::lowest_square;
+use cq_position::Position;
 
 /// The light squares: b1, d1, f1, h1, a2 and so on.
 const LIGHT: u64 = 0x55aa_55aa_55aa_55aa;
-
-/// How many men are asked one by one what they attack.
-const FEW: u32 = 3;
 
 /// The squares that are not in a set.
 pub fn complement(x: Value) -> Value
@@ -79,56 +74,11 @@ pub fn attacking(position: &Position, x: Value, y: Value) -> Value
     Value::Set(attackers_among(position, x.squares(), y.squares()))
 }
 
-// The squares of a set on which a man stands that attacks a square of another: each man is asked, or each square, whichever are fewer.
-fn attackers_among(position: &Position, from: u64, to: u64) -> u64
-    ensures { IsSetOf result (λ square. Has from square × IsAttacker position.now.men to square) }
-{
-    if from.count_ones() > to.count_ones() {
-        return from & attackers(position, to);
-    }
-    let mut found = 0;
-    let mut left = from;
-    while left != 0 {
-        let square = lowest_square(left);
-        left &= !(1 << square.number());
-        found |= square_if_attacking(position, square, to);
-    }
-    found
-}
-
-// A square, if the man on it attacks a square of a set.
-fn square_if_attacking(position: &Position, square: Square, to: u64) -> u64
-    ensures { IsSetOf result (λ from. (from ≡ square) × IsAttacker position.now.men to square) }
-{
-    if attacks_from(position, square) & to != 0 {
-        1 << square.number()
-    } else {
-        0
-    }
-}
-
 /// The squares of the first set that a man on a square of the second attacks.
 pub fn attacked_by(position: &Position, x: Value, y: Value) -> Value
     ensures { meant result ≡ spec.related (λ s t. attacks position.now.men t s) (meant x) (meant y) }
 {
-    Value::Set(x.squares() & attacked_from(position, y.squares()))
-}
-
-// The squares that the men on the squares of a set attack: where they are few, they are asked one by one.
-fn attacked_from(position: &Position, from: u64) -> u64
-    ensures { IsSetOf result (IsAttacked position.now.men from) }
-{
-    if from.count_ones() > FEW {
-        return attacked(position, from);
-    }
-    let mut found = 0;
-    let mut left = from;
-    while left != 0 {
-        let square = lowest_square(left);
-        left &= !(1 << square.number());
-        found |= attacks_from(position, square);
-    }
-    found
+    Value::Set(x.squares() & attacked(position, y.squares()))
 }
 
 /// The squares strictly between a square of the one and a square of the other set, of one rank, file or diagonal.

@@ -5,7 +5,7 @@ ghost use Rattle.cq_position.specs.Games.{IsTree};
 ghost use Rattle.cql_syntax.specs.Meaning as meaning;
 ghost use Rattle.cql_syntax.specs.TreeOf.{filter_tree, filters_tree, terms_tree};
 ghost use Rattle.cql_syntax.specs.Values as spec;
-ghost use Rattle.cql_eval.specs.Classes.{all_classes, is_of, is_before, is_so_if, are_so, cost_if, cost_of, IsLeft};
+ghost use Rattle.cql_eval.specs.Classes.{is_of, is_before, is_so_if, are_so, cost_if, cost_of, IsLeft};
 ghost use Rattle.cql_eval.specs.Columns.{AreAsked, AreTruths, Where, all_shown, terms_shown};
 ghost use Rattle.cql_eval.specs.Costs.{filters_cost, terms_cost, searched_len};
 ghost use Rattle.cql_eval.specs.Ever.{AreEver};
@@ -13,7 +13,7 @@ ghost use Rattle.cql_eval.specs.FlatTrees.{IsFlat, AreFlat, AreFlatTerms};
 ghost use Rattle.cql_eval.specs.Scopes.{tree_in, values_in};
 
 use super::evaluate;
-use crate::ever::{Ever, evers_of, holds_nowhere, is_large};
+use crate::ever::{Asking, evers_of, fails_anyway};
 use crate::filter_column::FilterColumn;
 use crate::narrow::narrow;
 use crate::nodes::same;
@@ -66,108 +66,6 @@ pub(super) fn none_holds<L: Ledger>(
     Ok(left)
 }
 
-/// The same for the members of a family. Where they are many, those that hold nowhere, as their designators tell, are not asked.
-#[cycle(evaluate)]
-pub(super) fn no_member_holds<L: Ledger>(
-    alloc: Global,
-    members: &Filters,
-    scope: &Scope,
-    live: &[bool],
-    steps: &mut Steps<L>,
-) -> Result<Vec<bool>, NoMemory>
-    requires tree { IsTree scope.now.game.now.nodes }
-    requires asked { AreAsked (tree_in scope.now) live.now }
-    requires flat { AreFlat (filters_tree members.now) }
-    ensures value { IfOk result (λ truths. AreTruths truths.items live.now (λ n. spec.as_truth (not
-        (list_any spec.holds (values_in scope.now (filters_tree members.now) n))))) }
-    ensures cost { steps.new ≤ steps.old + filters_cost (searched_len (tree_in scope.now)) (filters_tree members.now) }
-    ensures rises { steps.old ≤ steps.new }
-{
-    if is_large(members) {
-        let left = left_by_each(alloc, members, scope, live, steps)?;
-        return Ok(left);
-    }
-    let truths = none_holds(alloc, members, scope, live, steps)?;
-    Ok(truths)
-}
-
-// Of the nodes of a set those at which none of some filters holds.
-#[cycle(evaluate)]
-fn left_by_each<L: Ledger>(
-    alloc: Global,
-    filters: &Filters,
-    scope: &Scope,
-    live: &[bool],
-    steps: &mut Steps<L>,
-) -> Result<Vec<bool>, NoMemory>
-    requires tree { IsTree scope.now.game.now.nodes }
-    requires asked { AreAsked (tree_in scope.now) live.now }
-    requires flat { AreFlat (filters_tree filters.now) }
-    ensures left { IfOk result (λ left. IsLeft (tree_in scope.now) live.now
-        (are_so (is_before all_classes) (tree_in scope.now) scope.now.names.now false (filters_tree filters.now)) left.items) }
-    ensures cost { steps.new ≤ steps.old + cost_of (is_before all_classes) (searched_len (tree_in scope.now)) (filters_tree filters.now) }
-    ensures rises { steps.old ≤ steps.new }
-{
-    let evers = evers_of(alloc, filters, scope, live)?;
-    let mut left = same(alloc, live)?;
-    ask_each(alloc, &evers, filters, scope, &mut left, steps)?;
-    Ok(left)
-}
-
-// Takes the nodes out of a set at which one of some filters holds.
-#[cycle(evaluate)]
-fn ask_each<L: Ledger>(
-    alloc: Global,
-    evers: &[Ever],
-    filters: &Filters,
-    scope: &Scope,
-    left: &mut [bool],
-    steps: &mut Steps<L>,
-) -> Result<(), NoMemory>
-    requires tree { IsTree scope.now.game.now.nodes }
-    requires asked { AreAsked (tree_in scope.now) left.old }
-    requires evers { AreEver (tree_in scope.now) left.old evers.now }
-    requires flat { AreFlat (filters_tree filters.now) }
-    ensures len { length left.new ≡ length left.old }
-    ensures left { OnOk result (IsLeft (tree_in scope.now) left.old
-        (are_so (is_before all_classes) (tree_in scope.now) scope.now.names.now false (filters_tree filters.now)) left.new) }
-    ensures cost { steps.new ≤ steps.old + cost_of (is_before all_classes) (searched_len (tree_in scope.now)) (filters_tree filters.now) }
-    ensures rises { steps.old ≤ steps.new }
-{
-    for filter in filters.as_slice() {
-        ask_unless(alloc, evers, filter, scope, left, steps)?;
-    }
-    Ok(())
-}
-
-// The same for one filter, unless it holds nowhere.
-#[cycle(evaluate)]
-fn ask_unless<L: Ledger>(
-    alloc: Global,
-    evers: &[Ever],
-    filter: &Filter,
-    scope: &Scope,
-    left: &mut [bool],
-    steps: &mut Steps<L>,
-) -> Result<(), NoMemory>
-    requires tree { IsTree scope.now.game.now.nodes }
-    requires asked { AreAsked (tree_in scope.now) left.old }
-    requires evers { AreEver (tree_in scope.now) left.old evers.now }
-    requires flat { IsFlat (filter_tree filter.now) }
-    ensures len { length left.new ≡ length left.old }
-    ensures left { OnOk result (IsLeft (tree_in scope.now) left.old
-        (is_so_if (is_before all_classes) (tree_in scope.now) scope.now.names.now false (filter_tree filter.now)) left.new) }
-    ensures cost { steps.new ≤ steps.old + cost_if (is_before all_classes) (searched_len (tree_in scope.now)) (filter_tree filter.now) }
-    ensures rises { steps.old ≤ steps.new }
-{
-    if holds_nowhere(evers, filter) {
-        return Ok(());
-    }
-    let column = evaluate(alloc, filter, scope, left, steps)?;
-    narrow(left, &column, false);
-    Ok(())
-}
-
 /// Of the nodes of a set those at which each filter of a class before `past` holds, or each doesn't: class by class, each filter where
 /// those before it leave something open.
 #[cycle(evaluate)]
@@ -189,9 +87,12 @@ pub(crate) fn left_by<L: Ledger>(
         + cost_of (is_before past) (searched_len (tree_in scope.now)) (filters_tree filters.now) }
     ensures rises { steps.old ≤ steps.new }
 {
+    let evers = evers_of(alloc, want, filters, scope, live)?;
+    let evers = evers.as_slice();
+    let asking = Asking { want, evers };
     let mut left = same(alloc, live)?;
     for class in 0..past {
-        ask_class(alloc, class, want, filters, scope, &mut left, steps)?;
+        ask_class(alloc, class, &asking, filters, scope, &mut left, steps)?;
     }
     Ok(left)
 }
@@ -201,7 +102,7 @@ pub(crate) fn left_by<L: Ledger>(
 fn ask_class<L: Ledger>(
     alloc: Global,
     class: u32,
-    want: bool,
+    asking: &Asking,
     filters: &Filters,
     scope: &Scope,
     left: &mut [bool],
@@ -209,16 +110,17 @@ fn ask_class<L: Ledger>(
 ) -> Result<(), NoMemory>
     requires tree { IsTree scope.now.game.now.nodes }
     requires asked { AreAsked (tree_in scope.now) left.old }
+    requires evers { AreEver (tree_in scope.now) left.old asking.now.evers.now }
     requires flat { AreFlat (filters_tree filters.now) }
     ensures len { length left.new ≡ length left.old }
     ensures left { OnOk result (IsLeft (tree_in scope.now) left.old
-        (are_so (is_of class) (tree_in scope.now) scope.now.names.now want (filters_tree filters.now)) left.new) }
+        (are_so (is_of class) (tree_in scope.now) scope.now.names.now asking.now.want (filters_tree filters.now)) left.new) }
     ensures cost { steps.new ≤ steps.old
         + cost_of (is_of class) (searched_len (tree_in scope.now)) (filters_tree filters.now) }
     ensures rises { steps.old ≤ steps.new }
 {
     for filter in filters.as_slice() {
-        ask_if(alloc, class, want, filter, scope, left, steps)?;
+        ask_if(alloc, class, asking, filter, scope, left, steps)?;
     }
     Ok(())
 }
@@ -228,7 +130,7 @@ fn ask_class<L: Ledger>(
 fn ask_if<L: Ledger>(
     alloc: Global,
     class: u32,
-    want: bool,
+    asking: &Asking,
     filter: &Filter,
     scope: &Scope,
     left: &mut [bool],
@@ -236,10 +138,11 @@ fn ask_if<L: Ledger>(
 ) -> Result<(), NoMemory>
     requires tree { IsTree scope.now.game.now.nodes }
     requires asked { AreAsked (tree_in scope.now) left.old }
+    requires evers { AreEver (tree_in scope.now) left.old asking.now.evers.now }
     requires flat { IsFlat (filter_tree filter.now) }
     ensures len { length left.new ≡ length left.old }
     ensures left { OnOk result (IsLeft (tree_in scope.now) left.old
-        (is_so_if (is_of class) (tree_in scope.now) scope.now.names.now want (filter_tree filter.now)) left.new) }
+        (is_so_if (is_of class) (tree_in scope.now) scope.now.names.now asking.now.want (filter_tree filter.now)) left.new) }
     ensures cost { steps.new ≤ steps.old
         + cost_if (is_of class) (searched_len (tree_in scope.now)) (filter_tree filter.now) }
     ensures rises { steps.old ≤ steps.new }
@@ -247,8 +150,11 @@ fn ask_if<L: Ledger>(
     if !is_of_class(filter, class) {
         return Ok(());
     }
+    if fails_anyway(asking, filter) {
+        return Ok(());
+    }
     let column = evaluate(alloc, filter, scope, left, steps)?;
-    narrow(left, &column, want);
+    narrow(left, &column, asking.want);
     Ok(())
 }
 

@@ -15,8 +15,7 @@ use super::trial::Trial;
 use crate::covers::{cut_moves, cut_where_fails, with_squares};
 use crate::filter_column::FilterColumn;
 use crate::free::{is_free_and_written, is_own_part};
-use crate::moves::moves_met;
-use crate::scope::Scope;
+use crate::moves::{PartColumns, moves_met};
 use crate::tree::befores;
 use cq_outside::{NoMemory, Steps};
 use cql_syntax::{Filter, Played};
@@ -76,25 +75,16 @@ fn cover_free_parts<L: Ledger>(
     let some = some.as_slice();
     let wide = befores(alloc, trial.scope, some)?;
     let wide = wide.as_slice();
-    let origin = free_column(
-        alloc,
-        trial.opened,
-        &played.origin,
-        trial.scope,
-        wide,
-        steps,
-    )?;
-    let goal = free_column(alloc, trial.opened, &played.goal, trial.scope, some, steps)?;
-    let taken = free_column(alloc, trial.opened, &played.taken, trial.scope, wide, steps)?;
-    let promoted = free_column(
-        alloc,
-        trial.opened,
-        &played.promoted,
-        trial.scope,
-        some,
-        steps,
-    )?;
-    let met = moves_met(alloc, trial.scope, &origin, &goal, &taken, &promoted, some)?;
+    let origin = free_column(alloc, trial, &played.origin, wide, steps)?;
+    let goal = free_column(alloc, trial, &played.goal, some, steps)?;
+    let taken = free_column(alloc, trial, &played.taken, wide, steps)?;
+    let promoted = free_column(alloc, trial, &played.promoted, some, steps)?;
+    let parts = PartColumns {
+        origin,
+        taken,
+        promoted,
+    };
+    let met = moves_met(alloc, trial.scope, &parts, &goal, some)?;
     cut_where_fails(sets, some, &FilterColumn::Truths(met));
     Ok(())
 }
@@ -107,25 +97,25 @@ fn asks_without(opened: &Names, played: &Played) -> bool {
         || is_free_and_written(opened, &played.promoted)
 }
 
-// The column of a part in which no open name stands; of another part nothing is asked.
+// The column at these nodes of a part in which no open name stands; of another part nothing is asked.
 #[cycle(evaluate)]
 fn free_column<L: Ledger>(
     alloc: Global,
-    opened: &Names,
+    trial: &Trial,
     written: &Option<Box<Filter>>,
-    scope: &Scope,
     live: &[bool],
     steps: &mut Steps<L>,
 ) -> Result<Option<FilterColumn>, NoMemory>
-    requires tree { IsTree scope.now.game.now.nodes }
-    requires asked { AreAsked (tree_in scope.now) live.now }
+    requires tree { IsTree trial.now.scope.now.game.now.nodes }
+    requires asked { AreAsked (tree_in trial.now.scope.now) live.now }
     requires flat { IsFlatPart (written_tree written.now) }
-    ensures asks { IfOk result (AsksNoMore (tree_in scope.now) opened.now scope.now.names.now (written_tree written.now) live.now) }
+    ensures asks { IfOk result (AsksNoMore (tree_in trial.now.scope.now) trial.now.opened.now trial.now.scope.now.names.now
+        (written_tree written.now) live.now) }
     ensures cost { steps.new ≡ steps.old }
 {
-    if !is_free_and_written(opened, written) {
+    if !is_free_and_written(trial.opened, written) {
         return Ok(None);
     }
-    let column = written_column(alloc, written, scope, live, steps)?;
+    let column = written_column(alloc, written, trial.scope, live, steps)?;
     Ok(column)
 }

@@ -15,7 +15,7 @@ use super::evaluate;
 use super::trial::Trial;
 use crate::covers::with_squares;
 use crate::free::{is_free, is_other};
-use crate::pairs::{Paired, asks_pair, cut_paired};
+use crate::pairs::{PairTrial, asks_pair, cut_paired};
 use cq_geometry::Square;
 use cq_outside::{NoMemory, Steps};
 use cql_syntax::{Filter, Form};
@@ -116,7 +116,7 @@ fn cover_pair<L: Ledger>(
     let some = with_squares(alloc, trial.scope, trial.live, sets)?;
     let some = some.as_slice();
     let column = evaluate(alloc, squares, trial.scope, some, steps)?;
-    let paired = Paired {
+    let paired = PairTrial {
         scope: trial.scope,
         live: some,
         name: trial.name,

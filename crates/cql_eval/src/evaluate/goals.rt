@@ -9,14 +9,12 @@ ghost use Rattle.cql_eval.specs.Columns.{AreAsked, AreTruths, shown};
 ghost use Rattle.cql_eval.specs.FlatTrees.{IsFlat, AreFlat, IsFlatMove};
 ghost use Rattle.cql_eval.specs.Scopes.{tree_in, values_with};
 
-use super::played::written_column;
-use super::squares::Binding;
+use super::played::part_columns;
+use crate::binding::Binding;
 use crate::covers::sets_of;
-use crate::filter_column::FilterColumn;
 use crate::free::is_all;
 use crate::moved::{asks_goal, moves_to};
-use crate::scope::Scope;
-use crate::tree::befores;
+use crate::moves::promoting;
 use cq_outside::{NoMemory, Steps};
 use cql_syntax::{Chain, Filter, Filters, Form, Played};
 use cql_values::names::Names;
@@ -90,7 +88,7 @@ fn goal_in<L: Ledger>(
     Ok(None)
 }
 
-// Of the move: whether it went to a square of the node's set.
+// Of the move: whether it went to a square of the node's set. Where a promotion is asked for, no other move is looked at.
 #[cycle(evaluate)]
 #[tactic(auto, unfolding(cql_syntax::specs::Meaning::value, crate::specs::FlatTrees::unflat))]
 fn goal_met<L: Ledger>(
@@ -115,20 +113,11 @@ fn goal_met<L: Ledger>(
     if !asks_goal(opened, binding.name, played) {
         return Ok(None);
     }
-    let wide = befores(alloc, binding.scope, live)?;
-    let wide = wide.as_slice();
-    let origin = written_column(alloc, &played.origin, binding.scope, wide, steps)?;
-    let taken = written_column(alloc, &played.taken, binding.scope, wide, steps)?;
-    let promoted = written_column(alloc, &played.promoted, binding.scope, live, steps)?;
-    let sets = sets_of(alloc, live, binding.squares)?;
-    let truths = moves_to(
-        alloc,
-        binding.scope,
-        &origin,
-        &sets,
-        &taken,
-        &promoted,
-        live,
-    )?;
+    let promotes = played.promoted.is_some();
+    let some = promoting(alloc, binding.scope, promotes, live)?;
+    let some = some.as_slice();
+    let parts = part_columns(alloc, played, binding.scope, some, steps)?;
+    let sets = sets_of(alloc, some, binding.squares)?;
+    let truths = moves_to(alloc, binding.scope, &parts, &sets, some)?;
     Ok(Some(truths))
 }

@@ -30,7 +30,7 @@ use std::sync::ledger::Ledger;
 
 /// Where a line is asked, and which way it goes.
 #[derive(Clone, Copy)]
-struct Way<'a> {
+struct LineWay<'a> {
     scope: &'a Scope<'a>,
     /// From each node up.
     back: bool,
@@ -64,7 +64,7 @@ pub(super) fn line_numbers<L: Ledger>(
 {
     prove!(has_flat_parts(line));
     let parts = &line.parts;
-    let way = Way {
+    let way = LineWay {
         scope: &*scope,
         back: line.back,
     };
@@ -100,7 +100,7 @@ fn has_flat_parts(line: &Line) -> bool
 fn filled_row<L: Ledger>(
     alloc: Global,
     parts: &Constituents,
-    way: &Way,
+    way: &LineWay,
     steps: &mut Steps<L>,
 ) -> Result<Row<L>, NoMemory>
     requires tree { IsTree way.now.scope.now.game.now.nodes }
@@ -132,7 +132,7 @@ fn put_row<L: Ledger>(
     alloc: Global,
     parts: &Constituents,
     first: u32,
-    way: &Way,
+    way: &LineWay,
     live: &[bool],
     row: &mut Row<L>,
     steps: &mut Steps<L>,
@@ -166,7 +166,7 @@ fn put_part<L: Ledger>(
     alloc: Global,
     part: &Constituent,
     first: u32,
-    way: &Way,
+    way: &LineWay,
     starts: &mut Vec<bool>,
     row: &mut Row<L>,
     steps: &mut Steps<L>,
@@ -199,7 +199,7 @@ fn put_marked<L: Ledger>(
     alloc: Global,
     part: &Constituent,
     first: u32,
-    way: &Way,
+    way: &LineWay,
     starts: &mut Vec<bool>,
     row: &mut Row<L>,
     steps: &mut Steps<L>,
@@ -262,7 +262,7 @@ fn put_once<L: Ledger>(
     alloc: Global,
     body: &Body,
     first: u32,
-    way: &Way,
+    way: &LineWay,
     starts: &mut Vec<bool>,
     row: &mut Row<L>,
     steps: &mut Steps<L>,
@@ -301,7 +301,7 @@ fn put_atom_once<L: Ledger>(
     alloc: Global,
     filter: &Filter,
     first: u32,
-    way: &Way,
+    way: &LineWay,
     live: &[bool],
     row: &mut Row<L>,
     steps: &mut Steps<L>,
@@ -340,7 +340,7 @@ fn put_wherever<L: Ledger>(
     alloc: Global,
     body: &Body,
     first: u32,
-    way: &Way,
+    way: &LineWay,
     live: &[bool],
     row: &mut Row<L>,
     steps: &mut Steps<L>,

@@ -7,11 +7,12 @@ ghost use Rattle.cql_syntax.specs.Values.{as_truth};
 ghost use Rattle.cql_eval.specs.Columns.{AreAsked, AreTruths, Where, shown};
 ghost use Rattle.cql_eval.specs.Costs.{played_cost, written_cost, searched_len};
 ghost use Rattle.cql_eval.specs.FlatTrees.{IsFlatMove, IsFlatPart};
+ghost use Rattle.cql_eval.specs.Moved.{ArePartColumns, parts_cost};
 ghost use Rattle.cql_eval.specs.Scopes.{tree_in};
 
 use super::evaluate;
 use crate::filter_column::FilterColumn;
-use crate::moves::{moves_met, promoting};
+use crate::moves::{PartColumns, moves_met, promoting};
 use crate::scope::Scope;
 use crate::tree::befores;
 use cq_outside::{NoMemory, Steps};
@@ -41,13 +42,39 @@ pub(super) fn played_truths<L: Ledger>(
     let promotes = played.promoted.is_some();
     let some = promoting(alloc, scope, promotes, live)?;
     let some = some.as_slice();
-    let wide = befores(alloc, scope, some)?;
-    let origin = written_column(alloc, &played.origin, scope, &wide, steps)?;
+    let parts = part_columns(alloc, played, scope, some, steps)?;
     let goal = written_column(alloc, &played.goal, scope, some, steps)?;
-    let taken = written_column(alloc, &played.taken, scope, &wide, steps)?;
-    let promoted = written_column(alloc, &played.promoted, scope, some, steps)?;
-    let truths = moves_met(alloc, scope, &origin, &goal, &taken, &promoted, some)?;
+    let truths = moves_met(alloc, scope, &parts, &goal, some)?;
     Ok(truths)
+}
+
+/// The columns of the parts of a move, its goal aside, for the moves that led to the nodes of a set.
+#[cycle(evaluate)]
+#[tactic(auto, unfolding(cql_syntax::specs::Meaning::value, crate::specs::Costs::filter_cost, crate::specs::FlatTrees::unflat))]
+pub(super) fn part_columns<L: Ledger>(
+    alloc: Global,
+    played: &Played,
+    scope: &Scope,
+    live: &[bool],
+    steps: &mut Steps<L>,
+) -> Result<PartColumns, NoMemory>
+    requires tree { IsTree scope.now.game.now.nodes }
+    requires asked { AreAsked (tree_in scope.now) live.now }
+    requires flat { IsFlatMove (played_tree played.now) }
+    ensures value { IfOk result (ArePartColumns (tree_in scope.now) scope.now.names.now played.now live.now) }
+    ensures cost { steps.new ≤ steps.old + parts_cost (searched_len (tree_in scope.now)) played.now }
+    ensures rises { steps.old ≤ steps.new }
+{
+    let wide = befores(alloc, scope, live)?;
+    let wide = wide.as_slice();
+    let origin = written_column(alloc, &played.origin, scope, wide, steps)?;
+    let taken = written_column(alloc, &played.taken, scope, wide, steps)?;
+    let promoted = written_column(alloc, &played.promoted, scope, live, steps)?;
+    Ok(PartColumns {
+        origin,
+        taken,
+        promoted,
+    })
 }
 
 /// The column of a part that is written.

@@ -16,28 +16,21 @@ use super::evaluate;
 use super::goals::goal_truths;
 use super::trial::Trial;
 use crate::attacks::{attack_truths, attacked_part};
+use crate::binding::Binding;
 use crate::covers::sets_of;
 use crate::filter_column::FilterColumn;
 use crate::free::only_name;
+use crate::here::truths_here;
 use crate::nodes::{any_live, same};
 use crate::scope::Scope;
 use crate::squares::{decided, having, unsettled, wanted_squares};
 use cq_geometry::Square;
 use cq_outside::{NoMemory, Steps};
 use cql_syntax::Filter;
+use cql_values::names::Names;
 use cql_values::sets::has_square;
 use std::alloc::Global;
 use std::sync::ledger::Ledger;
-
-/// Where a name is bound to the squares of a column, one by one.
-#[derive(Clone, Copy)]
-pub(crate) struct Binding<'a> {
-    pub(crate) scope: &'a Scope<'a>,
-    /// Whether what is asked must hold of every square, or of some.
-    pub(crate) every: bool,
-    pub(crate) name: &'a [u8],
-    pub(crate) squares: &'a FilterColumn,
-}
 
 /// Whether what is asked of a square holds of every square of a set, or of some: of some, where only those squares are tried with which it
 /// may hold.
@@ -66,7 +59,7 @@ pub(super) fn asked_truths<L: Ledger>(
     if let Some(truths) = at_once {
         return Ok(truths);
     }
-    let sets = covered_sets(alloc, binding, asked, live, steps)?;
+    let sets = covered_sets(alloc, &opened, binding, asked, live, steps)?;
     let worth = FilterColumn::Sets(sets);
     let among = Binding {
         squares: &worth,
@@ -80,6 +73,7 @@ pub(super) fn asked_truths<L: Ledger>(
 #[cycle(evaluate)]
 fn covered_sets<L: Ledger>(
     alloc: Global,
+    opened: &Names,
     binding: &Binding,
     asked: &Filter,
     live: &[bool],
@@ -88,15 +82,15 @@ fn covered_sets<L: Ledger>(
     requires tree { IsTree binding.now.scope.now.game.now.nodes }
     requires asked { AreAsked (tree_in binding.now.scope.now) live.now }
     requires flat { IsFlat (filter_tree asked.now) }
+    requires opened { opened.now ≡ (binding.now.name.now, 0) ∷ [] }
     ensures worth { IfOk result (λ sets. AreWorthTrying (shown binding.now.squares.now) live.now
         (holds_with binding.now (filter_tree asked.now)) sets.items) }
     ensures cost { steps.new ≡ steps.old }
 {
     let mut sets = sets_of(alloc, live, binding.squares)?;
-    let opened = only_name(alloc, binding.name)?;
     let trial = Trial {
         scope: binding.scope,
-        opened: &opened,
+        opened,
         name: binding.name,
         live,
     };
@@ -104,7 +98,8 @@ fn covered_sets<L: Ledger>(
     Ok(sets)
 }
 
-/// Whether what is asked of a square holds of every square of a set, or of some.
+/// Whether what is asked of a square holds of every square of a set, or of some: at all nodes at once or node by node, where it is answered
+/// so, and else square by square.
 #[cycle(evaluate)]
 fn square_truths<L: Ledger>(
     alloc: Global,
@@ -124,6 +119,10 @@ fn square_truths<L: Ledger>(
     match attacked_part(binding.every, binding.name, asked) {
         Some(d) => return attack_truths(alloc, binding.squares, d, binding.scope, live),
         None => {}
+    }
+    let here = truths_here(alloc, binding, asked, live)?;
+    if let Some(truths) = here {
+        return Ok(truths);
     }
     let mut left = same(alloc, live)?;
     let wanted = wanted_squares(live, binding.squares);

@@ -3,9 +3,9 @@ mod Lines
 mod Squares
 mod Covers
 mod Goals
-use Rattle.std.proofs.Common.{[], ◌∷◌, ◌∙◌, ap, ap₂, sym, subst, arith, length}
+use Rattle.std.proofs.Common.{[], ◌∷◌, ◌∙◌, ap, ap₂, sym, subst}
 use Rattle.std.specs.Prelude.{IfOk}
-use Rattle.cql_syntax.specs.Meaning.{value}
+use Rattle.cql_syntax.specs.Meaning.{value, before}
 use Rattle.cql_syntax.specs.TreeOf.{filter_tree, form_tree, filters_tree}
 use Rattle.cql_syntax.specs.Trees.{filter_at, unary, square, if_}
 use Rattle.cql_syntax.specs.Values.{holds, square_of}
@@ -14,11 +14,11 @@ use Rattle.cql_values.proofs.Evaluated.{word_here}
 use Rattle.cql_eval.specs.Columns.{IsColumn, shown}
 use Rattle.cql_eval.proofs.Chains.{if_open, unary_form, square_form, if_form}
 use Rattle.cql_eval.specs.Promoting.{ArePromoting}
-use Rattle.cql_eval.proofs.Filling.{live_below}
 use Rattle.cql_eval.proofs.Lives.{none_live}
-use Rattle.cql_eval.proofs.FindLaw.{find_is}
+use Rattle.cql_eval.proofs.FoundLaw.{elsewhere_is}
 use Rattle.cql_eval.proofs.FlatLaw.{no_family}
-use Rattle.cql_eval.proofs.UnaryLaws.{find_up_is, child_holds_is, parent_holds_is}
+use Rattle.cql_eval.specs.Elsewhere.{asks_elsewhere}
+use Rattle.cql_eval.specs.Trees.{AreBeforeLive}
 use Rattle.cql_eval.proofs.FormLaws.{chain_form, any_form}
 use Rattle.cql_eval.proofs.MoveLaw.{met_is, move_is, part_is, no_part_is}
 use Rattle.cql_eval.proofs.evaluate.+evaluate.Answers.Chains as chains
@@ -76,6 +76,9 @@ chains::ask_class-returns-in_err-ask_if-clause-cost = chains.chains::ask_class-r
 pub chains::ask_if-returns-then-not-is_of_class-clause-left : goal.chains::ask_if-returns-then-not-is_of_class-clause-left
 chains::ask_if-returns-then-not-is_of_class-clause-left = chains.chains::ask_if-returns-then-not-is_of_class-clause-left
 
+pub chains::ask_if-returns-then-fails_anyway-clause-left : goal.chains::ask_if-returns-then-fails_anyway-clause-left
+chains::ask_if-returns-then-fails_anyway-clause-left = chains.chains::ask_if-returns-then-fails_anyway-clause-left
+
 pub chains::ask_if-returns-clause-left : goal.chains::ask_if-returns-clause-left
 chains::ask_if-returns-clause-left = chains.chains::ask_if-returns-clause-left
 
@@ -84,39 +87,6 @@ chains::ask_if-returns-clause-cost = chains.chains::ask_if-returns-clause-cost
 
 pub chains::ask_if-returns-in_err-column-clause-cost : goal.chains::ask_if-returns-in_err-column-clause-cost
 chains::ask_if-returns-in_err-column-clause-cost = chains.chains::ask_if-returns-in_err-column-clause-cost
-
-pub chains::no_member_holds-returns-then-is_large-clause-value : goal.chains::no_member_holds-returns-then-is_large-clause-value
-chains::no_member_holds-returns-then-is_large-clause-value = chains.chains::no_member_holds-returns-then-is_large-clause-value
-
-pub chains::no_member_holds-returns-then-is_large-clause-cost : goal.chains::no_member_holds-returns-then-is_large-clause-cost
-chains::no_member_holds-returns-then-is_large-clause-cost = chains.chains::no_member_holds-returns-then-is_large-clause-cost
-
-pub chains::no_member_holds-returns-in_err-left-clause-cost : goal.chains::no_member_holds-returns-in_err-left-clause-cost
-chains::no_member_holds-returns-in_err-left-clause-cost = chains.chains::no_member_holds-returns-in_err-left-clause-cost
-
-pub chains::ask_each-loop-filter-init : goal.chains::ask_each-loop-filter-init
-chains::ask_each-loop-filter-init = chains.chains::ask_each-loop-filter-init
-
-pub chains::ask_each-loop-filter-preserved : goal.chains::ask_each-loop-filter-preserved
-chains::ask_each-loop-filter-preserved = chains.chains::ask_each-loop-filter-preserved
-
-pub chains::ask_each-returns-clause-left : goal.chains::ask_each-returns-clause-left
-chains::ask_each-returns-clause-left = chains.chains::ask_each-returns-clause-left
-
-pub chains::ask_each-returns-in_err-ask_unless-clause-cost : goal.chains::ask_each-returns-in_err-ask_unless-clause-cost
-chains::ask_each-returns-in_err-ask_unless-clause-cost = chains.chains::ask_each-returns-in_err-ask_unless-clause-cost
-
-pub chains::ask_unless-returns-then-holds_nowhere-clause-left : goal.chains::ask_unless-returns-then-holds_nowhere-clause-left
-chains::ask_unless-returns-then-holds_nowhere-clause-left = chains.chains::ask_unless-returns-then-holds_nowhere-clause-left
-
-pub chains::ask_unless-returns-clause-left : goal.chains::ask_unless-returns-clause-left
-chains::ask_unless-returns-clause-left = chains.chains::ask_unless-returns-clause-left
-
-pub chains::ask_unless-returns-clause-cost : goal.chains::ask_unless-returns-clause-cost
-chains::ask_unless-returns-clause-cost = chains.chains::ask_unless-returns-clause-cost
-
-pub chains::ask_unless-returns-in_err-column-clause-cost : goal.chains::ask_unless-returns-in_err-column-clause-cost
-chains::ask_unless-returns-in_err-column-clause-cost = chains.chains::ask_unless-returns-in_err-column-clause-cost
 
 pub squares::square_truths-loop-number-init : goal.squares::square_truths-loop-number-init
 squares::square_truths-loop-number-init = squares.squares::square_truths-loop-number-init
@@ -139,21 +109,19 @@ squares::square_turn-returns-then-not-any_live-clause-value = squares.squares::s
 pub squares::square_turn-returns-then-not-has_square-clause-value : goal.squares::square_turn-returns-then-not-has_square-clause-value
 squares::square_turn-returns-then-not-has_square-clause-value = squares.squares::square_turn-returns-then-not-has_square-clause-value
 
-pub unary_column-returns-in_ok-set-in-Find-clause-value : goal.unary_column-returns-in_ok-set-in-Find-clause-value
-unary_column-returns-in_ok-set-in-Find-clause-value g t c = rw c.in-Find.is (λ n l.
-    find_is (tree_in c.args.scope.now) c.args.live.now c.in_ok-wide-in-Find.wide.items c.deref.result.now
-    c.deref-in-Find.result.now c.in_ok-set-in-Find.set.items c.raised.result.items c.in_ok-column-in-Find.column
-    (value_in c.args.scope.now
-    (filter_tree c.args.part.now)) c.in_ok-wide-in-Find.ensures c.deref.ensures.value c.deref-in-Find.ensures.value
-    c.in_ok-column-in-Find.ensures.value c.in_ok-set-in-Find.ensures c.raised.ensures n l)
+pub elsewhere_column-returns-clause-value : goal.elsewhere_column-returns-clause-value
+elsewhere_column-returns-clause-value g t c = λ n l.
+    elsewhere_is (tree_in c.args.scope.now) c.args.word c.args.live.now c.in_ok-wide.wide.items c.deref.result.now c.deref-2.result.now c.in_ok-set.set.items
+    c.in_ok-found.found.items c.in_ok-column.column (value_in c.args.scope.now (filter_tree c.args.part.now)) c.requires.word c.requires.asked
+    c.in_ok-wide.ensures c.deref.ensures.value c.deref-2.ensures.value c.in_ok-column.ensures.value c.in_ok-set.ensures c.in_ok-found.ensures n l
 
 pub unary_column-returns-in_ok-values-in_default-clause-value : goal.unary_column-returns-in_ok-values-in_default-clause-value
 unary_column-returns-in_ok-values-in_default-clause-value g t c = λ n l.
-    let other = c.in_default in
+    let here = sym c.looks_elsewhere.ensures ∙ c.if-looks_elsewhere.false in
     c.in_ok-values-in_default.ensures n l
-    ∙ word_here (tree_in c.args.scope.now) c.args.word
-    (value_in c.args.scope.now (filter_tree c.args.part.now)) n
-    (shown c.in_ok-column-in_default.column n) other.not-Find other.not-FindUp other.not-Child other.not-Parent
+    ∙ word_here (tree_in c.args.scope.now) c.args.word (value_in c.args.scope.now (filter_tree c.args.part.now)) n (shown c.in_ok-column-in_default.column n)
+    (λ e. let no = sym (ap asks_elsewhere e) ∙ here in cc) (λ e. let no = sym (ap asks_elsewhere e) ∙ here in cc)
+    (λ e. let no = sym (ap asks_elsewhere e) ∙ here in cc) (λ e. let no = sym (ap asks_elsewhere e) ∙ here in cc)
     (c.in_ok-column-in_default.ensures.value n l)
 
 pub evaluate-returns-in-Unary-clause-value : goal.evaluate-returns-in-Unary-clause-value
@@ -344,38 +312,6 @@ pub evaluate-returns-in-Transform-clause-value : goal.evaluate-returns-in-Transf
 evaluate-returns-in-Transform-clause-value g t c =
     absurd (no_family c.args.f.now.at (form_tree c.args.f.now.form) _ _ (ap form_tree c.in-Transform.is) c.requires.flat)
 
--- words that look along the tree
-
-pub unary_column-returns-in_ok-found-in-FindUp-clause-value : goal.unary_column-returns-in_ok-found-in-FindUp-clause-value
-unary_column-returns-in_ok-found-in-FindUp-clause-value g t c = rw c.in-FindUp.is (λ n l.
-    find_up_is (tree_in c.args.scope.now) c.args.live.now c.in_ok-wide-in-FindUp.wide.items c.deref-in-FindUp.result.now
-    c.deref-in-FindUp-2.result.now c.deref-in-FindUp-3.result.now
-    c.in_ok-set-in-FindUp.set.items c.in_ok-found-in-FindUp.found.items c.in_ok-column-in-FindUp.column
-    (value_in c.args.scope.now (filter_tree c.args.part.now))
-    c.in_ok-wide-in-FindUp.ensures c.deref-in-FindUp.ensures.value c.deref-in-FindUp-2.ensures.value c.deref-in-FindUp-3.ensures.value
-    c.in_ok-column-in-FindUp.ensures.value c.in_ok-set-in-FindUp.ensures c.in_ok-found-in-FindUp.ensures n
-    (omega (arith, live_below c.args.live.now n l, c.requires.asked.count)) l)
-
-pub unary_column-returns-in_ok-start-in-Child-clause-value : goal.unary_column-returns-in_ok-start-in-Child-clause-value
-unary_column-returns-in_ok-start-in-Child-clause-value g t c = rw c.in-Child.is (λ n l.
-    child_holds_is (tree_in c.args.scope.now) c.args.live.now c.in_ok-wide-in-Child.wide.items c.deref-in-Child.result.now
-    c.deref-in-Child-2.result.now c.deref-in-Child-3.result.now
-    c.in_ok-set-in-Child.set.items c.in_ok-start-in-Child.start.items c.with_parents.result.items
-    (length c.args.scope.now.game.now.nodes) c.in_ok-column-in-Child.column
-    (value_in c.args.scope.now (filter_tree c.args.part.now))
-    c.in_ok-wide-in-Child.ensures c.deref-in-Child.ensures.value c.deref-in-Child-2.ensures.value c.deref-in-Child-3.ensures.value
-    c.in_ok-column-in-Child.ensures.value c.in_ok-set-in-Child.ensures c.in_ok-start-in-Child.ensures c.with_parents.ensures n l)
-
-pub unary_column-returns-in_ok-found-in-Parent-clause-value : goal.unary_column-returns-in_ok-found-in-Parent-clause-value
-unary_column-returns-in_ok-found-in-Parent-clause-value g t c = rw c.in-Parent.is (λ n l.
-    parent_holds_is (tree_in c.args.scope.now) c.args.live.now c.in_ok-wide-in-Parent.wide.items
-    c.deref-in-Parent.result.now c.deref-in-Parent-2.result.now c.deref-in-Parent-3.result.now
-    c.in_ok-set-in-Parent.set.items c.in_ok-found-in-Parent.found.items c.in_ok-column-in-Parent.column
-    (value_in c.args.scope.now (filter_tree c.args.part.now))
-    c.in_ok-wide-in-Parent.ensures c.deref-in-Parent.ensures.value c.deref-in-Parent-2.ensures.value c.deref-in-Parent-3.ensures.value
-    c.in_ok-column-in-Parent.ensures.value c.in_ok-set-in-Parent.ensures c.in_ok-found-in-Parent.ensures n
-    (omega (arith, live_below c.args.live.now n l, c.requires.asked.count)) l)
-
 -- chains, and any of a kind
 
 pub evaluate-returns-in-Chain-clause-value : goal.evaluate-returns-in-Chain-clause-value
@@ -402,9 +338,18 @@ played::played_truths-returns-clause-value g t c = λ n l.
     = subst (ArePromoting (tree_in c.args.scope.now) c.is_some-promotes.result c.args.live.now) (sym c.as_slice-some.ensures.value) c.in_ok-some.ensures in
     met_is (tree_in c.args.scope.now) c.args.scope.now.names.now c.args.played.now c.args.live.now c.as_slice-some.result.now c.is_some-promotes.result
     _ _ n c.is_some-promotes.ensures looked l (c.in_ok-truths.ensures n)
-    (move_is (tree_in c.args.scope.now) c.args.scope.now.names.now c.args.played.now c.as_slice-some.result.now c.in_ok-wide.wide.items c.deref.result.now c.deref-2.result.now
-    c.in_ok-origin.origin c.in_ok-goal.goal c.in_ok-taken.taken c.in_ok-promoted.promoted c.in_ok-wide.ensures c.deref.ensures.value c.deref-2.ensures.value
-    c.in_ok-origin.ensures.value c.in_ok-goal.ensures.value c.in_ok-taken.ensures.value c.in_ok-promoted.ensures.value n)
+    (move_is (tree_in c.args.scope.now) c.args.scope.now.names.now c.args.played.now c.as_slice-some.result.now c.in_ok-parts.parts c.in_ok-goal.goal
+    c.in_ok-parts.ensures.value c.in_ok-goal.ensures.value n)
+
+pub played::part_columns-returns-clause-value : goal.played::part_columns-returns-clause-value
+played::part_columns-returns-clause-value g t c =
+    let tree = tree_in c.args.scope.now in
+    let there = subst (AreBeforeLive tree c.args.live.now) (sym c.as_slice-wide.ensures.value) c.in_ok-wide.ensures in
+    record {
+      origin = λ n l. c.in_ok-origin.ensures.value (before tree n) (there.covers n l);
+      taken = λ n l. c.in_ok-taken.ensures.value (before tree n) (there.covers n l);
+      promoted = c.in_ok-promoted.ensures.value;
+    }
 
 pub played::written_column-returns-in_ok-column-in-Some-clause-value : goal.played::written_column-returns-in_ok-column-in-Some-clause-value
 played::written_column-returns-in_ok-column-in-Some-clause-value g t c =

@@ -1,10 +1,10 @@
-use Rattle.std.specs.Prelude.{◌≡◌, ℕ, ◌<◌, get_or, [], ◌∷◌, take, drop, length, ◌+◌, ◌-◌, ◌*◌, ◌≤◌, false}
+use Rattle.std.specs.Prelude.{◌≡◌, ℕ, ◌<◌, get_or, [], ◌∷◌, take, drop, length, ◌+◌, ◌-◌, ◌*◌, ◌≤◌}
 use Rattle.cql_syntax.specs.Meaning.{value, values, term_values}
 use Rattle.cql_syntax.specs.TreeOf.{filter_tree, filter_trees, filters_tree, term_trees, part_trees, body_tree}
 use Rattle.cql_syntax.specs.Values.{holds, all_hold, intersection_of}
 use Rattle.cql_eval.specs.Scopes.{tree_in}
 use Rattle.cql_eval.specs.Asked.{AreWanted}
-use Rattle.cql_eval.specs.Classes.{all_classes, is_of, is_before, are_so, cost_of, IsLeft}
+use Rattle.cql_eval.specs.Classes.{is_of, is_before, are_so, cost_of, IsLeft}
 use Rattle.cql_eval.specs.Columns.{AreAsked, Where, shown, all_shown, terms_shown}
 use Rattle.cql_eval.specs.Costs.{filter_cost, filters_cost, terms_cost, parts_cost, body_atoms, searched_len}
 use Rattle.cql_eval.specs.Covers.{AreCut, MayHave, MayHold}
@@ -21,6 +21,7 @@ use Rattle.cql_eval.proofs.evaluate.+evaluate.Given as goal
 
 abbrev pub invariant-chains::left_by-loop-class : goal.invariant-chains::left_by-loop-class
 invariant-chains::left_by-loop-class g l = record {
+  evers : AreEver (tree_in l.scope) l.left.items l.asking.evers.now;
   left : IsLeft (tree_in l.scope) l.live (are_so (is_before l.class) (tree_in l.scope) l.scope.names.now l.want (filters_tree l.filters)) l.left.items;
   cost : l.steps ≤ l.fn.steps + cost_of (is_before l.class) (searched_len (tree_in l.scope)) (filters_tree l.filters);
   rises : l.fn.steps ≤ l.steps;
@@ -29,22 +30,11 @@ invariant-chains::left_by-loop-class g l = record {
 abbrev pub invariant-chains::ask_class-loop-filter : goal.invariant-chains::ask_class-loop-filter
 invariant-chains::ask_class-loop-filter g l = record {
   len : length l.left ≡ length l.fn.left;
+  evers : AreEver (tree_in l.scope) l.left l.asking.evers.now;
   left : IsLeft (tree_in l.scope) l.fn.left
-      (are_so (is_of l.class) (tree_in l.scope) l.scope.names.now l.want (filter_trees (take l.filter-index l.filter-items))) l.left;
+      (are_so (is_of l.class) (tree_in l.scope) l.scope.names.now l.asking.want (filter_trees (take l.filter-index l.filter-items))) l.left;
   cost : l.steps + cost_of (is_of l.class) (searched_len (tree_in l.scope)) (filter_trees (drop l.filter-index l.filter-items))
       ≤ l.fn.steps + cost_of (is_of l.class) (searched_len (tree_in l.scope)) (filter_trees l.filter-items);
-  rises : l.fn.steps ≤ l.steps;
-  flat : (i : ℕ) (f : Filter) → i < length l.filter-items → f ≡ get_or l.filter-items i f → IsFlat (filter_tree f);
-}
-
-abbrev pub invariant-chains::ask_each-loop-filter : goal.invariant-chains::ask_each-loop-filter
-invariant-chains::ask_each-loop-filter g l = record {
-  len : length l.left ≡ length l.fn.left;
-  left : IsLeft (tree_in l.scope) l.fn.left
-      (are_so (is_before all_classes) (tree_in l.scope) l.scope.names.now false (filter_trees (take l.filter-index l.filter-items))) l.left;
-  evers : AreEver (tree_in l.scope) l.left l.evers;
-  cost : l.steps + cost_of (is_before all_classes) (searched_len (tree_in l.scope)) (filter_trees (drop l.filter-index l.filter-items))
-      ≤ l.fn.steps + cost_of (is_before all_classes) (searched_len (tree_in l.scope)) (filter_trees l.filter-items);
   rises : l.fn.steps ≤ l.steps;
   flat : (i : ℕ) (f : Filter) → i < length l.filter-items → f ≡ get_or l.filter-items i f → IsFlat (filter_tree f);
 }

@@ -1,13 +1,10 @@
 use Rattle.std.specs.Prelude.{◌&&◌, option_map, length}
-use Rattle.cq_position.specs.Led.{led_to}
-use Rattle.cql_syntax.specs.Meaning.{meets_all, before}
 use Rattle.cql_eval.specs.Scopes.{tree_in}
 use Rattle.cql_eval.specs.Columns.{is_live, shown}
+use Rattle.cql_eval.specs.Moved.{is_as_asked}
 use Rattle.cql_eval.proofs.Filling.{ToldTo}
 use Rattle.cql_eval.proofs.moves.moves_met.Given as goal
 
 abbrev pub invariant-loop-n : goal.invariant-loop-n
 invariant-loop-n l =
-    ToldTo (λ n. is_live l.live n && meets_all (led_to l.scope.game.now.nodes n)
-    (option_map (λ c. shown c (before (tree_in l.scope) n)) l.origin) (option_map (λ c. shown c n) l.goal)
-    (option_map (λ c. shown c (before (tree_in l.scope) n)) l.taken) (option_map (λ c. shown c n) l.promoted)) (length l.scope.game.now.nodes) l.n l.truths.items
+    ToldTo (λ n. is_live l.live n && is_as_asked (tree_in l.scope) l.parts (option_map (λ c. shown c n) l.goal) n) (length l.scope.game.now.nodes) l.n l.truths.items

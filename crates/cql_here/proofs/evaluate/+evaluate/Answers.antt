@@ -1,9 +1,10 @@
-use Rattle.std.proofs.Common.{rules, ◌≡◌, ℕ, ◌^◌, ◌<◌, ◌∷◌, Bool, true, false, ◌||◌, refl, drop, length, ap, ap₂, sym, ◌∙◌, subst, arith, Some}
-use Rattle.std.specs.Prelude.{IfOk, IfSome}
+use Rattle.std.proofs.Common.{rules, ◌≡◌, ℕ, ◌+◌, ◌^◌, ◌<◌, ◌∷◌, [], List, Bool, true, false, ◌&&◌, ◌||◌, refl, drop, length, map, ap, ap₂, sym, ◌∙◌, subst, arith, Some}
+use Rattle.std.specs.Prelude.{filter, IfOk, IfSome, OnOk, if◌then◌else◌, not}
 use Rattle.std.specs.List.{list_any, list_all}
 use Rattle.cq_bits.proofs.Gathering.{cleared, smaller}
 use Rattle.cq_geometry.specs.Squares.{squares}
-use Rattle.cq_position.specs.Games.{node_at, way_up}
+use Rattle.cq_position.specs.Games.{node_at, is_searched, next_sibling, way_up}
+use Rattle.cq_position.specs.Search.{children_in}
 use Rattle.cq_position.proofs.WaysUp.{way_from, way_on}
 use Rattle.cq_symmetry.specs.Images.{is_in}
 use Rattle.cql_syntax.specs.Meaning.{meets}
@@ -13,11 +14,12 @@ use Rattle.cql_syntax.specs.Values.{holds, has, as_truth, as_squares, square_of}
 use Rattle.cql_syntax.specs.declared.tree.Filter.{Filter}
 use Rattle.cql_values.proofs.Evaluated.{by_settling, word_here}
 use Rattle.cql_values.proofs.Masks.{union_step, intersection_step, all_squares}
-use Rattle.cql_values.proofs.Ways.{within_up}
+use Rattle.cql_values.proofs.Ways.{within_up, children_from, all_children, parent_of_first, parent_of_next, inside_of}
 use Rattle.cql_values.specs.Asked.{settles, of_value}
 use Rattle.cql_values.specs.Bindings.{rebound}
 use Rattle.cql_values.specs.Shown.{meant}
 use Rattle.cql_here.specs.Places.{tree_of, value_at, values_at, holds_at}
+use Rattle.cql_here.proofs.Children.{child_found, child_passed}
 use Rattle.cql_here.proofs.Cutting.{standing_is}
 use Rattle.cql_here.proofs.Loops.{all_values, any_values, all_stop, all_end, any_stop, any_end, settled_first, none_settles, settling, not_settling, by_found, rebound_again, rebound_outer, rebound_some, rebound_length, square_value, union_whole, common_whole}
 use Rattle.cql_here.proofs.evaluate.+evaluate.Goals as goal
@@ -42,6 +44,51 @@ all_of-returns-clause-value t c =
     let p : Filter → Bool = λ f. holds (value_at place e (filter_tree f) place.node) in
     all_end p items (list_all p items) c.loop-part.part-index c.loop-part-test.false c.loop-part.invariant.left
     ∙ sym (all_values holds (tree_of place) e place.node items) ∙ ap (λ fs. list_all holds (values_at place e fs place.node)) c.as_slice-part-items.ensures.tree
+
+pub some_child-loop-at-init : goal.some_child-loop-at-init
+some_child-loop-at-init t c =
+    let place = c.args.place.now in
+    let nodes = place.game.now.nodes in
+    let test = is_searched place.variations nodes in
+    let p : ℕ → Bool = λ k. holds (value_at place c.args.names.now (filter_tree c.args.part.now) k) in
+    record {
+      left = ap (λ o. list_any p (filter test (children_from nodes place.node o))) c.first_child-at.ensures.value
+          ∙ sym (ap (λ l. list_any p (filter test l)) (all_children nodes place.node));
+      within = inside_of c.first_child-at.result place.node (length nodes) c.first_child-at.ensures.after;
+      child = parent_of_first nodes place.node c.first_child-at.result c.first_child-at.ensures.value;
+      names = refl;
+    }
+
+pub some_child-returns-then-there-clause-value : goal.some_child-returns-then-there-clause-value
+some_child-returns-then-there-clause-value t c =
+    let place = c.args.place.now in
+    let nodes = place.game.now.nodes in
+    let test = is_searched place.variations nodes in
+    let m = c.in-Some.child in
+    let f = filter_tree c.args.part.now in
+    let p : ℕ → Bool = λ k. holds (value_at place c.args.names.now f k) in
+    let is : (test m && p m) ≡ true = ap (λ (b : _). test m && holds (value_at place b f m)) (sym c.loop-at.invariant.names) ∙ sym c.in_ok-there.ensures.value ∙ c.if-there.true in
+    let parent : (node_at nodes m).parent ≡ Some place.node = subst (λ o. IfSome o (λ d. (node_at nodes d).parent ≡ Some place.node)) c.in-Some.is c.loop-at.invariant.child in
+    let had = subst (λ o. list_any p (filter test (children_from nodes place.node o)) ≡ list_any p (children_in (tree_of place) place.node)) c.in-Some.is c.loop-at.invariant.left in
+    child_found p nodes place.variations place.node m (next_sibling nodes m) (list_any p (children_in (tree_of place) place.node)) parent refl is had
+
+pub some_child-loop-at-preserved : goal.some_child-loop-at-preserved
+some_child-loop-at-preserved t c =
+    let place = c.args.place.now in
+    let nodes = place.game.now.nodes in
+    let test = is_searched place.variations nodes in
+    let m = c.in-Some.child in
+    let f = filter_tree c.args.part.now in
+    let p : ℕ → Bool = λ k. holds (value_at place c.args.names.now f k) in
+    let is : (test m && p m) ≡ false = ap (λ (b : _). test m && holds (value_at place b f m)) (sym c.loop-at.invariant.names) ∙ sym c.in_ok-there.ensures.value ∙ c.if-there.false in
+    let parent : (node_at nodes m).parent ≡ Some place.node = subst (λ o. IfSome o (λ d. (node_at nodes d).parent ≡ Some place.node)) c.in-Some.is c.loop-at.invariant.child in
+    let had = subst (λ o. list_any p (filter test (children_from nodes place.node o)) ≡ list_any p (children_in (tree_of place) place.node)) c.in-Some.is c.loop-at.invariant.left in
+    record {
+      left = child_passed p nodes place.variations place.node m c.next_sibling-at.result (list_any p (children_in (tree_of place) place.node)) parent c.next_sibling-at.ensures.value is had;
+      within = inside_of c.next_sibling-at.result m (length nodes) c.next_sibling-at.ensures.after;
+      child = parent_of_next nodes place.node m c.next_sibling-at.result parent c.next_sibling-at.ensures.value;
+      names = c.holds_searched.ensures.names ∙ c.loop-at.invariant.names;
+    }
 
 pub some_of-returns-then-holds-clause-value : goal.some_of-returns-then-holds-clause-value
 some_of-returns-then-holds-clause-value t c =

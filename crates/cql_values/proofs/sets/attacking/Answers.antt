@@ -3,11 +3,11 @@ use Rattle.std.specs.List.{list_any}
 use Rattle.cq_geometry.specs.Squares.{squares}
 use Rattle.cq_position.specs.Attacks.{attacks}
 use Rattle.cql_syntax.specs.Values.{as_squares}
-use Rattle.cql_values.proofs.Seen.{attackers_among_is}
+use Rattle.cql_values.proofs.Masks.{among_is}
 use Rattle.cql_values.proofs.sets.attacking.Goals as goal
 
 pub returns : goal.returns
 returns c =
     let men = c.args.position.now.men in
-    ap as_squares (attackers_among_is men c.squares.result c.squares-2.result c.attackers_among.result (omega arith) c.attackers_among.ensures)
+    ap as_squares (among_is men c.squares.result c.squares-2.result c.attackers_among.result (omega arith) c.attackers_among.ensures)
     ∙ sym (ap₂ (λ (x y : ℕ → Bool). as_squares (λ s. nat_lt s 64 && (x s && list_any (λ t. y t && attacks men s t) squares))) c.squares.ensures c.squares-2.ensures)

@@ -2,11 +2,11 @@
 use Rattle.std.proofs.Common.{◌+◌, ◌∙◌, sym, subst, arith, refl, true, false}
 use Rattle.cql_syntax.specs.TreeOf.{filter_tree, filters_tree, terms_tree}
 use Rattle.cql_eval.specs.Scopes.{tree_in}
-use Rattle.cql_eval.proofs.ClassLaw.{left_taken, left_passed, cost_taken, is_left_begun, is_left_then, is_left_same, so_begun, so_more, so_whole, so_none, so_all, so_no, class_left, class_end, truth_left, class_cost_more, class_cost_within, class_low, cost_next, cost_later, cost_all}
-use Rattle.cql_eval.specs.Classes.{all_classes, is_of, is_before, are_so, IsLeft}
+use Rattle.cql_eval.proofs.ClassLaw.{left_taken, left_passed, cost_taken, is_left_begun, is_left_then, is_left_same, so_begun, so_more, so_whole, so_none, so_all, so_no, class_left, class_end, truth_left, class_cost_more, class_cost_within, cost_next, cost_later, cost_all}
+use Rattle.cql_eval.specs.Classes.{is_of, is_before, is_so_if, are_so, IsLeft}
 use Rattle.cql_eval.specs.Costs.{searched_len}
 use Rattle.cql_eval.proofs.Costing.{cost_more, cost_within, terms_cost_more, terms_cost_within}
-use Rattle.cql_eval.proofs.EverLaw.{ever_fewer, left_unasked}
+use Rattle.cql_eval.proofs.EverLaw.{ever_begun, ever_fewer, ever_later, left_unasked}
 use Rattle.cql_eval.proofs.Gathering.{columns_begun, columns_more, columns_all, terms_begun, terms_more, terms_all}
 use Rattle.cql_eval.proofs.FlatLaw.{filter_flat, term_flat}
 use Rattle.cql_eval.proofs.evaluate.+evaluate.Goals as goal
@@ -35,81 +35,10 @@ pub chains::none_holds-returns-in_err-left-clause-cost : goal.chains::none_holds
 chains::none_holds-returns-in_err-left-clause-cost g t c =
     omega (arith, c.left_by.ensures.cost, cost_all (searched_len (tree_in c.args.scope.now)) (filters_tree c.args.filters.now))
 
-pub chains::no_member_holds-returns-then-is_large-clause-value : goal.chains::no_member_holds-returns-then-is_large-clause-value
-chains::no_member_holds-returns-then-is_large-clause-value g t c = λ n l.
-    truth_left c.args.live.now c.in_ok-left.left.items _ _ (tree_in c.args.scope.now) c.in_ok-left.ensures.left
-    (so_no (tree_in c.args.scope.now) c.args.scope.now.names.now (filters_tree c.args.members.now)) n l
-
-pub chains::no_member_holds-returns-then-is_large-clause-cost : goal.chains::no_member_holds-returns-then-is_large-clause-cost
-chains::no_member_holds-returns-then-is_large-clause-cost g t c =
-    omega (arith, c.left_by_each.ensures.cost, cost_all (searched_len (tree_in c.args.scope.now)) (filters_tree c.args.members.now))
-
-pub chains::no_member_holds-returns-in_err-left-clause-cost : goal.chains::no_member_holds-returns-in_err-left-clause-cost
-chains::no_member_holds-returns-in_err-left-clause-cost g t c =
-    omega (arith, c.left_by_each.ensures.cost, cost_all (searched_len (tree_in c.args.scope.now)) (filters_tree c.args.members.now))
-
-pub chains::ask_each-loop-filter-init : goal.chains::ask_each-loop-filter-init
-chains::ask_each-loop-filter-init g t c = record {
-  len = refl;
-  left = is_left_begun (tree_in c.args.scope.now) c.args.left.now c.args.left.now _ c.requires.asked refl
-      (so_begun (is_before all_classes) (tree_in c.args.scope.now) c.args.scope.now.names.now false c.as_slice-filter-items.result.now);
-  evers = c.requires.evers;
-  cost = omega arith;
-  rises = omega arith;
-  flat = λ i f h e. filter_flat c.as_slice-filter-items.result.now i f (filters_tree c.args.filters.now) h e c.as_slice-filter-items.ensures.tree c.requires.flat;
-}
-
-pub chains::ask_each-loop-filter-preserved : goal.chains::ask_each-loop-filter-preserved
-chains::ask_each-loop-filter-preserved g t c = record {
-  len = c.ask_unless.ensures.len ∙ c.loop-filter.invariant.len;
-  left = is_left_then (tree_in c.args.scope.now) c.args.left.now c.loop-filter.left c.ask_unless.new.left _ _ _ c.loop-filter.invariant.left c.in_ok-ask_unless.ensures.left
-      (λ n. so_more (is_before all_classes)
-      (tree_in c.args.scope.now) c.args.scope.now.names.now false c.as_slice-filter-items.result.now c.loop-filter.filter-index
-      c.filter-item.result n c.loop-filter-test.true c.filter-item.is);
-  evers = ever_fewer (tree_in c.args.scope.now) c.loop-filter.left c.ask_unless.new.left _ c.args.evers.now c.in_ok-ask_unless.ensures.left c.loop-filter.invariant.evers;
-  cost = class_cost_more (is_before all_classes) (searched_len (tree_in c.args.scope.now)) c.as_slice-filter-items.result.now c.loop-filter.filter-index c.filter-item.result
-      _ c.loop-filter.steps c.ask_unless.new.steps
-      c.loop-filter-test.true c.filter-item.is c.loop-filter.invariant.cost c.ask_unless.ensures.cost;
-  rises = omega (arith, c.loop-filter.invariant.rises, c.ask_unless.ensures.rises);
-  flat = c.loop-filter.invariant.flat;
-}
-
-pub chains::ask_each-returns-clause-left : goal.chains::ask_each-returns-clause-left
-chains::ask_each-returns-clause-left g t c =
-    is_left_same (tree_in c.args.scope.now) c.args.left.now c.loop-filter.left _ _
-    (λ n. so_whole (is_before all_classes)
-    (tree_in c.args.scope.now) c.args.scope.now.names.now false c.as_slice-filter-items.result.now c.loop-filter.filter-index
-    (filters_tree c.args.filters.now) n (omega (arith, c.loop-filter-test.false)) c.as_slice-filter-items.ensures.tree)
-    c.loop-filter.invariant.left
-
-pub chains::ask_each-returns-in_err-ask_unless-clause-cost : goal.chains::ask_each-returns-in_err-ask_unless-clause-cost
-chains::ask_each-returns-in_err-ask_unless-clause-cost g t c =
-    class_cost_within (is_before all_classes)
-    (searched_len (tree_in c.args.scope.now)) c.as_slice-filter-items.result.now c.loop-filter.filter-index c.filter-item.result _ c.loop-filter.steps c.ask_unless.new.steps
-    (filters_tree c.args.filters.now)
-    c.loop-filter-test.true c.filter-item.is c.loop-filter.invariant.cost c.ask_unless.ensures.cost c.as_slice-filter-items.ensures.tree
-
-pub chains::ask_unless-returns-then-holds_nowhere-clause-left : goal.chains::ask_unless-returns-then-holds_nowhere-clause-left
-chains::ask_unless-returns-then-holds_nowhere-clause-left g t c =
-    left_unasked (tree_in c.args.scope.now) c.args.scope.now.names.now (filter_tree c.args.filter.now) c.args.left.now c.requires.asked
-    (c.holds_nowhere.ensures c.if-holds_nowhere.true (tree_in c.args.scope.now) c.args.left.now c.args.scope.now.names.now c.requires.evers)
-
-pub chains::ask_unless-returns-clause-left : goal.chains::ask_unless-returns-clause-left
-chains::ask_unless-returns-clause-left g t c =
-    left_taken (is_before all_classes) (tree_in c.args.scope.now) c.args.scope.now.names.now false
-    (filter_tree c.args.filter.now) c.args.left.now c.narrow.new.left c.in_ok-column.column
-    (class_low (filter_tree c.args.filter.now)) c.requires.asked c.in_ok-column.ensures.value c.narrow.ensures.nodes
-
-pub chains::ask_unless-returns-clause-cost : goal.chains::ask_unless-returns-clause-cost
-chains::ask_unless-returns-clause-cost g t c =
-    cost_taken (is_before all_classes) (searched_len (tree_in c.args.scope.now)) (filter_tree c.args.filter.now) _ _ (class_low (filter_tree c.args.filter.now)) c.evaluate.ensures.cost
-
-pub chains::ask_unless-returns-in_err-column-clause-cost : goal.chains::ask_unless-returns-in_err-column-clause-cost
-chains::ask_unless-returns-in_err-column-clause-cost g t c =
-    cost_taken (is_before all_classes) (searched_len (tree_in c.args.scope.now)) (filter_tree c.args.filter.now) _ _ (class_low (filter_tree c.args.filter.now)) c.evaluate.ensures.cost
-
 pub chains::left_by-loop-class-init : goal.chains::left_by-loop-class-init
 chains::left_by-loop-class-init g t c = record {
+  evers = ever_begun (tree_in c.args.scope.now) c.args.live.now c.in_ok-left.left.items c.in_ok-evers.evers.items c.as_slice-evers.result.now c.in_ok-left.ensures
+      c.as_slice-evers.ensures.value c.in_ok-evers.ensures;
   left = is_left_begun (tree_in c.args.scope.now) c.args.live.now c.in_ok-left.left.items _ c.requires.asked c.in_ok-left.ensures
       (so_none (tree_in c.args.scope.now) c.args.scope.now.names.now c.args.want (filters_tree c.args.filters.now));
   cost = omega arith;
@@ -118,6 +47,8 @@ chains::left_by-loop-class-init g t c = record {
 
 pub chains::left_by-loop-class-preserved : goal.chains::left_by-loop-class-preserved
 chains::left_by-loop-class-preserved g t c = record {
+  evers = ever_later (tree_in c.args.scope.now) c.loop-class.left.items c.deref_mut.result.now c.ask_class.new.left _ c.as_slice-evers.result.now c.loop-class.left.len
+      (omega (arith, c.ask_class.ensures.len, c.deref_mut.ensures.len)) c.deref_mut.ensures.value c.in_ok-ask_class.ensures.left c.loop-class.invariant.evers;
   left = class_left (tree_in c.args.scope.now) c.args.scope.now.names.now c.args.want c.loop-class.class
       (filters_tree c.args.filters.now) c.args.live.now c.loop-class.left.items c.deref_mut.result.now c.ask_class.new.left
       c.loop-class.left.len (omega (arith, c.ask_class.ensures.len, c.deref_mut.ensures.len)) c.deref_mut.ensures.value c.loop-class.invariant.left
@@ -160,8 +91,9 @@ chains::left_by-returns-in_err-ask_class-clause-cost g t c =
 pub chains::ask_class-loop-filter-init : goal.chains::ask_class-loop-filter-init
 chains::ask_class-loop-filter-init g t c = record {
   len = refl;
+  evers = c.requires.evers;
   left = is_left_begun (tree_in c.args.scope.now) c.args.left.now c.args.left.now _ c.requires.asked refl
-      (so_begun (is_of c.args.class) (tree_in c.args.scope.now) c.args.scope.now.names.now c.args.want c.as_slice-filter-items.result.now);
+      (so_begun (is_of c.args.class) (tree_in c.args.scope.now) c.args.scope.now.names.now c.args.asking.now.want c.as_slice-filter-items.result.now);
   cost = omega arith;
   rises = omega arith;
   flat = λ i f h e. filter_flat c.as_slice-filter-items.result.now i f (filters_tree c.args.filters.now) h e c.as_slice-filter-items.ensures.tree c.requires.flat;
@@ -170,9 +102,10 @@ chains::ask_class-loop-filter-init g t c = record {
 pub chains::ask_class-loop-filter-preserved : goal.chains::ask_class-loop-filter-preserved
 chains::ask_class-loop-filter-preserved g t c = record {
   len = c.ask_if.ensures.len ∙ c.loop-filter.invariant.len;
+  evers = ever_fewer (tree_in c.args.scope.now) c.loop-filter.left c.ask_if.new.left _ c.args.asking.now.evers.now c.in_ok-ask_if.ensures.left c.loop-filter.invariant.evers;
   left = is_left_then (tree_in c.args.scope.now) c.args.left.now c.loop-filter.left c.ask_if.new.left _ _ _ c.loop-filter.invariant.left c.in_ok-ask_if.ensures.left
       (λ n. so_more (is_of c.args.class)
-      (tree_in c.args.scope.now) c.args.scope.now.names.now c.args.want c.as_slice-filter-items.result.now c.loop-filter.filter-index
+      (tree_in c.args.scope.now) c.args.scope.now.names.now c.args.asking.now.want c.as_slice-filter-items.result.now c.loop-filter.filter-index
       c.filter-item.result n c.loop-filter-test.true c.filter-item.is);
   cost = class_cost_more (is_of c.args.class) (searched_len (tree_in c.args.scope.now)) c.as_slice-filter-items.result.now c.loop-filter.filter-index c.filter-item.result
       _ c.loop-filter.steps c.ask_if.new.steps
@@ -185,7 +118,7 @@ pub chains::ask_class-returns-clause-left : goal.chains::ask_class-returns-claus
 chains::ask_class-returns-clause-left g t c =
     is_left_same (tree_in c.args.scope.now) c.args.left.now c.loop-filter.left _ _
     (λ n. so_whole (is_of c.args.class)
-    (tree_in c.args.scope.now) c.args.scope.now.names.now c.args.want c.as_slice-filter-items.result.now c.loop-filter.filter-index
+    (tree_in c.args.scope.now) c.args.scope.now.names.now c.args.asking.now.want c.as_slice-filter-items.result.now c.loop-filter.filter-index
     (filters_tree c.args.filters.now) n (omega (arith, c.loop-filter-test.false)) c.as_slice-filter-items.ensures.tree)
     c.loop-filter.invariant.left
 
@@ -198,12 +131,20 @@ chains::ask_class-returns-in_err-ask_if-clause-cost g t c =
 
 pub chains::ask_if-returns-then-not-is_of_class-clause-left : goal.chains::ask_if-returns-then-not-is_of_class-clause-left
 chains::ask_if-returns-then-not-is_of_class-clause-left g t c =
-    left_passed (is_of c.args.class) (tree_in c.args.scope.now) c.args.scope.now.names.now c.args.want (filter_tree c.args.filter.now) c.args.left.now
+    left_passed (is_of c.args.class) (tree_in c.args.scope.now) c.args.scope.now.names.now c.args.asking.now.want (filter_tree c.args.filter.now) c.args.left.now
     (sym c.is_of_class.ensures ∙ c.if-not-is_of_class.true) c.requires.asked
+
+pub chains::ask_if-returns-then-fails_anyway-clause-left : goal.chains::ask_if-returns-then-fails_anyway-clause-left
+chains::ask_if-returns-then-fails_anyway-clause-left g t c =
+    subst (λ w. IsLeft (tree_in c.args.scope.now) c.args.left.now
+    (is_so_if (is_of c.args.class) (tree_in c.args.scope.now) c.args.scope.now.names.now w (filter_tree c.args.filter.now)) c.args.left.now)
+    (sym (c.fails_anyway.ensures.want c.if-fails_anyway.true))
+    (left_unasked (is_of c.args.class) (tree_in c.args.scope.now) c.args.scope.now.names.now (filter_tree c.args.filter.now) c.args.left.now c.requires.asked
+    (c.fails_anyway.ensures.nowhere c.if-fails_anyway.true (tree_in c.args.scope.now) c.args.left.now c.args.scope.now.names.now c.requires.evers))
 
 pub chains::ask_if-returns-clause-left : goal.chains::ask_if-returns-clause-left
 chains::ask_if-returns-clause-left g t c =
-    left_taken (is_of c.args.class) (tree_in c.args.scope.now) c.args.scope.now.names.now c.args.want
+    left_taken (is_of c.args.class) (tree_in c.args.scope.now) c.args.scope.now.names.now c.args.asking.now.want
     (filter_tree c.args.filter.now) c.args.left.now c.narrow.new.left c.in_ok-column.column
     (sym c.is_of_class.ensures ∙ c.if-not-is_of_class.false) c.requires.asked c.in_ok-column.ensures.value c.narrow.ensures.nodes
 

@@ -52,7 +52,7 @@ cover_moves::cover_free_parts-returns-clause-cut g t c =
 
 pub cover_moves::free_column-returns-clause-asks : goal.cover_moves::free_column-returns-clause-asks
 cover_moves::free_column-returns-clause-asks g t c =
-    asks_free (tree_in c.args.scope.now) c.args.opened.now c.args.scope.now.names.now (written_tree c.args.written.now) c.args.live.now c.in_ok-column.column
+    asks_free (tree_in c.args.trial.now.scope.now) c.args.trial.now.opened.now c.args.trial.now.scope.now.names.now (written_tree c.args.written.now) c.args.live.now c.in_ok-column.column
     (c.is_free_and_written.ensures c.if-not-is_free_and_written.false) c.in_ok-column.ensures.value
 
 pub covers::cover_chain-returns-clause-cut : goal.covers::cover_chain-returns-clause-cut
@@ -175,7 +175,7 @@ covers::cover_elsewhere-returns-clause-cut g t c =
     c.args.trial.now.scope.now.names.now c.args.trial.now.name.now
     (λ e. value (tree_in c.args.trial.now.scope.now) [] e (filter_tree c.args.part.now)) c.any_squares.result c.in_ok-there.there.items
     c.cover.new.sets c.in_ok-back.back.items
-    c.args.sets.now c.cut.new.sets (c.looks_elsewhere.ensures c.if-not-looks_elsewhere.false) c.requires.asked
+    c.args.sets.now c.cut.new.sets (sym c.looks_elsewhere.ensures ∙ c.if-not-looks_elsewhere.false) c.requires.asked
     (subst (AreLookedAt (tree_in c.args.trial.now.scope.now) c.args.word c.args.trial.now.live.now) (sym c.as_slice-wide.ensures.value) c.in_ok-wide.ensures)
     c.any_squares.ensures c.in_ok-there.ensures
     (subst (λ old. AreCut c.as_slice-wide.result.now (MayHold c.args.trial.now.opened.now c.args.trial.now.scope.now.names.now c.args.trial.now.name.now

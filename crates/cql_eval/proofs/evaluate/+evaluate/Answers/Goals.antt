@@ -3,16 +3,15 @@ use Rattle.std.proofs.Common.{◌≡◌, ◌∙◌, ap, refl, sym, subst, arith,
 use Rattle.std.specs.Prelude.{get_or}
 use Rattle.std.proofs.lemmas.Option.{IfSome_then}
 use Rattle.cq_symmetry.specs.Images.{is_in}
-use Rattle.cql_syntax.specs.Meaning.{before}
 use Rattle.cql_syntax.specs.TreeOf.{filter_tree, form_tree, filters_tree, played_tree}
 use Rattle.cql_syntax.specs.Trees.{filter_at, more_filters, no_filters}
 use Rattle.cql_eval.specs.Columns.{shown}
 use Rattle.cql_eval.specs.Moved.{AsksGoal}
 use Rattle.cql_eval.specs.Scopes.{tree_in}
-use Rattle.cql_eval.specs.Trees.{AreBeforeLive}
+use Rattle.cql_eval.specs.Promoting.{ArePromoting}
 use Rattle.cql_eval.proofs.AttackLaw.{only_one}
 use Rattle.cql_eval.proofs.FlatLaw.{filter_flat}
-use Rattle.cql_eval.proofs.MovedLaw.{goal_alone, goal_chain, goal_form, met_there, moved_is}
+use Rattle.cql_eval.proofs.MovedLaw.{goal_alone, goal_chain, goal_form, goal_met_is}
 use Rattle.cql_eval.proofs.evaluate.+evaluate.Goals as goal
 
 pub goals::goal_truths-returns-in_ok-in_chain-in-Chain-clause-value : goal.goals::goal_truths-returns-in_ok-in_chain-in-Chain-clause-value
@@ -45,9 +44,10 @@ goals::goal_in-returns-in-loop-part-clause-value g t c =
 pub goals::goal_met-returns-clause-value : goal.goals::goal_met-returns-clause-value
 goals::goal_met-returns-clause-value g t c = λ n l.
     let tree = tree_in c.args.binding.now.scope.now in
-    let there = (subst (AreBeforeLive tree c.args.live.now) (sym c.as_slice-wide.ensures.value) c.in_ok-wide.ensures).covers n l in
-    moved_is tree c.args.binding.now.scope.now.names.now c.args.binding.now.name.now c.args.binding.now.every c.args.played.now (shown c.args.binding.now.squares.now n) _ n _ _ _ _ c.requires.some
+    let looked : ArePromoting tree c.is_some-promotes.result c.args.live.now c.as_slice-some.result.now
+    = subst (ArePromoting tree c.is_some-promotes.result c.args.live.now) (sym c.as_slice-some.ensures.value) c.in_ok-some.ensures in
+    goal_met_is tree c.args.binding.now.scope.now.names.now c.args.binding.now.name.now c.args.binding.now.every c.args.played.now (shown c.args.binding.now.squares.now n)
+    c.args.live.now c.as_slice-some.result.now c.is_some-promotes.result _ _ n c.in_ok-parts.parts c.requires.some
     (subst (λ o. AsksGoal o c.args.binding.now.name.now c.args.played.now) c.requires.opened (c.asks_goal.ensures c.if-not-asks_goal.false))
-    (ap (λ s. is_in (get_or s n 0)) c.deref.ensures.value ∙ c.in_ok-sets.ensures.each n l)
-    (c.in_ok-origin.ensures.value (before tree n) there) (c.in_ok-taken.ensures.value (before tree n) there) (c.in_ok-promoted.ensures.value n l)
-    (met_there _ _ _ (c.in_ok-truths.ensures n) l)
+    c.is_some-promotes.ensures looked (λ a. ap (λ s. is_in (get_or s n 0)) c.deref.ensures.value ∙ c.in_ok-sets.ensures.each n a)
+    c.in_ok-parts.ensures.value (c.in_ok-truths.ensures n) l

@@ -90,10 +90,10 @@ squares::covered_sets-returns-clause-worth g t c =
     (λ n s. holds (value (tree_in c.args.binding.now.scope.now) [] ((c.args.binding.now.name.now, s) ∷ c.args.binding.now.scope.now.names.now)
     (filter_tree c.args.asked.now) n)))
     (sym (written_sets c.in_ok-sets.sets.len c.cover.new.sets c.in_ok-sets.sets.items (omega (arith, c.cover.ensures.len, c.deref_mut.ensures.len))))
-    (worth_trying (tree_in c.args.binding.now.scope.now) c.args.live.now c.in_ok-opened.opened c.args.binding.now.scope.now.names.now
+    (worth_trying (tree_in c.args.binding.now.scope.now) c.args.live.now c.args.opened.now c.args.binding.now.scope.now.names.now
     c.args.binding.now.name.now (filter_tree c.args.asked.now) (shown c.args.binding.now.squares.now)
-    c.in_ok-sets.sets.items c.cover.new.sets c.in_ok-opened.ensures c.in_ok-sets.ensures
-    (subst (λ old. AreCut c.args.live.now (MayHold c.in_ok-opened.opened c.args.binding.now.scope.now.names.now c.args.binding.now.name.now
+    c.in_ok-sets.sets.items c.cover.new.sets c.requires.opened c.in_ok-sets.ensures
+    (subst (λ old. AreCut c.args.live.now (MayHold c.args.opened.now c.args.binding.now.scope.now.names.now c.args.binding.now.name.now
     (λ e. value (tree_in c.args.binding.now.scope.now) [] e (filter_tree c.args.asked.now))) old c.cover.new.sets) c.deref_mut.ensures.value c.in_ok-cover.ensures.cut))
 
 pub squares::asked_truths-returns-clause-value : goal.squares::asked_truths-returns-clause-value

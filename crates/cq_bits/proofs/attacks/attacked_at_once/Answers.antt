@@ -1,5 +1,5 @@
 use Rattle.cq_bits.proofs.Union.{all_attacks}
-use Rattle.cq_bits.proofs.attacks.attacked.Goals as goal
+use Rattle.cq_bits.proofs.attacks.attacked_at_once.Goals as goal
 
 pub returns : goal.returns
 returns c =

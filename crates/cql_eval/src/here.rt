@@ -1,0 +1,73 @@
+//! What is asked of squares one by one, asked node by node.
+ghost use Rattle.std.specs.Prelude.{◌≡◌, ◌<◌, ℕ, length, true, IfOk, IfSome, OnOk};
+ghost use Rattle.cql_syntax.specs.TreeOf.{filter_tree};
+ghost use Rattle.cql_syntax.specs.Values as spec;
+ghost use Rattle.cql_eval.specs.Bindings.{holds_with};
+ghost use Rattle.cql_eval.specs.Columns.{AreAsked, AreTruths, shown};
+ghost use Rattle.cql_eval.specs.Scopes.{tree_in};
+
+use crate::binding::Binding;
+use crate::filter_column::blank_truths;
+use crate::spans::{asked_end, first_asked};
+use cq_outside::NoMemory;
+use cql_here::{Place, is_asked_here, square_here};
+use cql_syntax::Filter;
+use cql_values::names::Names;
+use std::alloc::Global;
+
+/// Whether what is asked holds of every square of a column, or of some, asked node by node; nothing where it is not answered so.
+pub(crate) fn truths_here(
+    alloc: Global,
+    binding: &Binding,
+    asked: &Filter,
+    live: &[bool],
+) -> Result<Option<Vec<bool>>, NoMemory>
+    requires asked { AreAsked (tree_in binding.now.scope.now) live.now }
+    ensures { IfOk result (λ here. IfSome here (λ truths. AreTruths truths.items live.now
+        (λ n. spec.square_of binding.now.every (shown binding.now.squares.now n) (holds_with binding.now (filter_tree asked.now) n)))) }
+{
+    let game = binding.scope.game;
+    if !is_asked_here(asked, game) {
+        return Ok(None);
+    }
+    let mut names = binding.scope.names.copy(alloc)?;
+    let end = asked_end(live, game.len());
+    let mut truths = blank_truths(alloc, end as usize)?;
+    for n in first_asked(live, game.len())..end {
+        match truth_here(binding, asked, live[n as usize], n, &mut names)? {
+            Some(truth) => truths[n as usize] = truth,
+            None => return Ok(None),
+        }
+    }
+    Ok(Some(truths))
+}
+
+// The same at one node; at a node that isn't asked for anything.
+fn truth_here(
+    binding: &Binding,
+    asked: &Filter,
+    wanted: bool,
+    n: u32,
+    names: &mut Names,
+) -> Result<Option<bool>, NoMemory>
+    requires node { n < length binding.now.scope.now.game.now.nodes }
+    requires names { names.old ≡ binding.now.scope.now.names.now }
+    ensures value { IfOk result (λ here. IfSome here (λ truth. wanted ≡ true → spec.as_truth truth
+        ≡ spec.square_of binding.now.every (shown binding.now.squares.now n) (holds_with binding.now (filter_tree asked.now) n))) }
+    ensures names { OnOk result (names.new ≡ names.old) }
+{
+    if !wanted {
+        return Ok(Some(false));
+    }
+    let squares = binding.squares.at(n as usize);
+    if squares.squares() == 0 {
+        return Ok(Some(binding.every));
+    }
+    let place = Place {
+        game: binding.scope.game,
+        variations: binding.scope.variations,
+        node: n,
+    };
+    let truth = square_here(binding.every, binding.name, squares, asked, &place, names)?;
+    Ok(truth)
+}
