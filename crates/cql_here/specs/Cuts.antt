@@ -44,4 +44,5 @@ pub record HaveName (name : List ℕ) (fs : FilterTrees) : Type 0 where
 
 -- where a part of a move is met by a square, the set has the square that is bound to the name
 pub record Allows (name : List ℕ) (w : WrittenTree) (square : Option ℕ) (set : ℕ) : Type 0 where
-  pub keeps : (tree : SearchedTree) (e : Names) (n s : ℕ) → s < 64 → meets (written_value tree [] ((name, s) ∷ e) w n) square ≡ true → is_in set s ≡ true
+  pub keeps : (tree : SearchedTree) (e : Names) (n s : ℕ) → s < 64 → meets (written_value tree [] ((name, s) ∷ e) w n) square ≡ true
+      → is_in set s ≡ true

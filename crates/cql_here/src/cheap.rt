@@ -2,13 +2,16 @@
 
 use cql_syntax::{Chain, Filter, Filters, Form, Kind, Plain, Played, Unary};
 
-/// Whether a filter is answered node by node, and cheaply, where the nodes above each may be looked at or may not.
+/// Whether a filter is answered node by node, and cheaply, where the nodes above each may be looked at or may not. What is the same at all
+/// nodes, as a tag, and what takes many steps, as a direction, is left to be asked before.
 #[cycle(is_cheap)]
 pub(crate) fn is_cheap(f: &Filter, upwards: bool) -> bool {
     match &f.form {
         Form::Squares(_) | Form::Number(_) | Form::Name(_) | Form::Comment(_) => true,
         Form::Plain(word) => is_cheap_word(*word),
-        Form::Unary(word, part) => is_cheap_mark(*word, upwards) && is_cheap(part, upwards),
+        Form::Unary(word, part) => {
+            is_cheap_mark(*word, upwards) && is_cheap(part, upwards && !goes_up(*word))
+        }
         Form::Chain(chain, parts) => is_cheap_chain(*chain) && are_cheap(parts, upwards),
         Form::Pair(_, first, second) => is_cheap(first, upwards) && is_cheap(second, upwards),
         Form::If(condition, then, otherwise) => {
@@ -54,7 +57,8 @@ fn is_cheap_part(part: &Option<Box<Filter>>, upwards: bool) -> bool {
 fn is_cheap_word(word: Plain) -> bool {
     match word {
         Plain::Mate | Plain::Stalemate | Plain::Terminal | Plain::Ply | Plain::Depth => false,
-        _ => true,
+        Plain::Check | Plain::Wtm | Plain::Btm | Plain::Initial | Plain::Mainline => true,
+        Plain::Variation | Plain::HasComment | Plain::MoveNumber | Plain::Year => true,
     }
 }
 
@@ -63,6 +67,14 @@ fn is_cheap_mark(word: Unary, upwards: bool) -> bool {
         Unary::Find => false,
         Unary::FindUp => upwards,
         _ => true,
+    }
+}
+
+// Among the nodes above each those above are not looked at again.
+fn goes_up(word: Unary) -> bool {
+    match word {
+        Unary::FindUp => true,
+        _ => false,
     }
 }
 

@@ -26,12 +26,11 @@ use cql_values::words::standing_on;
 struct Trial<'a, 'b> {
     name: &'a [u8],
     place: &'a Place<'b>,
-    /// The squares that are bound to other names.
+    /// What is bound outside, the name itself perhaps, which is hidden here.
     names: &'a Names,
 }
 
-/// The squares of a set that are tried for a name, to learn whether what is asked holds of every square of it, or of some: of some, those
-/// with which it may hold.
+/// Squares of a set by which is answered whether what is asked holds of every square of it, or of some.
 pub(crate) fn tried<'x, 'y>(
     every: bool,
     name: &'x [u8],
@@ -100,18 +99,18 @@ fn worth_in_common(trial: &Trial, parts: &Filters, set: u64) -> u64
     requires { IsAt trial.now.place.now }
     ensures { IsCut (λ s. spec.holds (spec.intersection_of (values_with trial.now (filters_tree parts.now) s))) set result }
 {
-    if !has_name(trial.name, parts) {
+    if !some_own(trial.name, parts) {
         return set;
     }
     let mut left = set;
     for part in parts.as_slice() {
-        left = worth_of_pair(trial, part, left) & fixed_or_all(trial, part);
+        left = worth_if_pair(trial, part, left) & fixed_or_all(trial, part);
     }
     left
 }
 
 // Whether one of some sets has no square but the one that is bound to the name.
-fn has_name(name: &[u8], parts: &Filters) -> bool
+fn some_own(name: &[u8], parts: &Filters) -> bool
     ensures { result ≡ true → HaveName name.now (filters_tree parts.now) }
 {
     for part in parts.as_slice() {
@@ -124,7 +123,7 @@ fn has_name(name: &[u8], parts: &Filters) -> bool
 
 // The squares with which a filter of two parts may hold.
 #[tactic(auto, unfolding(cql_syntax::specs::Meaning::value))]
-fn worth_of_pair(trial: &Trial, asked: &Filter, set: u64) -> u64
+fn worth_if_pair(trial: &Trial, asked: &Filter, set: u64) -> u64
     requires { IsAt trial.now.place.now }
     ensures { IsCut (λ s. spec.holds (value_with trial.now (filter_tree asked.now) s)) set result }
 {

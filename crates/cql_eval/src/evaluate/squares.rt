@@ -32,8 +32,8 @@ use cql_values::sets::has_square;
 use std::alloc::Global;
 use std::sync::ledger::Ledger;
 
-/// Whether what is asked of a square holds of every square of a set, or of some: of some, where only those squares are tried with which it
-/// may hold.
+/// Whether what is asked of a square holds of every square of a set, or of some: of some all at once where it is asked whether the move
+/// went there, and else of those alone with which it may hold.
 #[cycle(evaluate)]
 pub(super) fn asked_truths<L: Ledger>(
     alloc: Global,

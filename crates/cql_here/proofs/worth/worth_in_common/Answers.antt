@@ -16,9 +16,9 @@ loop-part-preserved c =
     = λ s h. each_passes (λ v. has v s) (tree_of trial.place.now) ((trial.name.now, s) ∷ trial.names.now) trial.place.now.node
     c.as_slice-part-items.result.now c.loop-part.part-index c.part-item.result c.loop-part-test.true c.part-item.is
     (ap (λ fs. list_all (λ v. has v s) (values_with trial fs s)) c.as_slice-part-items.ensures.tree
-    ∙ in_common (tree_of trial.place.now) trial.names.now trial.place.now.node s trial.name.now parts (c.has_name.ensures c.if-not-has_name.false) h) in
-    cut_common all c.args.set c.worth_of_pair.result c.fixed_or_all.result
+    ∙ in_common (tree_of trial.place.now) trial.names.now trial.place.now.node s trial.name.now parts (c.some_own.ensures c.if-not-some_own.false) h) in
+    cut_common all c.args.set c.worth_if_pair.result c.fixed_or_all.result
     (λ s i h. c.fixed_or_all.ensures s s (on_board c.args.set s c.ranges.set.fits i) (had s h))
-    (cut_again all (λ s. holds (value_with trial (filter_tree c.part-item.result) s)) c.args.set c.loop-part.left c.worth_of_pair.result
+    (cut_again all (λ s. holds (value_with trial (filter_tree c.part-item.result) s)) c.args.set c.loop-part.left c.worth_if_pair.result
     (λ s i h. having_holds (value_with trial (filter_tree c.part-item.result) s) s (on_board c.args.set s c.ranges.set.fits i) (had s h))
-    c.loop-part.invariant c.worth_of_pair.ensures)
+    c.loop-part.invariant c.worth_if_pair.ensures)

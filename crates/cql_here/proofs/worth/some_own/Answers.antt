@@ -1,7 +1,7 @@
 use Rattle.std.proofs.Common.{subst}
 use Rattle.cql_here.specs.Cuts.{HaveName}
 use Rattle.cql_here.proofs.Cutting.{named}
-use Rattle.cql_here.proofs.worth.has_name.Goals as goal
+use Rattle.cql_here.proofs.worth.some_own.Goals as goal
 
 pub returns-then-is_own : goal.returns-then-is_own
 returns-then-is_own c = λ yes.
