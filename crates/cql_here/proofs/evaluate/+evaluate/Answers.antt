@@ -1,5 +1,5 @@
-use Rattle.std.proofs.Common.{rules, ◌≡◌, ℕ, ◌+◌, ◌^◌, ◌<◌, ◌∷◌, [], List, Bool, true, false, ◌&&◌, ◌||◌, refl, drop, length, map, ap, ap₂, sym, ◌∙◌, subst, arith, Some}
-use Rattle.std.specs.Prelude.{filter, IfOk, IfSome, OnOk, if◌then◌else◌, not}
+use Rattle.std.proofs.Common.{rules, ◌≡◌, ℕ, ◌^◌, ◌<◌, ◌∷◌, Bool, true, false, ◌&&◌, ◌||◌, refl, drop, length, ap, ap₂, sym, ◌∙◌, subst, arith, Some}
+use Rattle.std.specs.Prelude.{filter, IfOk, IfSome}
 use Rattle.std.specs.List.{list_any, list_all}
 use Rattle.cq_bits.proofs.Gathering.{cleared, smaller}
 use Rattle.cq_geometry.specs.Squares.{squares}
