@@ -27,7 +27,7 @@ pub(crate) fn truths_here(
         (λ n. spec.square_of binding.now.every (shown binding.now.squares.now n) (holds_with binding.now (filter_tree asked.now) n)))) }
 {
     let game = binding.scope.game;
-    if !is_asked_here(asked, game) {
+    if !is_asked_here(binding.every, binding.name, asked, game) {
         return Ok(None);
     }
     let mut names = binding.scope.names.copy(alloc)?;

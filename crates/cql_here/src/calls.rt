@@ -6,7 +6,7 @@ ghost use Rattle.cql_syntax.specs.TreeOf.{filter_tree};
 ghost use Rattle.cql_syntax.specs.Values as spec;
 ghost use Rattle.cql_values.specs.Shown.{meant};
 
-use crate::cheap::is_cheap;
+use crate::cheap::{is_cheap, is_moved};
 use crate::evaluate::square_at;
 use crate::place::Place;
 use cq_outside::{NoMemory, Refusal};
@@ -43,7 +43,11 @@ pub fn square_here(
 /// The most nodes of a game in which the nodes above each node are looked at, one by one.
 const MOST_NODES: u32 = 1_024;
 
-/// Whether a filter is answered node by node, and cheaply in this game. It is a guess, on which nothing rests.
-pub fn is_asked_here(asked: &Filter, game: &Game) -> bool {
-    is_cheap(asked, game.len() <= MOST_NODES)
+/// Whether what is asked of every square, or of some, is answered node by node, and cheaply in this game. It is a guess, on which nothing
+/// rests. The nodes above a node are looked at where few squares are tried there.
+pub fn is_asked_here(every: bool, name: &[u8], asked: &Filter, game: &Game) -> bool {
+    is_cheap(
+        asked,
+        game.len() <= MOST_NODES && is_moved(every, name, asked),
+    )
 }

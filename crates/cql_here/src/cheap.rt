@@ -17,8 +17,10 @@ pub(crate) fn is_cheap(f: &Filter, upwards: bool) -> bool {
         Form::If(condition, then, otherwise) => {
             is_cheap(condition, upwards) && is_cheap(then, upwards) && is_cheap(otherwise, upwards)
         }
-        Form::Square(_, _, squares, asked) => is_cheap(squares, upwards)
-            && is_cheap(asked, upwards),
+        Form::Square(every, name, squares, asked) => {
+            is_cheap(squares, upwards)
+                && is_cheap(asked, upwards && is_moved(*every, name.as_slice(), asked))
+        }
         Form::Played(played) => is_cheap_move(played, upwards),
         Form::Sort(.., part) => is_cheap(part, upwards),
         Form::Any(kind, parts) => is_cheap_kind(*kind) && are_cheap(parts, upwards),
@@ -50,6 +52,41 @@ fn is_cheap_part(part: &Option<Box<Filter>>, upwards: bool) -> bool {
     match part {
         Some(part) => is_cheap(part, upwards),
         None => true,
+    }
+}
+
+/// Whether of the squares of a name those of a move alone are tried: a square that the move came from, went to or took on.
+#[cycle(is_moved)]
+pub(crate) fn is_moved(every: bool, name: &[u8], asked: &Filter) -> bool {
+    match &asked.form {
+        Form::Chain(Chain::And | Chain::All, parts) => !every && is_moved_in_some(name, parts),
+        Form::Square(_, inner, _, part) => {
+            !every && inner.as_slice() != name && is_moved(false, name, part)
+        }
+        Form::Played(played) => {
+            !every
+                && (is_name(name, &played.origin)
+                    || is_name(name, &played.goal)
+                    || is_name(name, &played.taken))
+        }
+        _ => false,
+    }
+}
+
+#[cycle(is_moved)]
+fn is_moved_in_some(name: &[u8], parts: &Filters) -> bool {
+    for part in parts.as_slice() {
+        if is_moved(false, name, part) {
+            return true;
+        }
+    }
+    false
+}
+
+fn is_name(name: &[u8], part: &Option<Box<Filter>>) -> bool {
+    match part {
+        Some(part) => matches!(&part.form, Form::Name(text) if text.as_slice() == name),
+        None => false,
     }
 }
 
