@@ -15,7 +15,7 @@ use super::covers::cover;
 use super::evaluate;
 use super::goals::goal_truths;
 use super::trial::Trial;
-use crate::attacks::{attack_truths, attacked_part};
+use crate::attacks::{attack_truths, attacked_part, is_attack_alone};
 use crate::binding::Binding;
 use crate::covers::sets_of;
 use crate::filter_column::FilterColumn;
@@ -52,6 +52,10 @@ pub(super) fn asked_truths<L: Ledger>(
 {
     let every = binding.every;
     if every {
+        return square_truths(alloc, binding, asked, live, steps);
+    }
+    // All squares are asked at once there, so it would gain nothing to leave some out.
+    if is_attack_alone(binding.name, asked) {
         return square_truths(alloc, binding, asked, live, steps);
     }
     let opened = only_name(alloc, binding.name)?;
