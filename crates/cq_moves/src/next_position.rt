@@ -9,7 +9,7 @@ use crate::after::{men_after, middle};
 use cq_geometry::{Square, ranks_apart};
 use cq_position::home::rook_home;
 use cq_position::position::is_pawn;
-use cq_position::{Move, Position, Rights, Side, king_of, opponent};
+use cq_position::{Man, Move, Position, Rights, Side, king_of, opponent};
 
 /// The position after a legal move.
 ///
@@ -51,11 +51,12 @@ fn rights_after(position: &Position, m: &Move) -> Rights
     if !has_some(&rights) {
         return rights;
     }
+    let man = position.at(m.from);
     Rights {
-        white_kingside: keeps_right(position, m, Side::White, true),
-        white_queenside: keeps_right(position, m, Side::White, false),
-        black_kingside: keeps_right(position, m, Side::Black, true),
-        black_queenside: keeps_right(position, m, Side::Black, false),
+        white_kingside: keeps_right(position, man, m, Side::White, true),
+        white_queenside: keeps_right(position, man, m, Side::White, false),
+        black_kingside: keeps_right(position, man, m, Side::Black, true),
+        black_queenside: keeps_right(position, man, m, Side::Black, false),
     }
 }
 
@@ -70,15 +71,13 @@ fn has_some(rights: &Rights) -> bool
         || rights.black_queenside
 }
 
-// Whether a right is left: neither king nor rook has moved or was captured.
-fn keeps_right(position: &Position, m: &Move, side: Side, kingside: bool) -> bool
+// Whether a right is left: neither king nor rook has moved or was captured. `man` is the one that moves.
+fn keeps_right(position: &Position, man: Man, m: &Move, side: Side, kingside: bool) -> bool
+    requires { man ≡ man_at position.now.men m.now.from }
     ensures { result ≡ legal.keeps_right position.now m.now side kingside }
 {
     let home = rook_home(side, kingside);
-    position.may_castle(side, kingside)
-        && position.at(m.from) != king_of(side)
-        && m.from != home
-        && m.to != home
+    position.may_castle(side, kingside) && man != king_of(side) && m.from != home && m.to != home
 }
 
 // How far the move goes is asked first, as few moves go two ranks.
