@@ -101,6 +101,7 @@ MOVES = 65532 * 4
 WALKS = (
     "cql() ply > 99999",
     "cql() depth > 99",
+    "cql() sincecapture > 99999",
     "cql() find mate",
     "cql() find <-- mate",
     "cql() child terminal",

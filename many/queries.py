@@ -52,7 +52,7 @@ def asked(query):
         else:
             out += token
         tag = before[-2] if before[-1] in (b"white", b"black") else before[-1]
-        missing = missing or is_text and tag in (b"player", b"event", b"site") and token in (b'""', b'"?"')
+        missing = missing or is_text and tag in (b"player", b"event", b"site", b"round") and token in (b'""', b'"?"')
         sorts = sorts or token == b"sort" and not is_file
         if head is None and token == b"(":
             head = len(out)

@@ -35,7 +35,7 @@ def flat(f, g):
         return W("player", *([ex(a[0])] if a[0] else []), S(a[1]))
     if k == "elo":
         return W("elo", *([ex(a[0])] if a[0] else []))
-    if k in ("event", "site", "comment"):
+    if k in ("event", "site", "round", "comment"):
         return W(k, S(a[0]))
     if k in ("not", "find", "child", "parent", "~", "#", "power"):
         return W(k, flat(a[0], g))

@@ -441,6 +441,7 @@ NUMBER_TEXTS = [
     "ply",
     "movenumber",
     "depth",
+    "sincecapture",
     "#P",
     "#p",
     "power A",
@@ -550,6 +551,7 @@ class FilterGenerator:
                 "ply",
                 "movenumber",
                 "depth",
+                "sincecapture",
                 "ply",
                 "year",
                 "elo",
@@ -642,6 +644,7 @@ class FilterGenerator:
                     "player " + one_of("", "white ", "black ") + '"%s"' % one_of("x", "", "M", "a", '"[:0]), '[:0]),
                     'event "x"',
                     'site "b"',
+                    'round "1"',
                     "elo",
                     "year",
                 ]

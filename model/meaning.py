@@ -286,6 +286,11 @@ class Search:
             d = self.game.tags.get(b"Date", b"")[:4]
             return int(d) if len(d) == 4 and all(c in DIGITS for c in d) else None
         r = 0
+        if w == "sincecapture":
+            while n.parent is not None and n.move is not None and self.taken(n) is None:
+                r += 1
+                n = n.parent
+            return r
         while n.parent is not None:
             if w == "ply" or n.parent.children[0] is not n:
                 r += 1
@@ -328,7 +333,7 @@ class Search:
             return self.game.result == r
         if k == "player":
             return any(a[1] in self.game.tags.get(t, b"") for t in tags_of(a[0], g, b"White", b"Black"))
-        if k in ("event", "site"):
+        if k in ("event", "site", "round"):
             return a[0] in self.game.tags.get(k.capitalize().encode(), b"")
         if k == "not":
             return not self.holds(a[0], g, n, e)
@@ -368,15 +373,20 @@ class Search:
         assert k == "move"
         return self.move(a, g, n, e)
 
+    def taken(self, n):
+        """the square of the man that the move to a node took, where it is a move of a man"""
+        o, t, _ = n.move
+        b = n.parent.pos.board
+        if b[t] == EMPTY and b[o] % 6 == PAWN and (o & 7) != (t & 7):
+            return (o >> 3) * 8 + (t & 7)
+        return t if b[t] != EMPTY else None
+
     def move(self, a, g, n, e):
         """is the move that leads to the node one of the move filter's"""
         if n.parent is None or n.move is None:
             return False
         o, t, pr = n.move
-        b = n.parent.pos.board
-        taken = t if b[t] != EMPTY else None
-        if b[t] == EMPTY and b[o] % 6 == PAWN and (o & 7) != (t & 7):
-            taken = (o >> 3) * 8 + (t & 7)
+        taken = self.taken(n)
         if a[0] is not None and not self.set(a[0], g, n.parent, e) >> o & 1:
             return False
         if a[1] is not None and not self.set(a[1], g, n, e) >> t & 1:

@@ -23,10 +23,12 @@ ROWS = [
     "flip rotate90 flipvertical fliphorizontal flipcolor shift shifthorizontal shiftvertical",
     "sort comment",
     "move from to capture promote",
+    "round",
+    "sincecapture",
 ]
 WORDS = set(" ".join(ROWS).split())
-PLAIN_WORDS = set((ROWS[1] + " " + ROWS[2]).split())
-NUMBER_WORDS = set(ROWS[2].split())
+NUMBER_WORDS = set((ROWS[2] + " " + ROWS[13]).split())
+PLAIN_WORDS = set(ROWS[1].split()) | NUMBER_WORDS
 DIRECTIONS = ROWS[7].split()
 FAMILIES = ROWS[9].split()
 RESERVED = set(
@@ -294,6 +296,7 @@ class Parser:
                 "player",
                 "event",
                 "site",
+                "round",
                 "elo",
                 "comment",
                 "between",
@@ -507,7 +510,7 @@ class Parser:
                 if self.word("white", "black"):
                     of = self.take("Word")
                 return Filter(at, "player", of, self.take("Text")) if v == "player" else Filter(at, "elo", of)
-            if v in ("event", "site", "comment"):
+            if v in ("event", "site", "round", "comment"):
                 self.index += 1
                 return Filter(at, v, self.take("Text"))
             if v == "between":

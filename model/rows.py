@@ -67,6 +67,8 @@ FOUND = [
     ),
     ("cql() parent initial child child Nf3", OPENED, "1. e4 {CQL} 1... e5 2. Nf3 *"),
     ("cql(variations) depth == 1 variation terminal", "1. e4 (1. d4) e5 *", "1. e4 (1. d4 {CQL}) 1... e5 *"),
+    ("cql() sincecapture == 1", "1. e4 d5 2. exd5 Nf6 *", "1. e4 {CQL} 1... d5 2. exd5 Nf6 {CQL} *"),
+    ("cql() sincecapture == 0", "1. e4 d5 2. exd5 *", "{CQL} 1. e4 d5 2. exd5 {CQL} *"),
     ("cql() ply == 2 movenumber == 2 wtm", OPENED, "1. e4 e5 {CQL} 2. Nf3 *"),
     ("cql() hascomment mainline", "1. e4 {book} e5 *", "1. e4 {book} {CQL} 1... e5 *"),
     ("cql() rotate90 Ka1", '[FEN "k6K/8/8/8/8/8/8/8 w - - 0 1"]\n*\n', "{CQL} *", "k6K/8/8/8/8/8/8/8 w - - 0 1"),
@@ -109,6 +111,8 @@ MISSED = [
     ("cql() stalemate", ITALIAN),
     ("cql() result 1/2-1/2", ITALIAN),
     ("cql() initial parent initial", OPENED),
+    ('cql() round "?"', OPENED),
+    ("cql() sincecapture == 1", "1. -- *"),
 ]
 
 # An archive, and the status and the report of `cql() Kb4` over it, which it doesn't find.

@@ -58,7 +58,7 @@ FOREIGN = [
         "nothing; `move` asks for moves that were played. So a mate that was missed can't be found",
     ),
     Foreign("`gamenumber`", "gamenumber", "nothing"),
-    Foreign("`date`, `eco`, `tag`", "date eco tag", "`year`; for other tags `pgn-extract` before the program (docs/RECIPES.md)"),
+    Foreign("`date`, `eco`, `tag`", "date eco tag", "`year`, `round`; for other tags `pgn-extract` before the program (docs/RECIPES.md)"),
     Foreign("`echo`", "echo", "nothing"),
     Foreign("variables, `while`, `loop`, `function`, `persistent`, `dictionary`", "while loop function persistent dictionary", "nothing"),
     Foreign(
@@ -155,7 +155,7 @@ SLIPS = [
     Slip('result "1-0"', "result 1-0", "results stand without quotes", TOKEN, r'"', r"\bresult\s*\Z"),
     Slip("result draw", "result 1/2-1/2", "a result is written as in the archive", TOKEN, r"[A-Za-z]", r"\bresult\s*\Z"),
     Slip(
-        "player Fischer", 'player "Fischer"', "names stand in quotes", TOKEN, r"[A-Za-z]", r"\b(player|event|site)(\s+(white|black))?\s*\Z"
+        "player Fischer", 'player "Fischer"', "names stand in quotes", TOKEN, r"[A-Za-z]", r"\b(player|event|site|round)(\s+(white|black))?\s*\Z"
     ),
     Slip(
         'player = "Fischer"',
@@ -163,7 +163,7 @@ SLIPS = [
         "nothing stands between `player` and the name",
         BYTE,
         r"=",
-        r"\b(player|event|site)(\s+(white|black))?\s*\Z",
+        r"\b(player|event|site|round)(\s+(white|black))?\s*\Z",
     ),
     Slip("white wins", "result 1-0", "a result is written as in the archive", TOKEN, r"(white|black)\s+(wins?|won)\b"),
     Slip('white "Fischer"', 'player white "Fischer"', "`white` and `black` stand after `player` and `elo`", TOKEN, r"(white|black)\b"),

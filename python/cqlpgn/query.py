@@ -78,7 +78,7 @@ def sees_missing_tags(query: bytes) -> bool:
     before = [b"", b""]
     for token in tokens(query):
         tag = before[-2] if before[-1] in (b"white", b"black") else before[-1]
-        if token.kind == "text" and tag in (b"player", b"event", b"site") and token.bytes in (b'""', b'"?"'):
+        if token.kind == "text" and tag in (b"player", b"event", b"site", b"round") and token.bytes in (b'""', b'"?"'):
             return True
         before = [before[-1], token.bytes if token.kind != "file" else b""]
     return False

@@ -9,8 +9,8 @@ syn match cqlNumber "\<\d\{1,9}\>"
 syn match cqlName "\<[A-Za-z_][A-Za-z0-9_]*\>"
 syn keyword cqlHead cql input output matchstring variations
 syn keyword cqlPosition check mate stalemate wtm btm initial terminal mainline variation hascomment
-syn keyword cqlNumberWord ply movenumber depth year elo power max min
-syn keyword cqlHeader result player event site white black
+syn keyword cqlNumberWord ply movenumber depth sincecapture year elo power max min
+syn keyword cqlHeader result player event site round white black
 syn keyword cqlLogic not and or if then else square all in find child parent
 syn keyword cqlLine line primary move from to capture promote sort comment
 syn keyword cqlSet attacks attackedby between light dark

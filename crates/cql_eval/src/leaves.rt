@@ -16,7 +16,7 @@ use crate::spans::{asked_end, first_asked};
 use cq_outside::NoMemory;
 use cq_position::Man;
 use cql_syntax::{Designator, Plain};
-use cql_values::counts::counts;
+use cql_values::counts::{Moves, counts};
 use cql_values::numbers::counted;
 use cql_values::value::Value;
 use cql_values::words::{listed_men, standing_of, word_at};
@@ -68,23 +68,24 @@ pub(crate) fn word_values(
     ensures { IfOk result (λ values. AreValues values.items live.now (meaning.word_of (tree_in scope.now) word)) }
 {
     match word {
-        Plain::Ply => counted_values(alloc, false, scope, live),
-        Plain::Depth => counted_values(alloc, true, scope, live),
+        Plain::Ply => counted_values(alloc, Moves::All, scope, live),
+        Plain::Depth => counted_values(alloc, Moves::BeginVariations, scope, live),
+        Plain::SinceCapture => counted_values(alloc, Moves::SinceCapture, scope, live),
         _ => values_one_by_one(alloc, word, scope, live),
     }
 }
 
 fn counted_values(
     alloc: Global,
-    variations_alone: bool,
+    moves: Moves,
     scope: &Scope,
     live: &[bool],
 ) -> Result<Vec<Value>, NoMemory>
     requires tree { IsTree scope.now.game.now.nodes }
     requires asked { AreAsked (tree_in scope.now) live.now }
-    ensures { IfOk result (λ values. AreValues values.items live.now (λ n. count (moves_on variations_alone scope.now.game.now.nodes n))) }
+    ensures { IfOk result (λ values. AreValues values.items live.now (λ n. count (moves_on moves scope.now.game.now.nodes n))) }
 {
-    let counts = counts(alloc, scope.game, variations_alone)?;
+    let counts = counts(alloc, scope.game, moves)?;
     let end = asked_end(live, scope.game.len());
     let mut values = blank_values(alloc, end as usize)?;
     for n in first_asked(live, scope.game.len())..end {

@@ -15,6 +15,7 @@ cql(variations) power A - power a > 2\n\
 cql(variations) #(R | Q) + 2 * #b == 4\n\
 cql(variations) max(#P #p ply) > 7\n\
 cql(variations) min(depth 1) == 1\n\
+cql(variations) sincecapture == 1 round \"1\"\n\
 cql(variations) square x in [RQ] {x attacks k}\n\
 cql(variations) square all x in A {square y in _ {x attacks y}}\n\
 cql(variations) if check then terminal else hascomment\n\

@@ -26,6 +26,7 @@ word_maker (Some meanings.Result) = Outcome
 word_maker (Some meanings.Player) = Tagged (fields.Player sides.Either)
 word_maker (Some meanings.Event) = Tagged fields.Event
 word_maker (Some meanings.Site) = Tagged fields.Site
+word_maker (Some meanings.Round) = Tagged fields.Round
 word_maker (Some meanings.Elo) = Elo
 word_maker (Some meanings.Comment) = Comment
 word_maker (Some meanings.If) = If

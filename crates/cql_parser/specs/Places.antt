@@ -97,6 +97,7 @@ begin (Word meanings.Result) = Some ResultDue
 begin (Word meanings.Player) = Some PlayerDue
 begin (Word meanings.Event) = Some TextDue
 begin (Word meanings.Site) = Some TextDue
+begin (Word meanings.Round) = Some TextDue
 begin (Word meanings.Elo) = Some EloDue
 begin (Word meanings.Comment) = Some TextDue
 begin (Word meanings.Between) = Some BetweenOpen
@@ -132,7 +133,7 @@ part_goes group back role = None
 
 -- The place to which a token goes on.
 unfoldable pub goes : Place → Role → Option Place
--- `result RESULT`, `player [white|black] TEXT`, `event TEXT`, `site TEXT`, `comment TEXT`, `elo [white|black]`
+-- `result RESULT`, `player [white|black] TEXT`, `event TEXT`, `site TEXT`, `round TEXT`, `comment TEXT`, `elo [white|black]`
 goes ResultDue Outcome = Some Leaf
 goes PlayerDue (Word meanings.White) = Some TextDue
 goes PlayerDue (Word meanings.Black) = Some TextDue

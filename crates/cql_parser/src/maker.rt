@@ -49,6 +49,7 @@ fn word_maker(word: Option<Word>) -> Maker
             Word::Player => Maker::Tagged(Field::Player(Of::Either)),
             Word::Event => Maker::Tagged(Field::Event),
             Word::Site => Maker::Tagged(Field::Site),
+            Word::Round => Maker::Tagged(Field::Round),
             Word::Elo => Maker::Elo,
             Word::Comment => Maker::Comment,
             Word::If => Maker::If,

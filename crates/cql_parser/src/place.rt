@@ -221,6 +221,7 @@ fn begin(role: Role) -> Option<Place>
             Word::Player => Some(Place::PlayerDue),
             Word::Event => Some(Place::TextDue),
             Word::Site => Some(Place::TextDue),
+            Word::Round => Some(Place::TextDue),
             Word::Elo => Some(Place::EloDue),
             Word::Comment => Some(Place::TextDue),
             Word::Between => Some(Place::BetweenOpen),

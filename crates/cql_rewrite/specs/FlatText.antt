@@ -10,7 +10,7 @@ use Rattle.cql_syntax.specs.declared.leaves.Chain.{Chain}
 use Rattle.cql_syntax.specs.declared.leaves.Chain.TheVariants.{Or, And, All, Union, Intersect, Product, Max, Min}
 use Rattle.cql_syntax.specs.declared.leaves.Designator.{Designator}
 use Rattle.cql_syntax.specs.declared.leaves.Field.{Field}
-use Rattle.cql_syntax.specs.declared.leaves.Field.TheVariants.{Player, Event, Site}
+use Rattle.cql_syntax.specs.declared.leaves.Field.TheVariants.{Player, Event, Site, Round}
 use Rattle.cql_syntax.specs.declared.leaves.Kind.{Kind}
 use Rattle.cql_syntax.specs.declared.leaves.Kind.TheVariants.{Position, Set, Number}
 use Rattle.cql_syntax.specs.declared.leaves.Mark.{Mark}
@@ -60,6 +60,7 @@ abbrev pub field_word : Field → List ℕ
 field_word (Player whose) = whose_word meanings.Player whose
 field_word Event = word_text meanings.Event
 field_word Site = word_text meanings.Site
+field_word Round = word_text meanings.Round
 
 abbrev pub chain_word : Chain → List ℕ
 chain_word Or = word_text meanings.Or

@@ -106,6 +106,7 @@ fn field_under(exchange: bool, field: Field) -> Field
         Field::Player(of) => Field::Player(of_under(exchange, of)),
         Field::Event => Field::Event,
         Field::Site => Field::Site,
+        Field::Round => Field::Round,
     }
 }
 

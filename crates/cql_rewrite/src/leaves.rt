@@ -83,6 +83,7 @@ pub(crate) fn same_field(a: Field, b: Field) -> bool
     match (a, b) {
         (Field::Player(of), Field::Player(other)) => same_of(of, other),
         (Field::Event, Field::Event) | (Field::Site, Field::Site) => true,
+        (Field::Round, Field::Round) => true,
         _ => false,
     }
 }

@@ -45,6 +45,7 @@ pub(crate) fn field_word(alloc: Global, field: Field) -> Result<Bytes, NoMemory>
         Field::Player(of) => whose_word(alloc, Word::Player, of),
         Field::Event => Bytes::from_slice(alloc, Word::Event.text()),
         Field::Site => Bytes::from_slice(alloc, Word::Site.text()),
+        Field::Round => Bytes::from_slice(alloc, Word::Round.text()),
     }
 }
 

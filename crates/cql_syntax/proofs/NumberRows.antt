@@ -2,13 +2,14 @@
 use Rattle.std.proofs.Common.{refl}
 use Rattle.cq_geometry.specs.Squares as board
 use Rattle.cq_position.specs.Games as games
+use Rattle.cq_position.specs.Led.{led}
 use Rattle.cq_position.specs.Legal as legal
 use Rattle.cql_syntax.specs.Contexts.{designator_image}
 use Rattle.cql_syntax.specs.Meaning.{value}
 use Rattle.cql_syntax.specs.NumberRows.{NumberRows, ComparisonRows}
 
 pub number_rows : NumberRows
-unfolding value designator_image board.squares games.way_up games.first_child games.children legal.after
+unfolding value designator_image board.squares games.way_up games.first_child games.children legal.after led
 number_rows = record {
   numeral = refl;
   number_of_pawns = refl;
@@ -24,6 +25,9 @@ number_rows = record {
   depth_of_variation = refl;
   year = refl;
   no_year = refl;
+  since_no_move = refl;
+  since_moves = refl;
+  since_capture = refl;
   rating_of_white = refl;
   no_rating_of_white = refl;
   rating_of_black = refl;

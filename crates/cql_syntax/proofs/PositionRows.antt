@@ -52,6 +52,8 @@ header_rows = record {
   not_event = refl;
   site = refl;
   not_site = refl;
+  round = refl;
+  not_round = refl;
   empty_text = refl;
   missing_tag = refl;
 }

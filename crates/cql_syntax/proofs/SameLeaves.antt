@@ -14,7 +14,7 @@ use Rattle.cql_syntax.specs.declared.leaves.Chain.{Chain}
 use Rattle.cql_syntax.specs.declared.leaves.Chain.TheVariants.{Or, And, All, Union, Intersect, Product, Max, Min}
 use Rattle.cql_syntax.specs.declared.leaves.Designator.{Designator}
 use Rattle.cql_syntax.specs.declared.leaves.Field.{Field}
-use Rattle.cql_syntax.specs.declared.leaves.Field.TheVariants.{Player, Event, Site}
+use Rattle.cql_syntax.specs.declared.leaves.Field.TheVariants.{Player, Event, Site, Round}
 use Rattle.cql_syntax.specs.declared.leaves.Kind.{Kind}
 use Rattle.cql_syntax.specs.declared.leaves.Kind.TheVariants.{Position, Set, Number}
 use Rattle.cql_syntax.specs.declared.leaves.Mark.{Mark}
@@ -26,7 +26,7 @@ use Rattle.cql_syntax.specs.declared.leaves.Outcome.TheVariants.{White as WhiteW
 use Rattle.cql_syntax.specs.declared.leaves.Pair.{Pair}
 use Rattle.cql_syntax.specs.declared.leaves.Pair.TheVariants.{Attacks, AttackedBy, Between, Less, AtMost, Equal, AtLeast, Greater}
 use Rattle.cql_syntax.specs.declared.leaves.Plain.{Plain}
-use Rattle.cql_syntax.specs.declared.leaves.Plain.TheVariants.{Check, Mate, Stalemate, Wtm, Btm, Initial, Terminal, Mainline, Variation, HasComment, Ply, MoveNumber, Depth, Year}
+use Rattle.cql_syntax.specs.declared.leaves.Plain.TheVariants.{Check, Mate, Stalemate, Wtm, Btm, Initial, Terminal, Mainline, Variation, HasComment, Ply, MoveNumber, Depth, Year, SinceCapture}
 use Rattle.cql_syntax.specs.declared.leaves.Unary.{Unary}
 use Rattle.cql_syntax.specs.declared.leaves.Unary.TheVariants.{Not, Complement, Count, Power, Light, Dark, Find, FindUp, Child, Parent}
 use Rattle.cql_syntax.specs.declared.leaves.Way.{Way}
@@ -49,7 +49,7 @@ numbered : {A : Type 0} (number : A → ℕ) (back : ℕ → A) → ((a : A) →
 numbered number back is a b e = sym (is a) ∙ ap back (eqb-true (number a) (number b) e) ∙ is b
 
 abbrev plain_back : ℕ → Plain
-plain_back n = slice_index_or (Check ∷ Mate ∷ Stalemate ∷ Wtm ∷ Btm ∷ Initial ∷ Terminal ∷ Mainline ∷ Variation ∷ HasComment ∷ Ply ∷ MoveNumber ∷ Depth ∷ Year ∷ []) n Check
+plain_back n = slice_index_or (Check ∷ Mate ∷ Stalemate ∷ Wtm ∷ Btm ∷ Initial ∷ Terminal ∷ Mainline ∷ Variation ∷ HasComment ∷ Ply ∷ MoveNumber ∷ Depth ∷ Year ∷ SinceCapture ∷ []) n Check
 
 plain_is : (a : Plain) → plain_back (plain_number a) ≡ a
 plain_is Check = refl
@@ -66,6 +66,7 @@ plain_is Ply = refl
 plain_is MoveNumber = refl
 plain_is Depth = refl
 plain_is Year = refl
+plain_is SinceCapture = refl
 
 pub plains : (a b : Plain) → (plain_number a == plain_number b) ≡ true → a ≡ b
 plains a b e = numbered plain_number plain_back plain_is a b e
@@ -207,6 +208,7 @@ pub fields : (a b : Field) → same_field a b ≡ true → a ≡ b
 fields (Player a) (Player b) e = ap Player (ofs a b e)
 fields Event Event e = refl
 fields Site Site e = refl
+fields Round Round e = refl
 fields a b e = cc
 
 pub marks : (a b : Mark) → same_mark a b ≡ true → a ≡ b
@@ -229,6 +231,7 @@ pub same_fields : (a : Field) → same_field a a ≡ true
 same_fields (Player a) = same_numbers (of_number a)
 same_fields Event = refl
 same_fields Site = refl
+same_fields Round = refl
 
 pub same_marks : (a : Mark) → same_mark a a ≡ true
 same_marks Once = refl

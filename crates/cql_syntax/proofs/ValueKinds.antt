@@ -17,7 +17,7 @@ use Rattle.cql_syntax.specs.declared.leaves.Kind.TheVariants.{Position, Set, Num
 use Rattle.cql_syntax.specs.declared.leaves.Pair.{Pair}
 use Rattle.cql_syntax.specs.declared.leaves.Pair.TheVariants.{Attacks, AttackedBy, Between, Less, AtMost, Equal, AtLeast, Greater}
 use Rattle.cql_syntax.specs.declared.leaves.Plain.{Plain}
-use Rattle.cql_syntax.specs.declared.leaves.Plain.TheVariants.{Check, Mate, Stalemate, Wtm, Btm, Initial, Terminal, Mainline, Variation, HasComment, Ply, MoveNumber, Depth, Year}
+use Rattle.cql_syntax.specs.declared.leaves.Plain.TheVariants.{Check, Mate, Stalemate, Wtm, Btm, Initial, Terminal, Mainline, Variation, HasComment, Ply, MoveNumber, Depth, Year, SinceCapture}
 use Rattle.cql_syntax.specs.declared.leaves.Unary.{Unary}
 use Rattle.cql_syntax.specs.declared.leaves.Unary.TheVariants.{Not, Complement, Count, Power, Light, Dark, Find, FindUp, Child, Parent}
 
@@ -43,6 +43,7 @@ word_kept true Ply = refl
 word_kept true MoveNumber = refl
 word_kept true Depth = refl
 word_kept true Year = refl
+word_kept true SinceCapture = refl
 
 pub light_kept : (b : Bool) (u : Unary) → unary_kind (if b then exchanged_light u else u) ≡ unary_kind u
 light_kept false u = refl
@@ -72,6 +73,7 @@ word_is tree Ply n = refl
 word_is tree MoveNumber n = refl
 word_is tree Depth n = refl
 word_is tree Year n = refl
+word_is tree SinceCapture n = refl
 
 unary_is : (tree : SearchedTree) (u : Unary) (v : ℕ → Value) (n : ℕ) → is_of_kind (unary_kind u) (unary_of tree u v n) ≡ true
 unary_is tree Not v n = refl

@@ -6,7 +6,7 @@ use Rattle.cq_symmetry.specs.Images.{image, image_compass, changes_light}
 use Rattle.cq_symmetry.specs.Mappings.{PlainMapping}
 use Rattle.cql_syntax.specs.declared.leaves.Designator.{Designator}
 use Rattle.cql_syntax.specs.declared.leaves.Field.{Field}
-use Rattle.cql_syntax.specs.declared.leaves.Field.TheVariants.{Player, Event, Site}
+use Rattle.cql_syntax.specs.declared.leaves.Field.TheVariants.{Player, Event, Site, Round}
 use Rattle.cql_syntax.specs.declared.leaves.Of.{Of}
 use Rattle.cql_syntax.specs.declared.leaves.Of.TheVariants.{Either, White, Black}
 use Rattle.cql_syntax.specs.declared.leaves.Outcome.{Outcome}
@@ -55,6 +55,7 @@ abbrev pub exchanged_field : Field → Field
 exchanged_field (Player whose) = Player (exchanged_of whose)
 exchanged_field Event = Event
 exchanged_field Site = Site
+exchanged_field Round = Round
 
 abbrev pub exchanged_outcome : Outcome → Outcome
 exchanged_outcome WhiteWins = BlackWins

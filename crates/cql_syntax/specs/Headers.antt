@@ -7,7 +7,7 @@ use Rattle.cq_position.specs.declared.games.GameResult.{GameResult}
 use Rattle.cq_position.specs.declared.games.GameResult.TheVariants.{White as WhiteWon, Black as BlackWon, Draw as Drawn, Open}
 use Rattle.cq_position.specs.Games.{Game}
 use Rattle.cql_syntax.specs.declared.leaves.Field.{Field}
-use Rattle.cql_syntax.specs.declared.leaves.Field.TheVariants.{Player, Event, Site}
+use Rattle.cql_syntax.specs.declared.leaves.Field.TheVariants.{Player, Event, Site, Round}
 use Rattle.cql_syntax.specs.declared.leaves.Of.{Of}
 use Rattle.cql_syntax.specs.declared.leaves.Of.TheVariants.{Either, White, Black}
 use Rattle.cql_syntax.specs.declared.leaves.Outcome.{Outcome}
@@ -26,13 +26,14 @@ tag game name = value_or_empty (find (λ entry. bytes_eq entry.0 name) game.tags
 abbrev pub is_part_of : List ℕ → List ℕ → Bool
 is_part_of text whole = list_any (λ k. bytes_eq text (take (length text) (drop k whole))) (range_with_len 0 (length whole + 1))
 
--- whether a text is a part of a player's name, of either player's, or of the event's or the site's name
+-- whether a text is a part of a player's name, of either player's, of the event's or the site's name, or of the round
 abbrev pub has_text : Game → Field → List ℕ → Bool
 has_text game (Player White) text = is_part_of text (tag game (codes "White"))
 has_text game (Player Black) text = is_part_of text (tag game (codes "Black"))
 has_text game (Player Either) text = is_part_of text (tag game (codes "White")) || is_part_of text (tag game (codes "Black"))
 has_text game Event text = is_part_of text (tag game (codes "Event"))
 has_text game Site text = is_part_of text (tag game (codes "Site"))
+has_text game Round text = is_part_of text (tag game (codes "Round"))
 
 -- the number that a text writes, where it is digits alone and has at least one and at most so many
 abbrev pub number_in : ℕ → List ℕ → Option ℤ

@@ -7,7 +7,7 @@ use Rattle.cql_syntax.specs.declared.leaves.Kind.TheVariants.{Position, Set, Num
 use Rattle.cql_syntax.specs.declared.leaves.Pair.{Pair}
 use Rattle.cql_syntax.specs.declared.leaves.Pair.TheVariants.{Attacks, AttackedBy, Between, Less, AtMost, Equal, AtLeast, Greater}
 use Rattle.cql_syntax.specs.declared.leaves.Plain.{Plain}
-use Rattle.cql_syntax.specs.declared.leaves.Plain.TheVariants.{Check, Mate, Stalemate, Wtm, Btm, Initial, Terminal, Mainline, Variation, HasComment, Ply, MoveNumber, Depth, Year}
+use Rattle.cql_syntax.specs.declared.leaves.Plain.TheVariants.{Check, Mate, Stalemate, Wtm, Btm, Initial, Terminal, Mainline, Variation, HasComment, Ply, MoveNumber, Depth, Year, SinceCapture}
 use Rattle.cql_syntax.specs.declared.leaves.Unary.{Unary}
 use Rattle.cql_syntax.specs.declared.leaves.Unary.TheVariants.{Not, Complement, Count, Power, Light, Dark, Find, FindUp, Child, Parent}
 
@@ -26,6 +26,7 @@ plain_kind Ply = Number
 plain_kind MoveNumber = Number
 plain_kind Depth = Number
 plain_kind Year = Number
+plain_kind SinceCapture = Number
 
 abbrev pub unary_kind : Unary → Kind
 unary_kind Not = Position

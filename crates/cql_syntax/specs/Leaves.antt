@@ -8,7 +8,7 @@ use Rattle.cql_syntax.specs.declared.leaves.Chain.{Chain}
 use Rattle.cql_syntax.specs.declared.leaves.Chain.TheVariants.{Or, And, All, Union, Intersect, Product, Max, Min}
 use Rattle.cql_syntax.specs.declared.leaves.Designator.{Designator}
 use Rattle.cql_syntax.specs.declared.leaves.Field.{Field}
-use Rattle.cql_syntax.specs.declared.leaves.Field.TheVariants.{Player, Event, Site}
+use Rattle.cql_syntax.specs.declared.leaves.Field.TheVariants.{Player, Event, Site, Round}
 use Rattle.cql_syntax.specs.declared.leaves.Kind.{Kind}
 use Rattle.cql_syntax.specs.declared.leaves.Kind.TheVariants.{Position, Set, Number}
 use Rattle.cql_syntax.specs.declared.leaves.Mark.{Mark}
@@ -20,7 +20,7 @@ use Rattle.cql_syntax.specs.declared.leaves.Outcome.TheVariants.{White as WhiteW
 use Rattle.cql_syntax.specs.declared.leaves.Pair.{Pair}
 use Rattle.cql_syntax.specs.declared.leaves.Pair.TheVariants.{Attacks, AttackedBy, Between, Less, AtMost, Equal, AtLeast, Greater}
 use Rattle.cql_syntax.specs.declared.leaves.Plain.{Plain}
-use Rattle.cql_syntax.specs.declared.leaves.Plain.TheVariants.{Check, Mate, Stalemate, Wtm, Btm, Initial, Terminal, Mainline, Variation, HasComment, Ply, MoveNumber, Depth, Year}
+use Rattle.cql_syntax.specs.declared.leaves.Plain.TheVariants.{Check, Mate, Stalemate, Wtm, Btm, Initial, Terminal, Mainline, Variation, HasComment, Ply, MoveNumber, Depth, Year, SinceCapture}
 use Rattle.cql_syntax.specs.declared.leaves.Unary.{Unary}
 use Rattle.cql_syntax.specs.declared.leaves.Unary.TheVariants.{Not, Complement, Count, Power, Light, Dark, Find, FindUp, Child, Parent}
 use Rattle.cql_syntax.specs.declared.leaves.Way.{Way}
@@ -46,6 +46,7 @@ plain_number Ply = 10
 plain_number MoveNumber = 11
 plain_number Depth = 12
 plain_number Year = 13
+plain_number SinceCapture = 14
 
 abbrev pub of_number : Of → ℕ
 of_number Either = 0
@@ -158,6 +159,7 @@ abbrev pub same_field : Field → Field → Bool
 same_field (Player a) (Player b) = same_of a b
 same_field Event Event = true
 same_field Site Site = true
+same_field Round Round = true
 same_field a b = false
 
 abbrev pub same_mark : Mark → Mark → Bool

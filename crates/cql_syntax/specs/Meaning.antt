@@ -24,6 +24,7 @@ use Rattle.cq_symmetry.specs.Mappings.{PlainMapping}
 use Rattle.cql_syntax.specs.Contexts.{Context, designator_image, word_image, of_image, field_image, outcome_image, unary_image, way_image}
 use Rattle.cql_syntax.specs.Headers.{has_text, year, rating, is_result}
 use Rattle.cql_syntax.specs.Kinds.{filter_kind}
+use Rattle.cql_syntax.specs.Quiet.{since_capture}
 use Rattle.cql_syntax.specs.Trees.{FilterTree, filter_at, FormTree, designator, number, name, plain, tagged, outcome, elo, unary, direction, chain, sum_of, pair, if_, square, line, played, transform, sort, comment, any, FilterTrees, no_filters, more_filters, TermTrees, no_terms, more_terms, LineTree, path, PlayedTree, move_of, WrittenTree, left_out, written, PartTrees, no_parts, more_parts, BodyTree, atom, group}
 use Rattle.cql_syntax.specs.Values.{Value, as_truth, as_number, squares_where, count, holds, has, amount, complement_of, light_of, dark_of, reached_of, size_of, power_of, total_of, if_of, square_of, chain_of, pair_of, any_of}
 use Rattle.cql_syntax.specs.declared.extents.Extent.{Extent}
@@ -32,7 +33,7 @@ use Rattle.cql_syntax.specs.declared.leaves.Designator.{Designator}
 use Rattle.cql_syntax.specs.declared.leaves.Mark.{Mark}
 use Rattle.cql_syntax.specs.declared.leaves.Mark.TheVariants.{Once, Star, Plus, Maybe, Times}
 use Rattle.cql_syntax.specs.declared.leaves.Plain.{Plain}
-use Rattle.cql_syntax.specs.declared.leaves.Plain.TheVariants.{Check, Mate, Stalemate, Wtm, Btm, Initial, Terminal, Mainline, Variation, HasComment, Ply, MoveNumber, Depth, Year}
+use Rattle.cql_syntax.specs.declared.leaves.Plain.TheVariants.{Check, Mate, Stalemate, Wtm, Btm, Initial, Terminal, Mainline, Variation, HasComment, Ply, MoveNumber, Depth, Year, SinceCapture}
 use Rattle.cql_syntax.specs.declared.leaves.Unary.{Unary}
 use Rattle.cql_syntax.specs.declared.leaves.Unary.TheVariants.{Not, Complement, Count, Power, Light, Dark, Find, FindUp, Child, Parent}
 use Rattle.cql_syntax.specs.declared.leaves.Way.{Way}
@@ -94,6 +95,7 @@ word_of tree Ply n = count (ply tree.game.nodes n)
 word_of tree MoveNumber n = count (position_at tree n).number
 word_of tree Depth n = count (depth tree.game.nodes n)
 word_of tree Year n = as_number (year tree.game)
+word_of tree SinceCapture n = count (since_capture tree.game.nodes n)
 
 -- some of these nodes has a value that holds
 abbrev pub some_node : (ℕ → Value) → List ℕ → Value

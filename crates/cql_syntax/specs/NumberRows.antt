@@ -1,12 +1,12 @@
 -- What the filters that are numbers give: a value, and no value where a number can have none.
 use Rattle.std.specs.Prelude.{◌≡◌, true, false, [], ◌∷◌, Option, Some, None, ℤ, pos, negsuc}
 use Rattle.cq_position.specs.Board.{start_board}
-use Rattle.cql_syntax.specs.Samples.{all_of, alone, at, on, anywhere, num, filters, worked, truth}
+use Rattle.cql_syntax.specs.Samples.{all_of, alone, in_passing, at, on, anywhere, num, filters, worked, truth}
 use Rattle.cql_syntax.specs.Trees.{FilterTree, FormTree, number, plain, elo, unary, chain, sum_of, pair, sort, no_terms, more_terms}
 use Rattle.cql_syntax.specs.declared.leaves.Chain.TheVariants.{Product, Max, Min}
 use Rattle.cql_syntax.specs.declared.leaves.Of.TheVariants.{Either, White, Black}
 use Rattle.cql_syntax.specs.declared.leaves.Pair.TheVariants.{Less, AtMost, Equal, AtLeast, Greater}
-use Rattle.cql_syntax.specs.declared.leaves.Plain.TheVariants.{Ply, MoveNumber, Depth, Year}
+use Rattle.cql_syntax.specs.declared.leaves.Plain.TheVariants.{Ply, MoveNumber, Depth, Year, SinceCapture}
 use Rattle.cql_syntax.specs.declared.leaves.Unary.TheVariants.{Count, Power}
 
 -- the year of a game without a date
@@ -40,6 +40,9 @@ pub record NumberRows : Type 0 where
   pub depth_of_variation : worked all_of (plain Depth) 3 ≡ Some (pos 1)
   pub year : tested (plain Year) ≡ Some (pos 1960)
   pub no_year : without (plain Year) ≡ None
+  pub since_no_move : worked all_of (plain SinceCapture) 0 ≡ Some (pos 0)
+  pub since_moves : worked all_of (plain SinceCapture) 2 ≡ Some (pos 2)
+  pub since_capture : worked in_passing (plain SinceCapture) 1 ≡ Some (pos 0)
   pub rating_of_white : tested (elo White) ≡ Some (pos 2700)
   pub no_rating_of_white : without (elo White) ≡ None
   pub rating_of_black : tested (elo Black) ≡ Some (pos 2650)

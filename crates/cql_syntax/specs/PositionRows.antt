@@ -5,7 +5,7 @@ use Rattle.cql_syntax.specs.Samples.{all_of, main_of, alone, queen_on, at, on, a
 use Rattle.cql_syntax.specs.Trees.{FilterTree, name, plain, tagged, outcome, unary, chain, pair, if_, square, comment}
 use Rattle.cql_syntax.specs.declared.leaves.Chain.TheVariants.{Or, And, All}
 use Rattle.cql_syntax.specs.declared.leaves.Field.{Field}
-use Rattle.cql_syntax.specs.declared.leaves.Field.TheVariants.{Player, Event, Site}
+use Rattle.cql_syntax.specs.declared.leaves.Field.TheVariants.{Player, Event, Site, Round}
 use Rattle.cql_syntax.specs.declared.leaves.Of.TheVariants.{Either, White, Black}
 use Rattle.cql_syntax.specs.declared.leaves.Outcome.TheVariants.{White as WhiteWins, Black as BlackWins, Draw, Unfinished}
 use Rattle.cql_syntax.specs.declared.leaves.Pair.TheVariants.{Attacks}
@@ -73,6 +73,8 @@ pub record HeaderRows : Type 0 where
   pub not_event : in_text Event (codes "Riga") ≡ false
   pub site : in_text Site (codes "Riga") ≡ true
   pub not_site : in_text Site (codes "Cup") ≡ false
+  pub round : in_text Round (codes "7") ≡ true
+  pub not_round : in_text Round (codes "8") ≡ false
   pub empty_text : truth (alone start_board) (tagged Site []) 0 ≡ true
   pub missing_tag : truth (alone start_board) (tagged Site (codes "R")) 0 ≡ false
 

@@ -63,7 +63,7 @@ after_d4 = after start_board (step 11 27 NoPromotion)
 abbrev pub opening : Game
 opening = record {
   tags = (codes "White", codes "Tal, M") ∷ (codes "Black", codes "Fine, R") ∷ (codes "Event", codes "Cup")
-      ∷ (codes "Site", codes "Riga") ∷ (codes "Date", codes "1960.05.07")
+      ∷ (codes "Site", codes "Riga") ∷ (codes "Date", codes "1960.05.07") ∷ (codes "Round", codes "7")
       ∷ (codes "WhiteElo", codes "2700") ∷ (codes "BlackElo", codes "2650") ∷ [];
   result = WhiteWon;
   nodes = root start_board ∷ move_node 0 (step 12 28 NoPromotion) after_e4 []

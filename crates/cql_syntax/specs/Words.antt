@@ -54,6 +54,7 @@ plain_text plains.Ply = codes "ply"
 plain_text plains.MoveNumber = codes "movenumber"
 plain_text plains.Depth = codes "depth"
 plain_text plains.Year = codes "year"
+plain_text plains.SinceCapture = codes "sincecapture"
 
 -- words that stand before one filter, and the two marks that do; `find` towards the root is `find` and an arrow
 abbrev pub unary_text : Unary → List ℕ
@@ -133,6 +134,7 @@ word_text meanings.From = codes "from"
 word_text meanings.To = codes "to"
 word_text meanings.Capture = codes "capture"
 word_text meanings.Promote = codes "promote"
+word_text meanings.Round = codes "round"
 
 -- the words in order; a word's number is its place, from 0
 
@@ -206,11 +208,16 @@ abbrev pub move_words : List Word
 move_words =
     meanings.Move ∷ meanings.From ∷ meanings.To ∷ meanings.Capture ∷ meanings.Promote ∷ []
 
+-- words that came later: a tag, and a number
+abbrev pub later_words : List Word
+later_words =
+    meanings.Round ∷ meanings.Plain plains.SinceCapture ∷ []
+
 -- all words
 abbrev pub words_in_order : List Word
 words_in_order =
     header_words ++ plain_position_words ++ plain_number_words ++ tag_words ++ logic_words ++ tree_words ++ set_words
-    ++ direction_words ++ number_words ++ family_words ++ top_words ++ move_words
+    ++ direction_words ++ number_words ++ family_words ++ top_words ++ move_words ++ later_words
 
 abbrev pub words : List (List ℕ)
 words = map word_text words_in_order

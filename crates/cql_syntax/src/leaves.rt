@@ -34,6 +34,8 @@ pub enum Plain {
     MoveNumber,
     Depth,
     Year,
+    /// The moves since the last capture.
+    SinceCapture,
 }
 
 impl Plain {
@@ -45,6 +47,7 @@ impl Plain {
             Plain::Wtm | Plain::Btm | Plain::Initial | Plain::Terminal => Kind::Position,
             Plain::Mainline | Plain::Variation | Plain::HasComment => Kind::Position,
             Plain::Ply | Plain::MoveNumber | Plain::Depth | Plain::Year => Kind::Number,
+            Plain::SinceCapture => Kind::Number,
         }
     }
 }
@@ -63,6 +66,7 @@ pub enum Field {
     Player(Of),
     Event,
     Site,
+    Round,
 }
 
 /// The result of a game, by its marker: `1-0`, `0-1`, `1/2-1/2` and `*`.

@@ -52,6 +52,7 @@ pub enum Word {
     To,
     Capture,
     Promote,
+    Round,
 }
 
 /// A mark of the query language.
@@ -123,6 +124,7 @@ impl Word {
             Word::To => b"to",
             Word::Capture => b"capture",
             Word::Promote => b"promote",
+            Word::Round => b"round",
         }
     }
 }
@@ -147,6 +149,7 @@ impl Plain {
             Plain::MoveNumber => b"movenumber",
             Plain::Depth => b"depth",
             Plain::Year => b"year",
+            Plain::SinceCapture => b"sincecapture",
         }
     }
 }
@@ -239,7 +242,7 @@ impl Sign {
 }
 
 // The words in order; a word's number is its place here.
-const WORDS: [Word; 74] = [
+const WORDS: [Word; 76] = [
     Word::Cql,
     Word::Input,
     Word::Output,
@@ -314,6 +317,8 @@ const WORDS: [Word; 74] = [
     Word::To,
     Word::Capture,
     Word::Promote,
+    Word::Round,
+    Word::Plain(Plain::SinceCapture),
 ];
 
 // The marks in order; a mark's number is its place here.

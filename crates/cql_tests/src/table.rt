@@ -2,7 +2,7 @@
 use cql_syntax::{Plain, Sign, Word, is_reserved, mark_number, sign_of, word_number, word_of};
 
 /// A word, its number where the language has it, and whether it is reserved.
-static WORDS: [(&[u8], Option<u16>, bool); 11] = [
+static WORDS: [(&[u8], Option<u16>, bool); 13] = [
     (b"cql", Some(0), false),
     (b"input", Some(1), false),
     (b"output", Some(2), false),
@@ -12,6 +12,8 @@ static WORDS: [(&[u8], Option<u16>, bool); 11] = [
     (b"comment", Some(68), false),
     (b"move", Some(69), false),
     (b"promote", Some(73), false),
+    (b"round", Some(74), false),
+    (b"sincecapture", Some(75), false),
     (b"echo", None, true),
     (b"", None, false),
 ];
@@ -27,7 +29,7 @@ fn words_have_the_numbers_of_their_places(rt: HostRuntime) {
 #[test]
 fn numbers_have_their_words_and_signs(rt: HostRuntime) {
     let word = Word::Plain(Plain::Check);
-    assert_eq!(rt; (word_of(5), word_of(74)), (Some(word), None));
+    assert_eq!(rt; (word_of(5), word_of(76)), (Some(word), None));
     assert_eq!(rt;
         (mark_number(b"<--"), sign_of(1)),
         (Some(1), Some(Sign::BackArrow))

@@ -1,41 +1,68 @@
 -- How many moves are on the way to a node, from those on the way to its parent.
 use Rattle.std.proofs.Common.{◌≡◌, ℕ, zero, suc, ◌+◌, ◌-◌, ◌<◌, ◌≤◌, Bool, true, false, ◌||◌, not, List, [], ◌∷◌, ◌++◌, length, get_or, Some, None, refl, ap, ◌∙◌, sym, subst, arith, count_by, cond, ⊎_elim, inl, inr, length-append}
-use Rattle.std.specs.Prelude.{if◌then◌else◌}
+use Rattle.std.specs.Prelude.{Option, if◌then◌else◌}
+use Rattle.std.specs.List.{prefix_len}
 use Rattle.std.proofs.lemmas.Bool.{cases_order}
 use Rattle.std.proofs.lemmas.List.{get_or_append_left}
-use Rattle.std.proofs.lemmas.List.Sums.{count_by-le-length, sum_by-cons}
+use Rattle.std.proofs.lemmas.List.Sums.{count_by-le-length, sum_by-cons, prefix_len-le-length}
 use Rattle.std.proofs.Math.Seq.{get_or-append_seam}
 use Rattle.cq_position.specs.Games.{Node, node_at, way_up, IsTree}
+use Rattle.cq_position.specs.Led.{led_from, led_to}
 use Rattle.cq_position.specs.Search.{begins_variation}
+use Rattle.cq_position.specs.declared.moves.Move.{Move}
 use Rattle.cq_position.proofs.WaysUp.{way_on, parent_before}
-use Rattle.cql_values.specs.Counts.{moves_on, AreCounts}
+use Rattle.cql_syntax.specs.Quiet.{takes_nothing}
+use Rattle.cql_values.specs.Counts.{moves_on, moves_after, AreCounts}
+use Rattle.cql_values.specs.declared.counts.Moves.{Moves}
+use Rattle.cql_values.specs.declared.counts.Moves.TheVariants.{All, BeginVariations, SinceCapture}
 use Rattle.cql_values.proofs.Ways.{way_length}
 
-pub one_on : (only : Bool) (nodes : List Node) (k p : ℕ) → IsTree nodes → k < length nodes → (node_at nodes k).parent ≡ Some p
-    → moves_on only nodes k ≡ moves_on only nodes p + (if not only || begins_variation nodes k then 1 else 0)
-one_on false nodes k p tree low is =
+-- no move led to a node without a parent
+no_led : (nodes : List Node) (led_by : Option Move) → led_from nodes led_by None ≡ None
+no_led nodes None = refl
+no_led nodes (Some m) = refl
+
+-- the first of a prefix, by whether it passes
+goes_on : (b : Bool) (n : ℕ) → cond b (1 + n) 0 ≡ (if b then n + 1 else 0)
+goes_on true n = omega arith
+goes_on false n = refl
+
+pub one_on : (moves : Moves) (nodes : List Node) (k p : ℕ) → IsTree nodes → k < length nodes → (node_at nodes k).parent ≡ Some p
+    → moves_on moves nodes k ≡ moves_after moves nodes k (moves_on moves nodes p)
+one_on All nodes k p tree low is =
     let before = parent_before nodes k p tree is in
     let way = way_length nodes p (way_up nodes p) tree (omega (arith, before.0, low)) refl in
     let long : length (way_up nodes k) ≡ suc (length (way_up nodes p)) = ap length (way_on nodes k (Some p) tree is) in
     omega (arith, long, way.some_)
-one_on true nodes k p tree low is =
+one_on BeginVariations nodes k p tree low is =
     let on = ap (count_by (begins_variation nodes)) (way_on nodes k (Some p) tree is) in
     let more = sum_by-cons (λ m. cond (begins_variation nodes m) 1 0) k (way_up nodes p) in
     omega (arith, on, more)
+one_on SinceCapture nodes k p tree low is =
+    let on = ap (prefix_len (λ m. takes_nothing (led_to nodes m))) (way_on nodes k (Some p) tree is) in
+    on ∙ goes_on (takes_nothing (led_to nodes k)) (prefix_len (λ m. takes_nothing (led_to nodes m)) (way_up nodes p))
 
-pub none_on : (only : Bool) (nodes : List Node) (k : ℕ) → IsTree nodes → k ≡ 0 → (node_at nodes k).parent ≡ None → moves_on only nodes k ≡ 0
-none_on false nodes k tree root is = let long : length (way_up nodes k) ≡ suc 0 = ap length (way_on nodes k None tree is) in omega (arith, long)
-none_on true nodes k tree root is =
+pub none_on : (moves : Moves) (nodes : List Node) (k : ℕ) → IsTree nodes → k ≡ 0 → (node_at nodes k).parent ≡ None → moves_on moves nodes k ≡ 0
+none_on All nodes k tree root is = let long : length (way_up nodes k) ≡ suc 0 = ap length (way_on nodes k None tree is) in omega (arith, long)
+none_on BeginVariations nodes k tree root is =
     let on = ap (count_by (begins_variation nodes)) (way_on nodes k None tree is) in
     let more = sum_by-cons (λ m. cond (begins_variation nodes m) 1 0) k [] in
     let first : ◌≡◌ {A = ℕ} (cond (begins_variation nodes k) 1 0) 0 = ap (λ m. cond (begins_variation nodes m) 1 0) root in
     omega (arith, on, more, first)
+none_on SinceCapture nodes k tree root is =
+    let on = ap (prefix_len (λ m. takes_nothing (led_to nodes m))) (way_on nodes k None tree is) in
+    let led : led_to nodes k ≡ None = ap (led_from nodes (node_at nodes k).led_by) is ∙ no_led nodes (node_at nodes k).led_by in
+    on ∙ ap (λ l. cond (takes_nothing l) 1 0) led
 
-pub few_on : (only : Bool) (nodes : List Node) (k : ℕ) → IsTree nodes → k < length nodes → moves_on only nodes k ≤ 65536
-few_on false nodes k tree low = let way = way_length nodes k (way_up nodes k) tree low refl in omega (arith, way.few)
-few_on true nodes k tree low =
+pub few_on : (moves : Moves) (nodes : List Node) (k : ℕ) → IsTree nodes → k < length nodes → moves_on moves nodes k ≤ 65536
+few_on All nodes k tree low = let way = way_length nodes k (way_up nodes k) tree low refl in omega (arith, way.few)
+few_on BeginVariations nodes k tree low =
     let way = way_length nodes k (way_up nodes k) tree low refl in
     let some_of = count_by-le-length (begins_variation nodes) (way_up nodes k) in
+    omega (arith, some_of, way.few)
+few_on SinceCapture nodes k tree low =
+    let way = way_length nodes k (way_up nodes k) tree low refl in
+    let some_of = prefix_len-le-length (λ m. takes_nothing (led_to nodes m)) (way_up nodes k) in
     omega (arith, some_of, way.few)
 
 pub counts_none : (count : ℕ → ℕ) (counts : List ℕ) → counts ≡ [] → AreCounts count 0 counts

@@ -10,7 +10,8 @@ use cql_syntax::{Field, Of, Outcome};
 use memchr::memmem;
 use pgn_tree::Game;
 
-/// Whether a text is a part of a player's name, of either player's, or of the event's or the site's name.
+/// Whether a text is a part of a player's name, of either player's, or of the event's or the site's name, or of the
+/// round.
 pub fn has_text(game: &Game, field: Field, text: &[u8]) -> bool
     ensures { result ≡ spec.has_text game.now field text.now }
 {
@@ -22,6 +23,7 @@ pub fn has_text(game: &Game, field: Field, text: &[u8]) -> bool
         }
         Field::Event => is_part(text, tag(game, b"Event")),
         Field::Site => is_part(text, tag(game, b"Site")),
+        Field::Round => is_part(text, tag(game, b"Round")),
     }
 }
 

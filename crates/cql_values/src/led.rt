@@ -5,6 +5,7 @@ ghost use Rattle.cq_position.specs.Led as played;
 ghost use Rattle.cq_position.specs.Led.{PlainLed};
 ghost use Rattle.cql_played.specs.Led.{as_led};
 ghost use Rattle.cql_syntax.specs.Meaning as meaning;
+ghost use Rattle.cql_syntax.specs.Quiet as quiet;
 ghost use Rattle.cql_values.specs.Shown.{meant};
 ghost use Rattle.cql_values.specs.Trees.{searched_tree};
 
@@ -35,6 +36,18 @@ pub fn led_to(game: &Game, n: u32) -> Option<Led>
     let parent = game.parent(n)?;
     let m = game.move_to(n)?;
     led_by(game.position(parent), m)
+}
+
+/// Whether a move led to a node that took no man.
+pub fn takes_nothing(game: &Game, n: u32) -> bool
+    requires tree { IsTree game.now.nodes }
+    requires node { n < length game.now.nodes }
+    ensures { result ≡ quiet.takes_nothing (played.led_to game.now.nodes n) }
+{
+    match &led_to(game, n) {
+        Some(led) => led.taken.is_none(),
+        None => false,
+    }
 }
 
 /// Whether a move is as it is asked for in each part that is written.

@@ -4,8 +4,10 @@ ghost use Rattle.std.specs.List.{range_with_len};
 ghost use Rattle.cq_position.specs.Games as games;
 ghost use Rattle.cq_position.specs.Games.{IsTree};
 ghost use Rattle.cq_position.specs.Search as search_of;
+ghost use Rattle.cql_syntax.specs.Quiet as quiet;
 ghost use Rattle.cql_values.specs.Trees.{searched_tree};
 
+use crate::led::takes_nothing;
 use crate::numbers::one_if;
 use cq_outside::NoMemory;
 use pgn_tree::Game;
@@ -161,4 +163,19 @@ pub fn depth(alloc: Global, game: &Game, n: u32) -> Result<u32, NoMemory>
         count += one_if(begins_variation(game, way[k]));
     }
     Ok(count)
+}
+
+/// How many moves led to a node since the last that took a man.
+pub fn since_capture(alloc: Global, game: &Game, n: u32) -> Result<u32, NoMemory>
+    requires tree { IsTree game.now.nodes }
+    requires node { n < length game.now.nodes }
+    ensures { IfOk result (λ count. count ≡ quiet.since_capture game.now.nodes n) }
+{
+    let way = way_up(alloc, game, n)?;
+    for k in 0..way.len() {
+        if !takes_nothing(game, way[k]) {
+            return Ok(k as u32);
+        }
+    }
+    Ok(way.len() as u32)
 }

@@ -15,7 +15,7 @@ ghost use Rattle.cql_values.specs.Trees.{searched_tree};
 use crate::headers::year;
 use crate::numbers::counted;
 use crate::value::Value;
-use crate::walks::{children, depth, ply};
+use crate::walks::{children, depth, ply, since_capture};
 use cq_geometry::Compass;
 use cq_moves::{is_mate, is_stalemate};
 use cq_outside::NoMemory;
@@ -128,6 +128,7 @@ pub fn word_at(
         Plain::MoveNumber => counted(position.number()),
         Plain::Depth => counted(depth(alloc, game, n)?),
         Plain::Year => Value::Number(year(game)),
+        Plain::SinceCapture => counted(since_capture(alloc, game, n)?),
     })
 }
 

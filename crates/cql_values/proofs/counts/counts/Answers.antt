@@ -11,5 +11,5 @@ loop-k-preserved c =
     counts_more _ c.loop-k.k c.loop-k.counts.items c.push.new.self.items c.count_at-count.result c.in_ok-push.ensures.items c.count_at-count.ensures c.loop-k.invariant
 
 pub returns : goal.returns
-returns c = subst (λ k. AreCounts (moves_on c.args.variations_alone c.args.game.now.nodes) k c.loop-k.counts.items)
+returns c = subst (λ k. AreCounts (moves_on c.args.moves c.args.game.now.nodes) k c.loop-k.counts.items)
     (omega (arith, c.loop-k-test.false, c.loop-k.auto.k-end, c.len-k-end.ensures.len)) c.loop-k.invariant

@@ -1,0 +1,1 @@
+cql() round "7" terminal

@@ -1,0 +1,1 @@
+cql(variations) sincecapture >= 3
