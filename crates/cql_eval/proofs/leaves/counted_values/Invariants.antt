@@ -7,4 +7,4 @@ use Rattle.cql_eval.proofs.Filling.{FilledTo}
 use Rattle.cql_eval.proofs.leaves.counted_values.Given as goal
 
 abbrev pub invariant-loop-n : goal.invariant-loop-n
-invariant-loop-n l = FilledTo meant (Truth false) l.live (λ n. count (moves_on l.moves l.scope.game.now.nodes n)) l.end l.n l.values.items
+invariant-loop-n l = FilledTo meant (Truth false) l.live (λ n. count (moves_on l.fn.moves l.scope.game.now.nodes n)) l.end l.n l.values.items
