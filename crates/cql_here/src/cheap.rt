@@ -53,7 +53,8 @@ fn is_cheap_part(part: &Option<Box<Filter>>, upwards: bool) -> bool {
 // A search for legal moves, or of the nodes above or below, is not cheap.
 fn is_cheap_word(word: Plain) -> bool {
     match word {
-        Plain::Mate | Plain::Stalemate | Plain::Terminal | Plain::Ply | Plain::Depth => false,
+        Plain::Mate | Plain::Stalemate | Plain::Terminal => false,
+        Plain::Ply | Plain::Depth | Plain::SinceCapture => false,
         _ => true,
     }
 }

@@ -31,6 +31,6 @@ pub(crate) fn word_here(word: Plain, place: &Place) -> Option<Value>
         Plain::HasComment => Some(Value::Truth(game.comments(place.node) != 0)),
         Plain::MoveNumber => Some(counted(position.number())),
         Plain::Year => Some(Value::Number(year(game))),
-        Plain::Terminal | Plain::Ply | Plain::Depth => None,
+        Plain::Terminal | Plain::Ply | Plain::Depth | Plain::SinceCapture => None,
     }
 }
