@@ -62,6 +62,15 @@ cql() flipcolor { square x in [RBQ] square y in [qrbn] { x attacks y #(between(x
 cql() flipcolor square x in [RBQ] square y in [RBQ] { x attacks y y attacks k & between(x k) }
 cql() flipcolor square x in [QRBN] { move to x parent parent move from x square y in _ attackedby x { move from y parent parent move to y } }
 cql() flipcolor square x in A { btm move to x x attackedby r x attackedby b }
+cql() flipcolor square x in [QRBN] { square y in _ attackedby x { parent parent move to y move from y } parent parent move from x move to x }
+cql() flipcolor square x in [QRBN] { parent parent move from x square y in _ attackedby x { parent parent move to y move from y } move to x }
+cql() flipcolor square x in A { x attackedby r x attackedby b btm move to x }
+cql() flipcolor square x in A { x attackedby b move to x x attackedby r btm }
+cql() square y in A { move to y square x in . { move from x child child square z in A { not x & z move from y to z child child move from z to x } } }
+cql() square y in A { square x in . { child child square z in A { child child move from z to x move from y to z not x & z } move from x } move to y }
+cql() square y in A { square x in . { child child square z in A { move from y to z not x & z child child move from z to x } move from x } move to y }
+cql() square x in . square y in . { parent find <-- move from y to x move from x to y }
+cql() square y in . square x in . { parent find <-- move from y to x move from x to y }
 QUERIES
 
 [ -n "$other" ] || exit 0

@@ -23,14 +23,15 @@ pub record ArePartColumns (tree : SearchedTree) (e : Names) (p : Played) (live :
       ≡ written_value tree [] e (written_tree (out-Played p).origin) (before tree n))
   pub taken : Where live (λ n. option_map (λ c. shown c (before tree n)) parts.taken
       ≡ written_value tree [] e (written_tree (out-Played p).taken) (before tree n))
-  pub promoted : Where live (λ n. option_map (λ c. shown c n) parts.promoted ≡ written_value tree [] e (written_tree (out-Played p).promoted) n)
+  pub promoted : Where live (λ n. option_map (λ c. shown c n) parts.promoted
+      ≡ written_value tree [] e (written_tree (out-Played p).promoted) n)
 
 -- what these parts cost
 abbrev pub parts_cost : ℕ → Played → ℕ
-parts_cost searched p = written_cost searched (written_tree (out-Played p).origin) + written_cost searched (written_tree (out-Played p).taken)
-    + written_cost searched (written_tree (out-Played p).promoted)
+parts_cost searched p = written_cost searched (written_tree (out-Played p).origin)
+    + written_cost searched (written_tree (out-Played p).taken) + written_cost searched (written_tree (out-Played p).promoted)
 
--- whether the move to a node is as the columns of its parts ask, and as a goal does
+-- whether the move to a node is as the columns of its parts ask, and its goal is met
 abbrev pub is_as_asked : SearchedTree → PartColumns → Option Value → ℕ → Bool
 is_as_asked tree parts goal n = meets_all (led_to tree.game.nodes n) (option_map (λ c. shown c (before tree n)) parts.origin) goal
     (option_map (λ c. shown c (before tree n)) parts.taken) (option_map (λ c. shown c n) parts.promoted)

@@ -18,6 +18,11 @@ use cq_outside::NoMemory;
 use cql_syntax::{Chain, Designator, Filter, Form, Pair};
 use std::alloc::Global;
 
+/// Whether nothing else is asked than that a man on the square that is bound to a name attacks one of a designator's squares.
+pub(crate) fn is_attack_alone(name: &[u8], asked: &Filter) -> bool {
+    attacked_part(false, name, asked).is_some()
+}
+
 /// The designator, where it is asked of some square whether a man on it attacks one of the designator's squares.
 pub(crate) fn attacked_part<'a>(
     every: bool,

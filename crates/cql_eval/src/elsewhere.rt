@@ -75,7 +75,7 @@ pub(crate) fn found_from(
     }
 }
 
-/// The squares that stand at some of the nodes at which a word asks its part.
+/// At least the squares that stand at some of the nodes at which a word asks its part.
 #[tactic(auto, using(crate::proofs::ElsewhereLaw::same_brought))]
 pub(crate) fn brought_back(
     alloc: Global,

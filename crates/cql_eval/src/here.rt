@@ -1,5 +1,5 @@
 //! What is asked of squares one by one, asked node by node.
-ghost use Rattle.std.specs.Prelude.{◌≡◌, ◌<◌, ℕ, length, true, IfOk, IfSome, OnOk};
+ghost use Rattle.std.specs.Prelude.{◌≡◌, ◌<◌, ℕ, length, true, IfOk, IfSome};
 ghost use Rattle.cql_syntax.specs.TreeOf.{filter_tree};
 ghost use Rattle.cql_syntax.specs.Values as spec;
 ghost use Rattle.cql_eval.specs.Bindings.{holds_with};
@@ -27,7 +27,7 @@ pub(crate) fn truths_here(
         (λ n. spec.square_of binding.now.every (shown binding.now.squares.now n) (holds_with binding.now (filter_tree asked.now) n)))) }
 {
     let game = binding.scope.game;
-    if !is_asked_here(asked, game) {
+    if !is_asked_here(binding.every, binding.name, asked, game) {
         return Ok(None);
     }
     let mut names = binding.scope.names.copy(alloc)?;
@@ -42,7 +42,7 @@ pub(crate) fn truths_here(
     Ok(Some(truths))
 }
 
-// The same at one node; at a node that isn't asked for anything.
+// The same at one node; of a node that isn't wanted any truth will do.
 fn truth_here(
     binding: &Binding,
     asked: &Filter,
@@ -54,7 +54,7 @@ fn truth_here(
     requires names { names.old ≡ binding.now.scope.now.names.now }
     ensures value { IfOk result (λ here. IfSome here (λ truth. wanted ≡ true → spec.as_truth truth
         ≡ spec.square_of binding.now.every (shown binding.now.squares.now n) (holds_with binding.now (filter_tree asked.now) n))) }
-    ensures names { OnOk result (names.new ≡ names.old) }
+    ensures names { names.new ≡ names.old }
 {
     if !wanted {
         return Ok(Some(false));

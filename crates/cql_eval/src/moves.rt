@@ -58,7 +58,7 @@ fn is_promoted(asked: bool, game: &Game, n: u32) -> bool
     }
 }
 
-/// The columns of the parts of a move, its goal aside: None of a part that isn't written.
+/// The columns of the parts of a move, its goal aside: None of a part of which nothing is asked.
 #[derive(Drop)]
 pub(crate) struct PartColumns {
     pub(crate) origin: Option<FilterColumn>,
@@ -104,7 +104,7 @@ fn is_met(
     meets_parts(scope, parts, goal, n)
 }
 
-/// Whether the move to a node is as the columns of its parts ask, and as a goal does. Where it came from and what it took is asked at the
+/// Whether the move to a node is as the columns of its parts ask, and its goal is met. Where it came from and what it took is asked at the
 /// node before.
 pub(crate) fn meets_parts(scope: &Scope, parts: &PartColumns, goal: Option<Value>, n: u32) -> bool
     requires tree { IsTree scope.now.game.now.nodes }

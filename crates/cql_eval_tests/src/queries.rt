@@ -36,6 +36,19 @@ cql(variations) elo white > 2000 and player \"A\" and result 1-0\n\
 cql(variations) ~(P attackedby n) & dark P\n\
 cql(variations) shift (Pa2 & ~ _) and movenumber > 3\n\
 cql(variations) sort \"p\" ply sort min \"q\" power A btm\n\
+cql(variations) square x in A {square x in a {x attacks k}}\n\
+cql(variations) square x in A {square x in a {x attackedby R} x attacks p}\n\
+cql(variations) square x in Q & ~Q {x attacks k}\n\
+cql(variations) square all x in Q & ~Q {x attacks k}\n\
+cql() square x in . square y in . {move from x to y parent find <-- move from y to x}\n\
+cql(variations) square x in . {move to x find <-- {move capture x}}\n\
+cql(variations) square all x in a {find <-- not (x & a)}\n\
+cql(variations) square x in A {move to x promote Q}\n\
+cql(variations) square x in a {move capture x}\n\
+cql() square x in A {child {move from x} child {child {a & x}}}\n\
+cql(variations) square x in [BRQ] square y in [qrbnp] {x attacks y between(y k) & _}\n\
+cql(variations) flipcolor square x in [RBQ] square y in [RBQ] {x attacks y y attacks k & between(x k)}\n\
+cql(variations) square all x in A {if x attacks k then wtm else not x attackedby a}\n\
 cql(variations) stalemate or mate or variation";
 
 // The queries of the pages.

@@ -1,25 +1,24 @@
 -- Squares that are worth trying for a name.
-use Rattle.std.proofs.Common.{◌≡◌, ℕ, zero, suc, ◌+◌, ◌^◌, ◌<◌, Bool, true, false, ◌&&◌, ◌||◌, ◌==◌, nat_lt, List, [], ◌∷◌, length, get_or, refl, sym, ap, ap₂, ◌∙◌, subst, arith, inl, inr, Option, option_map, Some, None}
+use Rattle.std.proofs.Common.{◌≡◌, ℕ, zero, suc, ◌^◌, ◌<◌, Bool, true, false, ◌&&◌, ◌==◌, nat_lt, List, [], ◌∷◌, length, get_or, ◌⊎◌, refl, sym, ap, ap₂, ◌∙◌, arith, inl, inr, Option, option_map, Some, None}
 use Rattle.std.specs.Prelude.{bit_and}
 use Rattle.std.specs.List.{filter, list_any, list_all}
-use Rattle.std.specs.Str.{bytes_eq}
 use Rattle.std.proofs.lemmas.Bool.{cases_lt, eqb-true, lt-ltb}
 use Rattle.std.proofs.lemmas.Nat.Bits.{bit_at_ones}
 use Rattle.cq_geometry.specs.Squares.{squares}
-use Rattle.cq_position.specs.Attacks.{attacks}
 use Rattle.cq_position.specs.Bitboards.{IsBitboard}
 use Rattle.cq_position.specs.Led.{PlainLed, led_to}
 use Rattle.cq_position.specs.Search.{SearchedTree}
-use Rattle.cq_position.specs.declared.men.Man.{Man}
 use Rattle.cq_symmetry.specs.Images.{is_in}
 use Rattle.cql_played.specs.Led.{as_led}
 use Rattle.cql_played.specs.declared.led.Led.{Led}
 use Rattle.cql_syntax.specs.Contexts.{designator_image}
 use Rattle.cql_syntax.specs.Meaning.{Names, value, values, written_value, played_value, meets, meets_all, goal_if, before, stands_on, position_at}
 use Rattle.cql_syntax.specs.TreeOf.{filter_tree, filter_trees, form_tree, held_tree, played_tree, written_tree}
-use Rattle.cql_syntax.specs.Trees.{FilterTrees, PlayedTree, WrittenTree, filter_at, move_of}
-use Rattle.cql_syntax.specs.Values.{Value, holds, has, as_truth, as_squares, square_of, squares_where, related, intersection_of}
+use Rattle.cql_syntax.specs.Trees.{FilterTree, FilterTrees, pair, PlayedTree, WrittenTree, filter_at, move_of}
+use Rattle.cql_syntax.specs.Values.{Value, holds, has, as_truth, as_squares, as_number, pair_of, square_of, squares_where, related, intersection_of}
 use Rattle.cql_syntax.specs.declared.leaves.Designator.{Designator}
+use Rattle.cql_syntax.specs.declared.leaves.Pair.{Pair}
+use Rattle.cql_syntax.specs.declared.leaves.Pair.TheVariants.{Attacks, AttackedBy}
 use Rattle.cql_syntax.specs.declared.tree.Filter.{Filter}
 use Rattle.cql_syntax.specs.declared.tree.Form.{Squares}
 use Rattle.cql_syntax.specs.declared.tree.Played.{Played, Played', out-Played, outs-Played', Held-Played-origin, view-Played-origin, None', Some'}
@@ -27,13 +26,13 @@ use Rattle.cql_values.proofs.Masks.{above, in_both, is_in_bit, is_mask, nothing_
 use Rattle.cql_values.proofs.Evaluated.{by_settling}
 use Rattle.cql_values.proofs.Ranges.{left, right, both, same_any, same_truth, some_square, square_found}
 use Rattle.cql_values.specs.Asked.{settles}
-use Rattle.cql_here.specs.Cuts.{IsCut, IsName, HaveName, Allows}
+use Rattle.cql_here.specs.Cuts.{IsCut, IsName, IsOwn, HaveName}
 
 -- cut twice, where what is asked asks as much each time
-pub cut_again : (test more : ℕ → Bool) (old mid new : ℕ) → ((s : ℕ) → test s ≡ true → more s ≡ true) → IsCut test old mid → IsCut more mid new → IsCut test old new
+pub cut_again : (test more : ℕ → Bool) (old mid new : ℕ) → ((s : ℕ) → is_in old s ≡ true → test s ≡ true → more s ≡ true) → IsCut test old mid → IsCut more mid new → IsCut test old new
 cut_again test more old mid new implies first second = record {
   within = λ s e. first.within s (second.within s e);
-  keeps = λ s e h. second.keeps s (first.keeps s e h) (implies s h);
+  keeps = λ s e h. second.keeps s (first.keeps s e h) (implies s e h);
 }
 
 pub cut_more : (test more : ℕ → Bool) (old new : ℕ) → ((s : ℕ) → test s ≡ true → more s ≡ true) → IsCut more old new → IsCut test old new
@@ -60,11 +59,35 @@ each_passes test tree e n (x ∷ fs) (suc i) f low is all =
 own_square : (s t : ℕ) → (nat_lt t 64 && (s == t)) ≡ true → s ≡ t
 own_square s t e = eqb-true s t (right (nat_lt t 64) (s == t) e)
 
--- a filter among others that is the name
-pub named : (name : List ℕ) (fs : List Filter) (i : ℕ) (f : Filter) → i < length fs → f ≡ get_or fs i f → IsName name (filter_tree f) → HaveName name (filter_trees fs)
+pub name_own : (name : List ℕ) (f : FilterTree) → IsName name f → IsOwn name f
+name_own name f is = record { own = λ tree e n s t h. own_square s t (sym (ap (λ v. has v t) (is.own tree e n s)) ∙ h) }
+
+-- the squares of a filter that are so related to another's
+pub related_own : (name : List ℕ) (whole a b : FilterTree) (at : ℕ) (p : Pair) → (p ≡ Attacks) ⊎ (p ≡ AttackedBy) → whole ≡ filter_at at (pair p a b) → IsName name a → IsOwn name whole
+unfolding value
+related_own name whole a b at p (inl e) is own = record {
+  own = λ tree m n s t h. (name_own name a own).own tree m n s t
+      (left (has (value tree [] ((name, s) ∷ m) a n) t) _ (right (nat_lt t 64) _
+      (sym (ap (λ q. has (pair_of (position_at tree n).men q (value tree [] ((name, s) ∷ m) a n) (value tree [] ((name, s) ∷ m) b n)) t) e)
+      ∙ sym (ap (λ w. has (value tree [] ((name, s) ∷ m) w n) t) is) ∙ h)));
+}
+related_own name whole a b at p (inr e) is own = record {
+  own = λ tree m n s t h. (name_own name a own).own tree m n s t
+      (left (has (value tree [] ((name, s) ∷ m) a n) t) _ (right (nat_lt t 64) _
+      (sym (ap (λ q. has (pair_of (position_at tree n).men q (value tree [] ((name, s) ∷ m) a n) (value tree [] ((name, s) ∷ m) b n)) t) e)
+      ∙ sym (ap (λ w. has (value tree [] ((name, s) ∷ m) w n) t) is) ∙ h)));
+}
+
+-- a set that has a square holds
+pub having_holds : (v : Value) (s : ℕ) → s < 64 → has v s ≡ true → holds v ≡ true
+having_holds (as_truth b) s low e = cc
+having_holds (as_squares x) s low e = some_square x s low e
+having_holds (as_number n) s low e = cc
+
+-- a filter among others that has no square but the name's
+pub named : (name : List ℕ) (fs : List Filter) (i : ℕ) (f : Filter) → i < length fs → f ≡ get_or fs i f → IsOwn name (filter_tree f) → HaveName name (filter_trees fs)
 named name fs i f low is own = record {
-  own = λ tree e n s t all. own_square s t
-      (sym (ap (λ v. has v t) (own.own tree e n s)) ∙ each_passes (λ v. has v t) tree ((name, s) ∷ e) n fs i f low is all);
+  own = λ tree e n s t all. own.own tree e n s t (each_passes (λ v. has v t) tree ((name, s) ∷ e) n fs i f low is all);
 }
 
 -- some square of both that passes, where one of them is alone
@@ -197,10 +220,10 @@ unfolding value
 move_value tree e p n = ap (λ m. played_value tree [] e m n) (parts_are p)
 
 -- the parts of a move that are met
-record AreMet (l : Led) (origin goal taken promoted : Option Value) : Type 0 where
-  origin_met : meets origin (Some l.origin) ≡ true
-  goal_met : meets goal (Some l.goal) ≡ true
-  taken_met : meets taken l.taken ≡ true
+pub record AreMet (l : Led) (origin goal taken promoted : Option Value) : Type 0 where
+  pub origin_met : meets origin (Some l.origin) ≡ true
+  pub goal_met : meets goal (Some l.goal) ≡ true
+  pub taken_met : meets taken l.taken ≡ true
 
 four : (a b c d : Bool) → (a && b && c && d) ≡ true → (a ≡ true) × (b ≡ true) × (c ≡ true)
 four true true true d e = (refl, refl, refl)
@@ -219,37 +242,8 @@ are_met (Some m) l x y z w is e =
       taken_met = ap (λ k. meets z k.taken) same ∙ all.2;
     }
 
--- the squares of a move, as far as its parts allow them
-pub move_cut : (tree : SearchedTree) (e : Names) (name : List ℕ) (n set a b c : ℕ) (p : Played) (l : Led) → set < 2 ^ 64 → Some l ≡ option_map as_led (led_to tree.game.nodes n)
-    → Allows name (origin_of p) (Some l.origin) a → Allows name (goal_of p) (Some l.goal) b → Allows name (taken_of p) l.taken c
-    → IsCut (λ s. played_value tree [] ((name, s) ∷ e) (played_tree p) n) set (bit_and (bit_and (bit_and set a) b) c)
-move_cut tree e name n set a b c p l fits is at_origin at_goal at_taken =
-    cut_common test set (bit_and (bit_and set a) b) c (λ s i h. at_taken.keeps tree e (before tree n) s (on_board set s fits i) (met s h).taken_met)
-    (cut_common test set (bit_and set a) b (λ s i h. at_goal.keeps tree e n s (on_board set s fits i) (met s h).goal_met)
-    (cut_common test set set a (λ s i h. at_origin.keeps tree e (before tree n) s (on_board set s fits i) (met s h).origin_met) (uncut test set)))
-  where
-    test : ℕ → Bool
-    test s = played_value tree [] ((name, s) ∷ e) (played_tree p) n
-
-    met : (s : ℕ) → test s ≡ true → AreMet l (written_value tree [] ((name, s) ∷ e) (origin_of p) (before tree n)) (written_value tree [] ((name, s) ∷ e) (goal_of p) n)
-        (written_value tree [] ((name, s) ∷ e) (taken_of p) (before tree n)) (written_value tree [] ((name, s) ∷ e) (promoted_of p) n)
-    met s h = are_met (led_to tree.game.nodes n) l _ _ _ _ is (sym (move_value tree ((name, s) ∷ e) p n) ∙ h)
-
--- a move that is met in its first three parts
-pub move_met : (tree : SearchedTree) (e : Names) (n : ℕ) (p : Played) (l : Led) (b : Bool) → Some l ≡ option_map as_led (led_to tree.game.nodes n)
-    → meets (written_value tree [] e (origin_of p) (before tree n)) (Some l.origin) ≡ true → meets (written_value tree [] e (goal_of p) n) (Some l.goal) ≡ true
-    → meets (written_value tree [] e (taken_of p) (before tree n)) l.taken ≡ true → b ≡ meets (written_value tree [] e (promoted_of p) n) (goal_if l.promoted l.goal)
-    → b ≡ played_value tree [] e (played_tree p) n
-move_met tree e n p l b is x y z w = by (led_to tree.game.nodes n) _ _ _ _ is x y z w ∙ sym (move_value tree e p n)
-  where
-    true_three : (f g h k : Bool) → f ≡ true → g ≡ true → h ≡ true → b ≡ k → b ≡ (f && g && h && k)
-    true_three f g h k e1 e2 e3 e4 = rw (e1, e2, e3) e4
-
-    by : (o : Option PlainLed) (x y z w : Option Value) → Some l ≡ option_map as_led o → meets x (Some l.origin) ≡ true → meets y (Some l.goal) ≡ true → meets z l.taken ≡ true
-        → b ≡ meets w (goal_if l.promoted l.goal) → b ≡ meets_all o x y z w
-    by None x y z w is e1 e2 e3 e4 = cc
-    by (Some m) x y z w is e1 e2 e3 e4 =
-        let same : as_led m ≡ l = cc in
-        true_three (meets x (Some m.origin)) (meets y (Some m.goal)) (meets z m.taken) (meets w (goal_if m.promoted m.goal))
-        (ap (λ k. meets x (Some k.origin)) same ∙ e1) (ap (λ k. meets y (Some k.goal)) same ∙ e2) (ap (λ k. meets z k.taken) same ∙ e3)
-        (e4 ∙ sym (ap (λ k. meets w (goal_if k.promoted k.goal)) same))
+-- what is asked of a move, where it holds with a square bound to a name
+pub move_meets : (tree : SearchedTree) (e : Names) (n : ℕ) (p : Played) (l : Led) → Some l ≡ option_map as_led (led_to tree.game.nodes n) → played_value tree [] e (played_tree p) n ≡ true
+    → AreMet l (written_value tree [] e (origin_of p) (before tree n)) (written_value tree [] e (goal_of p) n) (written_value tree [] e (taken_of p) (before tree n))
+    (written_value tree [] e (promoted_of p) n)
+move_meets tree e n p l is h = are_met (led_to tree.game.nodes n) l _ _ _ _ is (sym (move_value tree e p n) ∙ h)

@@ -1,12 +1,12 @@
 -- Loops over filters, the nodes above one, and the squares of a set.
-use Rattle.std.proofs.Common.{◌≡◌, ◌≢◌, ℕ, ◌+◌, ◌*◌, ◌%◌, ◌^◌, ◌<◌, ◌≤◌, Bool, true, false, not, ◌&&◌, ◌||◌, List, [], ◌∷◌, map, take, drop, length, get_or, refl, sym, ap, ◌∙◌, subst, inl, inr, arith}
-use Rattle.std.specs.Prelude.{if◌then◌else◌, bit_and}
+use Rattle.std.proofs.Common.{◌≡◌, ℕ, ◌+◌, ◌*◌, ◌%◌, ◌^◌, ◌<◌, ◌≤◌, Bool, true, false, not, ◌&&◌, ◌||◌, List, [], ◌∷◌, map, take, drop, length, get_or, refl, sym, ap, ◌∙◌, subst, inl, inr, arith}
+use Rattle.std.specs.Prelude.{if◌then◌else◌}
 use Rattle.std.specs.List.{list_any, list_all}
-use Rattle.std.specs.Int.{bit_at, bit_not, trailing_zeros, w64}
+use Rattle.std.specs.Int.{bit_not, trailing_zeros, w64}
 use Rattle.std.proofs.lemmas.Bool.{cases_Bool, cases_eq}
 use Rattle.std.proofs.lemmas.List.{drop_more, drop_all, take_all}
 use Rattle.std.proofs.Math.Bool.{beq}
-use Rattle.std.proofs.lemmas.Nat.Bits.{bit_at-trailing_zeros, bit_at_clear_same, bit_at_clear_other}
+use Rattle.std.proofs.lemmas.Nat.Bits.{bit_at-trailing_zeros, bit_at_clear_other}
 use Rattle.cq_bits.proofs.Gathering.{cleared}
 use Rattle.cq_geometry.specs.Squares.{squares}
 use Rattle.cq_position.specs.Bitboards.{IsBitboard}
@@ -16,7 +16,7 @@ use Rattle.cq_symmetry.specs.Images.{is_in}
 use Rattle.cql_syntax.specs.Meaning.{Names, value, values}
 use Rattle.cql_syntax.specs.TreeOf.{filter_tree, filter_trees}
 use Rattle.cql_syntax.specs.Trees.{FilterTree, FilterTrees, filter_at, square}
-use Rattle.cql_syntax.specs.Values.{Value, as_truth, as_squares, holds, has, square_of, union_of, intersection_of}
+use Rattle.cql_syntax.specs.Values.{Value, as_squares, holds, has, square_of, union_of, intersection_of}
 use Rattle.cql_syntax.specs.declared.tree.Filter.{Filter}
 use Rattle.cql_values.proofs.Masks.{has_bit, bit_in, nothing_in, union_is, intersection_is}
 use Rattle.cql_values.proofs.Ranges.{same_truth, some_square, square_found, both, left, right, any_mapped, all_mapped}
@@ -44,14 +44,8 @@ next_item xs i x low is = drop_more xs i x low ∙ ap (λ y. y ∷ drop (i + 1) 
 
 module _ {A : Type 0} (p : A → Bool) (xs : List A) (whole : Bool) where
   module _ (i : ℕ) (x : A) (low : i < length xs) (is : x ≡ get_or xs i x) where
-    pub all_on : p x ≡ true → list_all p (drop i xs) ≡ whole → list_all p (drop (i + 1) xs) ≡ whole
-    all_on here e = sym (ap (λ b. b && list_all p (drop (i + 1) xs)) here) ∙ sym (ap (list_all p) (next_item xs i x low is)) ∙ e
-
     pub all_stop : p x ≡ false → list_all p (drop i xs) ≡ whole → false ≡ whole
     all_stop here e = sym (ap (λ b. b && list_all p (drop (i + 1) xs)) here) ∙ sym (ap (list_all p) (next_item xs i x low is)) ∙ e
-
-    pub any_on : p x ≡ false → list_any p (drop i xs) ≡ whole → list_any p (drop (i + 1) xs) ≡ whole
-    any_on here e = sym (ap (λ b. b || list_any p (drop (i + 1) xs)) here) ∙ sym (ap (list_any p) (next_item xs i x low is)) ∙ e
 
     pub any_stop : p x ≡ true → list_any p (drop i xs) ≡ whole → true ≡ whole
     any_stop here e = sym (ap (λ b. b || list_any p (drop (i + 1) xs)) here) ∙ sym (ap (list_any p) (next_item xs i x low is)) ∙ e
@@ -168,13 +162,11 @@ rebound_length [] s = refl
 rebound_length (x ∷ a) s = refl
 
 -- what is asked of each square of a set
-pub square_value : (tree : SearchedTree) (e : Names) (n : ℕ) (whole a b : FilterTree) (at : ℕ) (every : Bool) (text : List ℕ) (set : ℕ) (x : Value)
-    → whole ≡ filter_at at (square every text a b) → x ≡ value tree [] e a n → has x ≡ is_in set
-    → square_of every (as_squares (is_in set)) (λ s. holds (value tree [] ((text, s) ∷ e) b n)) ≡ value tree [] e whole n
+pub square_value : (tree : SearchedTree) (e : Names) (n at : ℕ) (every : Bool) (text : List ℕ) (a b : FilterTree) (set : ℕ) (x : Value) → x ≡ value tree [] e a n → has x ≡ is_in set
+    → square_of every (as_squares (is_in set)) (λ s. holds (value tree [] ((text, s) ∷ e) b n)) ≡ value tree [] e (filter_at at (square every text a b)) n
 unfolding value
-square_value tree e n whole a b at every text set x is of_a of_set =
+square_value tree e n at every text a b set x of_a of_set =
     square_of_has every (as_squares (is_in set)) (value tree [] e a n) (λ s. holds (value tree [] ((text, s) ∷ e) b n)) (sym of_set ∙ ap has of_a)
-    ∙ sym (ap (λ w. value tree [] e w n) is)
 
 -- the union of sets, and what they have in common
 pub union_whole : (tree : SearchedTree) (e : Names) (n : ℕ) (xs : List Filter) (fs : FilterTrees) (i mask : ℕ) → mask < 2 ^ 64 → length xs ≤ i → filter_trees xs ≡ fs

@@ -34,10 +34,15 @@ pub record IsFixed (t : Trial) (f : FilterTree) (set : ℕ) : Type 0 where
 pub record IsName (name : List ℕ) (f : FilterTree) : Type 0 where
   pub own : (tree : SearchedTree) (e : Names) (n s : ℕ) → value tree [] ((name, s) ∷ e) f n ≡ squares_where (λ t. s == t)
 
+-- it has no other square than the one that is bound to the name
+pub record IsOwn (name : List ℕ) (f : FilterTree) : Type 0 where
+  pub own : (tree : SearchedTree) (e : Names) (n s t : ℕ) → has (value tree [] ((name, s) ∷ e) f n) t ≡ true → s ≡ t
+
 -- what they have in common has no other square than the one that is bound to the name
 pub record HaveName (name : List ℕ) (fs : FilterTrees) : Type 0 where
   pub own : (tree : SearchedTree) (e : Names) (n s t : ℕ) → list_all (λ v. has v t) (values tree [] ((name, s) ∷ e) fs n) ≡ true → s ≡ t
 
 -- where a part of a move is met by a square, the set has the square that is bound to the name
 pub record Allows (name : List ℕ) (w : WrittenTree) (square : Option ℕ) (set : ℕ) : Type 0 where
-  pub keeps : (tree : SearchedTree) (e : Names) (n s : ℕ) → s < 64 → meets (written_value tree [] ((name, s) ∷ e) w n) square ≡ true → is_in set s ≡ true
+  pub keeps : (tree : SearchedTree) (e : Names) (n s : ℕ) → s < 64 → meets (written_value tree [] ((name, s) ∷ e) w n) square ≡ true
+      → is_in set s ≡ true

@@ -206,7 +206,8 @@ fn some_above(part: &Filter, place: &Place, names: &mut Names) -> Result<bool, H
 #[cycle(evaluate)]
 fn chain_at(chain: Chain, parts: &Filters, place: &Place, names: &mut Names) -> Result<Value, Halt>
     requires { IsAt place.now }
-    ensures value { IfOk result (λ v. meant v ≡ spec.chain_of chain (values_at place.now names.old (filters_tree parts.now) place.now.node)) }
+    ensures value { IfOk result (λ v. meant v
+        ≡ spec.chain_of chain (values_at place.now names.old (filters_tree parts.now) place.now.node)) }
     ensures names { names.new ≡ names.old }
 {
     match chain {
@@ -292,7 +293,8 @@ fn union_of(parts: &Filters, place: &Place, names: &mut Names) -> Result<Value, 
 #[cycle(evaluate)]
 fn common_of(parts: &Filters, place: &Place, names: &mut Names) -> Result<Value, Halt>
     requires { IsAt place.now }
-    ensures value { IfOk result (λ v. meant v ≡ spec.intersection_of (values_at place.now names.old (filters_tree parts.now) place.now.node)) }
+    ensures value { IfOk result (λ v. meant v
+        ≡ spec.intersection_of (values_at place.now names.old (filters_tree parts.now) place.now.node)) }
     ensures names { names.new ≡ names.old }
 {
     let mut mask = u64::MAX;

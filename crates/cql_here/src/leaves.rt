@@ -12,7 +12,7 @@ use cql_values::numbers::counted;
 use cql_values::value::Value;
 use cql_values::words::{is_white, mated, stalemated};
 
-/// What a word gives that asks of no node but this one.
+/// What a word gives; nothing of those that ask for other nodes, `terminal`, `ply` and `depth`.
 pub(crate) fn word_here(word: Plain, place: &Place) -> Option<Value>
     requires { place.now.node < length place.now.game.now.nodes }
     ensures { IfSome result (λ v. meant v ≡ meaning.word_of (tree_of place.now) word place.now.node) }

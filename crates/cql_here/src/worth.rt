@@ -1,14 +1,15 @@
 //! Squares that are worth trying for a name: of the squares of a set those with which what is asked may hold.
-ghost use Rattle.std.specs.Prelude.{◌≡◌, ℕ, ◌<◌, ◌&&◌, [], ◌∷◌, true, IfSome};
+ghost use Rattle.std.specs.Prelude.{◌≡◌, ℕ, ◌<◌, ◌⊎◌, ◌&&◌, [], ◌∷◌, true, IfSome};
 ghost use Rattle.std.specs.List.{list_any, list_all};
 ghost use Rattle.cq_geometry.specs.Squares.{squares};
 ghost use Rattle.cq_position.specs.Attacks.{attacks};
 ghost use Rattle.cq_symmetry.specs.Images.{is_in};
-ghost use Rattle.cql_here.specs.Cuts.{IsCut, IsFixed, IsName, HaveName, Allows, value_with, values_with, position_of};
+ghost use Rattle.cql_here.specs.Cuts.{IsCut, IsFixed, IsName, IsOwn, HaveName, Allows, value_with, values_with, position_of};
 ghost use Rattle.cql_here.specs.Places.{IsAt, tree_of, holds_at};
 ghost use Rattle.cql_syntax.specs.Meaning as meaning;
 ghost use Rattle.cql_syntax.specs.TreeOf.{filter_tree, filters_tree, written_tree, played_tree};
 ghost use Rattle.cql_syntax.specs.Values as spec;
+ghost use Rattle.cql_syntax.specs.declared.leaves.Pair.TheVariants.{Attacks, AttackedBy};
 
 use crate::place::Place;
 use cq_geometry::Square;
@@ -25,12 +26,11 @@ use cql_values::words::standing_on;
 struct Trial<'a, 'b> {
     name: &'a [u8],
     place: &'a Place<'b>,
-    /// The squares that are bound to other names.
+    /// What is bound outside, the name itself perhaps, which is hidden here.
     names: &'a Names,
 }
 
-/// The squares of a set that are tried for a name, to learn whether what is asked holds of every square of it, or of some: of some, those
-/// with which it may hold.
+/// Squares of a set by which is answered whether what is asked holds of every square of it, or of some.
 pub(crate) fn tried<'x, 'y>(
     every: bool,
     name: &'x [u8],
@@ -57,6 +57,9 @@ fn worth(trial: &Trial, asked: &Filter, set: u64) -> u64
     requires { IsAt trial.now.place.now }
     ensures { IsCut (λ s. spec.holds (value_with trial.now (filter_tree asked.now) s)) set result }
 {
+    if set == 0 {
+        return 0;
+    }
     match &asked.form {
         Form::Chain(chain, parts) => worth_in_chain(trial, *chain, parts, set),
         Form::Pair(pair, first, second) => worth_in_pair(trial, *pair, first, second, set),
@@ -65,6 +68,7 @@ fn worth(trial: &Trial, asked: &Filter, set: u64) -> u64
     }
 }
 
+// The same of a chain of filters.
 #[cycle(worth)]
 fn worth_in_chain(trial: &Trial, chain: Chain, parts: &Filters, set: u64) -> u64
     requires { IsAt trial.now.place.now }
@@ -77,6 +81,7 @@ fn worth_in_chain(trial: &Trial, chain: Chain, parts: &Filters, set: u64) -> u64
     }
 }
 
+// Of filters that must all hold.
 #[cycle(worth)]
 fn worth_in_all(trial: &Trial, parts: &Filters, set: u64) -> u64
     requires { IsAt trial.now.place.now }
@@ -89,31 +94,46 @@ fn worth_in_all(trial: &Trial, parts: &Filters, set: u64) -> u64
     left
 }
 
+// Of sets that have a square in common.
 fn worth_in_common(trial: &Trial, parts: &Filters, set: u64) -> u64
     requires { IsAt trial.now.place.now }
     ensures { IsCut (λ s. spec.holds (spec.intersection_of (values_with trial.now (filters_tree parts.now) s))) set result }
 {
-    if !has_name(trial.name, parts) {
+    if !some_own(trial.name, parts) {
         return set;
     }
     let mut left = set;
     for part in parts.as_slice() {
-        left &= fixed_or_all(trial, part);
+        left = worth_if_pair(trial, part, left) & fixed_or_all(trial, part);
     }
     left
 }
 
-fn has_name(name: &[u8], parts: &Filters) -> bool
+// Whether one of some sets has no square but the one that is bound to the name.
+fn some_own(name: &[u8], parts: &Filters) -> bool
     ensures { result ≡ true → HaveName name.now (filters_tree parts.now) }
 {
     for part in parts.as_slice() {
-        if is_name(name, part) {
+        if is_own(name, part) {
             return true;
         }
     }
     false
 }
 
+// The squares with which a filter of two parts may hold.
+#[tactic(auto, unfolding(cql_syntax::specs::Meaning::value))]
+fn worth_if_pair(trial: &Trial, asked: &Filter, set: u64) -> u64
+    requires { IsAt trial.now.place.now }
+    ensures { IsCut (λ s. spec.holds (value_with trial.now (filter_tree asked.now) s)) set result }
+{
+    match &asked.form {
+        Form::Pair(pair, first, second) => worth_in_pair(trial, *pair, first, second, set),
+        _ => set,
+    }
+}
+
+// The squares of a filter, as far as they are known; else all.
 fn fixed_or_all(trial: &Trial, part: &Filter) -> u64
     requires { IsAt trial.now.place.now }
     ensures { (s t : ℕ) → t < 64 → spec.has (value_with trial.now (filter_tree part.now) s) t ≡ true → is_in result t ≡ true }
@@ -124,6 +144,7 @@ fn fixed_or_all(trial: &Trial, part: &Filter) -> u64
     }
 }
 
+// Of men that attack a square, or that are attacked from it.
 fn worth_in_pair(trial: &Trial, pair: Pair, first: &Filter, second: &Filter, set: u64) -> u64
     requires { IsAt trial.now.place.now }
     ensures { IsCut (λ s. spec.holds (spec.pair_of (position_of trial.now).men pair
@@ -167,6 +188,7 @@ fn attacking_some(trial: &Trial, goal: &Filter, set: u64) -> u64
     }
 }
 
+// The squares of a set that a man on a square of a filter attacks, as far as its squares are known.
 fn attacked_by_some(trial: &Trial, origin: &Filter, set: u64) -> u64
     requires { IsAt trial.now.place.now }
     ensures { IsCut (λ s. list_any (λ t. spec.has (value_with trial.now (filter_tree origin.now) s) t
@@ -181,6 +203,7 @@ fn attacked_by_some(trial: &Trial, origin: &Filter, set: u64) -> u64
     }
 }
 
+// The squares of the move that led to the node, as far as its parts are the name.
 #[tactic(auto, unfolding(cql_syntax::specs::Meaning::value))]
 fn worth_in_move(trial: &Trial, played: &Played, set: u64) -> u64
     requires { IsAt trial.now.place.now }
@@ -228,6 +251,28 @@ fn fixed(trial: &Trial, f: &Filter) -> Option<u64>
             }
         }
         _ => None,
+    }
+}
+
+// Whether a filter has no square but the one that is bound to the name.
+#[tactic(auto, unfolding(cql_syntax::specs::Meaning::value))]
+fn is_own(name: &[u8], f: &Filter) -> bool
+    ensures { result ≡ true → IsOwn name.now (filter_tree f.now) }
+{
+    match &f.form {
+        Form::Name(_) => is_name(name, f),
+        Form::Pair(pair, first, _) => is_attack(*pair) && is_name(name, first),
+        _ => false,
+    }
+}
+
+// Whether a pair asks which squares of the first set attack the second, or are attacked by it.
+fn is_attack(pair: Pair) -> bool
+    ensures { result ≡ true → (pair ≡ Attacks) ⊎ (pair ≡ AttackedBy) }
+{
+    match pair {
+        Pair::Attacks | Pair::AttackedBy => true,
+        _ => false,
     }
 }
 

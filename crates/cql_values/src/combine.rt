@@ -50,6 +50,7 @@ pub fn any_of(kind: Kind, values: &[Value]) -> Value
 }
 
 /// What a filter of two parts makes of their values.
+#[inline(always)]
 pub fn pair_of(position: &Position, pair: Pair, x: Value, y: Value) -> Value
     ensures { meant result ≡ spec.pair_of position.now.men pair (meant x) (meant y) }
 {
@@ -93,6 +94,7 @@ pub fn if_of(x: Value, y: Value, z: Value) -> Value
 }
 
 /// What a word or mark before a part makes of its value, where it asks of no other node.
+#[inline(always)]
 pub fn unary_here(word: Unary, position: &Position, x: Value) -> Value
     ensures { meant result ≡ of_value position.now.men word (meant x) }
 {

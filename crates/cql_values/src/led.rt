@@ -28,6 +28,7 @@ pub fn before(game: &Game, variations: bool, n: u32) -> u32
 }
 
 /// What the move to a node led from and took, which the root has not, nor a node after a null move.
+#[inline(always)]
 pub fn led_to(game: &Game, n: u32) -> Option<Led>
     requires tree { IsTree game.now.nodes }
     requires node { n < length game.now.nodes }
@@ -51,6 +52,7 @@ pub fn takes_nothing(game: &Game, n: u32) -> bool
 }
 
 /// Whether a move is as it is asked for in each part that is written.
+#[inline(always)]
 pub fn meets_all(
     led: Option<Led>,
     origin: Option<Value>,

@@ -48,7 +48,7 @@ impl Names {
         Ok(())
     }
 
-    /// Binds the innermost name to another square; there is one.
+    /// Binds the innermost name to a square anew; there is one.
     pub fn rebind(&mut self, s: Square)
         requires { 0 < length self.old }
         ensures { self.new ≡ rebound self.old s }

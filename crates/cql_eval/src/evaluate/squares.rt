@@ -15,7 +15,7 @@ use super::covers::cover;
 use super::evaluate;
 use super::goals::goal_truths;
 use super::trial::Trial;
-use crate::attacks::{attack_truths, attacked_part};
+use crate::attacks::{attack_truths, attacked_part, is_attack_alone};
 use crate::binding::Binding;
 use crate::covers::sets_of;
 use crate::filter_column::FilterColumn;
@@ -32,8 +32,8 @@ use cql_values::sets::has_square;
 use std::alloc::Global;
 use std::sync::ledger::Ledger;
 
-/// Whether what is asked of a square holds of every square of a set, or of some: of some, where only those squares are tried with which it
-/// may hold.
+/// Whether what is asked of a square holds of every square of a set, or of some: of some all at once where it is asked whether the move
+/// went there, and else of those alone with which it may hold.
 #[cycle(evaluate)]
 pub(super) fn asked_truths<L: Ledger>(
     alloc: Global,
@@ -52,6 +52,10 @@ pub(super) fn asked_truths<L: Ledger>(
 {
     let every = binding.every;
     if every {
+        return square_truths(alloc, binding, asked, live, steps);
+    }
+    // All squares are asked at once there, so it would gain nothing to leave some out.
+    if is_attack_alone(binding.name, asked) {
         return square_truths(alloc, binding, asked, live, steps);
     }
     let opened = only_name(alloc, binding.name)?;

@@ -1,5 +1,5 @@
-use Rattle.std.proofs.Common.{rules, ◌≡◌, ℕ, ◌+◌, ◌^◌, ◌<◌, ◌∷◌, [], List, Bool, true, false, ◌&&◌, ◌||◌, refl, drop, length, map, ap, ap₂, sym, ◌∙◌, subst, arith, Some}
-use Rattle.std.specs.Prelude.{filter, IfOk, IfSome, OnOk, if◌then◌else◌, not}
+use Rattle.std.proofs.Common.{rules, ◌≡◌, ℕ, ◌^◌, ◌<◌, ◌∷◌, Bool, true, false, ◌&&◌, ◌||◌, refl, drop, length, ap, ap₂, sym, ◌∙◌, subst, arith, Some}
+use Rattle.std.specs.Prelude.{filter, IfOk, IfSome}
 use Rattle.std.specs.List.{list_any, list_all}
 use Rattle.cq_bits.proofs.Gathering.{cleared, smaller}
 use Rattle.cq_geometry.specs.Squares.{squares}
@@ -7,7 +7,7 @@ use Rattle.cq_position.specs.Games.{node_at, is_searched, next_sibling, way_up}
 use Rattle.cq_position.specs.Search.{children_in}
 use Rattle.cq_position.proofs.WaysUp.{way_from, way_on}
 use Rattle.cq_symmetry.specs.Images.{is_in}
-use Rattle.cql_syntax.specs.Meaning.{meets, written_value, before}
+use Rattle.cql_syntax.specs.Meaning.{meets}
 use Rattle.cql_syntax.specs.TreeOf.{filter_tree, filters_tree, form_tree}
 use Rattle.cql_syntax.specs.Trees.{filter_at, square}
 use Rattle.cql_syntax.specs.Values.{holds, has, as_truth, as_squares, square_of}
@@ -20,7 +20,7 @@ use Rattle.cql_values.specs.Bindings.{rebound}
 use Rattle.cql_values.specs.Shown.{meant}
 use Rattle.cql_here.specs.Places.{tree_of, value_at, values_at, holds_at}
 use Rattle.cql_here.proofs.Children.{child_found, child_passed}
-use Rattle.cql_here.proofs.Cutting.{standing_is, move_met, origin_of, goal_of, taken_of, promoted_of}
+use Rattle.cql_here.proofs.Cutting.{standing_is}
 use Rattle.cql_here.proofs.Loops.{all_values, any_values, all_stop, all_end, any_stop, any_end, settled_first, none_settles, settling, not_settling, by_found, rebound_again, rebound_outer, rebound_some, rebound_length, square_value, union_whole, common_whole}
 use Rattle.cql_here.proofs.evaluate.+evaluate.Goals as goal
 
@@ -167,10 +167,10 @@ evaluate-returns-in_ok-holds-in-Square-clause-value t c =
     let v : as_truth c.in_ok-holds-in-Square.holds ≡ square_of c.in-Square.every (as_squares (is_in c.squares.result)) (holds_at place c.in-Square.name e b)
     = c.in_ok-holds-in-Square.ensures.value ∙ ap₂ (λ text names. square_of c.in-Square.every (as_squares (is_in c.squares.result)) (holds_at place text names b))
     c.as_slice-in-Square.ensures c.evaluate-in-Square.ensures.names in
-    v ∙ square_value (tree_of place) e place.node (filter_tree f) a b f.at c.in-Square.every c.in-Square.name c.squares.result (meant c.in_ok-squares-in-Square.squares)
-    (ap (λ form. filter_at f.at (form_tree form)) c.in-Square.is
-    ∙ sym (ap₂ (λ p q. filter_at f.at (square c.in-Square.every c.in-Square.name (filter_tree p) (filter_tree q))) c.deref-in-Square.ensures c.deref-in-Square-2.ensures))
-    c.in_ok-squares-in-Square.ensures.value c.squares.ensures
+    let whole = ap (λ form. filter_at f.at (form_tree form)) c.in-Square.is
+    ∙ sym (ap₂ (λ p q. filter_at f.at (square c.in-Square.every c.in-Square.name (filter_tree p) (filter_tree q))) c.deref-in-Square.ensures c.deref-in-Square-2.ensures) in
+    v ∙ square_value (tree_of place) e place.node f.at c.in-Square.every c.in-Square.name a b c.squares.result (meant c.in_ok-squares-in-Square.squares)
+    c.in_ok-squares-in-Square.ensures.value c.squares.ensures ∙ sym (ap (λ w. value_at place e w place.node) whole)
 
 pub has_it-returns-in_ok-value-in-Some-clause-value : goal.has_it-returns-in_ok-value-in-Some-clause-value
 has_it-returns-in_ok-value-in-Some-clause-value t c =

@@ -1,4 +1,4 @@
-use Rattle.std.proofs.Common.{◌∷◌, arith, ap, ◌∙◌, sym, subst}
+use Rattle.std.proofs.Common.{◌∷◌, arith}
 use Rattle.cql_here.specs.Places.{tree_of}
 use Rattle.cql_here.proofs.Cutting.{standing_fixed}
 use Rattle.cql_here.proofs.worth.fixed.Goals as goal

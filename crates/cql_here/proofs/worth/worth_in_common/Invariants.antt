@@ -1,4 +1,3 @@
-use Rattle.std.specs.List.{list_all}
 use Rattle.cql_syntax.specs.TreeOf.{filters_tree}
 use Rattle.cql_syntax.specs.Values.{holds, intersection_of}
 use Rattle.cql_here.specs.Cuts.{IsCut, values_with}
