@@ -3,6 +3,7 @@
 Squares are numbered from a1 = 0 to h8 = 63, men by their index in MEN, an empty square is EMPTY. A side is 0 for
 White and 1 for Black. A move is (from, to, piece of the promotion or None); the null move is None."""
 
+import functools
 import re
 
 KING, QUEEN, ROOK, BISHOP, KNIGHT, PAWN = range(6)
@@ -46,6 +47,7 @@ RAYS = {
 }
 
 
+@functools.lru_cache(None)
 def between(a, b):
     """the squares strictly between two squares of a line"""
     for d in DIAGONALS + ORTHOGONALS:

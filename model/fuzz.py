@@ -4,9 +4,9 @@
     python3 fuzz.py BINARY MODE SEED COUNT
 
 MODE is `archives` (random and mutated archives), `queries` (random queries over small games), `squares` (queries with one to three
-`square`, as players write them, with `find`, `child`, `parent` and families around them), `explained` (the same queries as `queries` by
-`explain`), `many` (files of such queries, which have parts in common) or `texts` (mutated query texts and texts near the limits, by
-`check`). Differences land in the folder out/ beside this file. pypy3 is several times faster than python3 here."""
+`square`, as players write them, with `find`, `child`, `parent` and families around them, five over each archive), `explained` (the same
+queries as `queries` by `explain`), `many` (files of such queries, which have parts in common) or `texts` (mutated query texts and texts
+near the limits, by `check`). Differences land in the folder out/ beside this file. pypy3 is several times faster than python3 here."""
 
 
 import os
@@ -391,23 +391,31 @@ def small_archive():
     return b
 
 
+def answers_at(q, games):
+    """what a query says of the nodes of games, up to the first of which it says another thing than before"""
+    found = set()
+    for g in games:
+        if not isinstance(g, tuple):
+            s = meaning.Search(g, q["variations"])
+            for n in s.nodes:
+                found.add(s.is_hit(q, n))
+                if len(found) == 2:
+                    return found
+    return found
+
+
 def good_query(arch, draw=None):
     """a query that tells nodes apart, where one is found soon"""
-    gs = [g for g in program.games_of(arch) if not isinstance(g, tuple)]
+    draw = draw or random_query
+    if chance(0.12):
+        return draw()
     best = None
-    for _ in range(1 if chance(0.12) else 8):
-        t = (draw or random_query)()
-        q = query.read_query(t.encode("utf-8"))
-        tot = hit = 0
-        for g in gs:
-            hs, s = meaning.hits(q, g)
-            tot += len(s.nodes)
-            hit += len(hs)
-            if 0 < hit < tot:
-                break
-        if 0 < hit < tot:
+    for _ in range(8):
+        t = draw()
+        found = answers_at(query.read_query(t.encode("utf-8")), program.games_of(arch))
+        if len(found) == 2:
             return t
-        if best is None or hit:
+        if best is None or True in found:
             best = t
     return best
 
@@ -1056,15 +1064,19 @@ def queries_file(archive):
     return between.join(texts) + RANDOM.choice([""] * 40 + ["\n%%", "\n%%\n"])
 
 
-def random_case(mode):
-    """(query, archive)"""
+# so many queries of `squares` are asked of one archive, which takes as long to make and to read as several of them to answer
+TOGETHER = 5
+
+
+def random_case(mode, asked=None):
+    """(query, archive), of `squares` over the archive that was asked before, if any"""
     if mode == "many":
         archive = small_archive()
         return queries_file(archive), archive
     if mode == "archives":
         return random_man_query(), random_archive()
     if mode == "squares":
-        archive = small_archive()
+        archive = asked or small_archive()
         return good_query(archive, squares_query), archive
     if mode in ("queries", "explained"):
         archive = small_archive()
@@ -1104,11 +1116,11 @@ def main():
     binary, mode, seed, count = os.path.abspath(sys.argv[1]), sys.argv[2], int(sys.argv[3]), int(sys.argv[4])
     out = os.path.join(os.path.dirname(os.path.abspath(__file__)), "out")
     os.makedirs(out, exist_ok=True)
-    statuses, differences = {}, 0
+    statuses, differences, archive = {}, 0, None
     with tempfile.TemporaryDirectory() as folder:
         for i in range(count):
             RANDOM.seed(seed * 1000003 + i)
-            text, archive = random_case(mode)
+            text, archive = random_case(mode, archive if i % TOGETHER else None)
             if "\x00" in text:
                 continue
             want, got = answers(binary, mode, text, archive, folder)

@@ -2,11 +2,12 @@
 
 A filter is asked under a tuple of mappings (the innermost family first) and an environment of named squares."""
 
+import functools
 import re
 
 from chess import EMPTY, PAWN, attacks_list, between, in_check, is_mate, is_stalemate, on_board
 from pgn import DIGITS
-from query import FAMILIES, kind_of, parts_of
+from query import FAMILIES, kind_of, names_in, parts_of
 
 SYMMETRIES = {
     1: lambda f, r: (f, r),
@@ -119,7 +120,12 @@ LOWEST, HIGHEST = -(1 << 63), (1 << 63) - 1
 
 
 def squares_of(m):
-    return [s for s in range(64) if m >> s & 1]
+    """the squares of a set, from a1 on"""
+    squares = []
+    while m:
+        squares.append((m & -m).bit_length() - 1)
+        m &= m - 1
+    return squares
 
 
 def fits(g, f):
@@ -173,6 +179,25 @@ def steps_from(squares, steps, least, most):
     return out
 
 
+def kept(ask):
+    """asks once what a filter is at a node under the mappings, for each choice of squares for the names in it: no other name counts"""
+
+    @functools.wraps(ask)
+    def asked(self, f, g, n, e):
+        if f.form == "name":
+            return ask(self, f, g, n, e)
+        names = names_in(f)
+        k = (f, g, n.no, tuple([x for x in e if x[0] in names]))
+        if k not in self.asked:
+            value = ask(self, f, g, n, e)
+            if len(self.asked) > 300000:
+                self.asked.clear()
+            self.asked[k] = value
+        return self.asked[k]
+
+    return asked
+
+
 class Search:
     """the searched tree of a game and the meaning of filters in it"""
 
@@ -181,7 +206,7 @@ class Search:
         self.var = variations
         self.nodes = game.nodes if variations else [x for x in game.nodes if x.main]
         self.children = {x.no: (x.children if variations else x.children[:1]) for x in self.nodes}
-        self.fit = {}
+        self.fit, self.asked, self.attacks = {}, {}, {}
 
     def fitting(self, g, f):
         k = (id(f), g)
@@ -198,6 +223,12 @@ class Search:
             st.extend(self.children[x.no])
         return out
 
+    def attacked_from(self, q, n):
+        """the set of the squares that the man on a square attacks"""
+        if (q, n.no) not in self.attacks:
+            self.attacks[q, n.no] = sum(1 << t for t in attacks_list(n.pos.board, q))
+        return self.attacks[q, n.no]
+
     def holds(self, f, g, n, e):
         k = kind_of(f)
         if k == "set":
@@ -206,12 +237,13 @@ class Search:
             return self.number(f, g, n, e) is not None
         return self.position(f, g, n, e)
 
+    @kept
     def set(self, f, g, n, e):
         k, a = f.form, f.args
         board = n.pos.board
         if k == "designator":
             d = image(g, a[0])
-            return 0 if d is None else sum(1 << q for q in range(64) if d[1] >> q & 1 and d[0] >> board[q] & 1)
+            return 0 if d is None else sum(1 << q for q in squares_of(d[1]) if d[0] >> board[q] & 1)
         if k == "name":
             return 1 << dict(e)[a[0]]
         if k == "family":
@@ -238,12 +270,11 @@ class Search:
             return steps_from(self.set(a[3], g, n, e), steps_of_word(g, a[0]), a[1], a[2])
         x, y = self.set(a[0], g, n, e), self.set(a[1], g, n, e)
         if k == "attacks":
-            return sum(1 << q for q in squares_of(x) if any(y >> t & 1 for t in attacks_list(board, q)))
+            return sum(1 << q for q in squares_of(x) if y & self.attacked_from(q, n))
         if k == "attackedby":
             r = 0
             for q in squares_of(y):
-                for t in attacks_list(board, q):
-                    r |= 1 << t
+                r |= self.attacked_from(q, n)
             return r & x
         assert k == "between"
         r = 0
@@ -253,6 +284,7 @@ class Search:
                     r |= 1 << t
         return r
 
+    @kept
     def number(self, f, g, n, e):
         k, a = f.form, f.args
         if k == "number":
@@ -317,6 +349,7 @@ class Search:
         assert w == "hascomment"
         return bool(n.comments)
 
+    @kept
     def position(self, f, g, n, e):
         k, a = f.form, f.args
         if k == "plain":
@@ -344,7 +377,7 @@ class Search:
                 return False
             return {"<": x < y, "<=": x <= y, "==": x == y, ">=": x >= y, ">": x > y}[k]
         if k == "square":
-            v = [self.holds(a[3], g, n, e + ((a[1], q),)) for q in squares_of(self.set(a[2], g, n, e))]
+            v = (self.holds(a[3], g, n, e + ((a[1], q),)) for q in squares_of(self.set(a[2], g, n, e)))
             return all(v) if a[0] else any(v)
         if k == "find":
             return any(self.holds(a[0], g, x, e) for x in self.descendants(n))
@@ -469,10 +502,13 @@ class Search:
                     best = k
         return best
 
+    def is_hit(self, q, n):
+        return all(self.holds(f, (), n, ()) for f in q["items"])
+
 
 def hits(q, game):
     s = Search(game, q["variations"])
-    return [n for n in s.nodes if all(s.holds(f, (), n, ()) for f in q["items"])], s
+    return [n for n in s.nodes if s.is_hit(q, n)], s
 
 
 def keys(q, hs, s):

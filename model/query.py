@@ -213,6 +213,7 @@ class Filter:
 
     def __init__(self, at, form, *a):
         self.at, self.form, self.args = at, form, list(a)
+        self.names = None
 
 
 class Parser:
@@ -618,6 +619,15 @@ def parts_of(f):
     if k == "family":
         return [(a[1], None, None)]
     return []
+
+
+def names_in(f):
+    """the names in a filter that stand for a square of a filter around it"""
+    if f.names is None:
+        f.names = {f.args[0]} if f.form == "name" else set()
+        for part, _, bound in parts_of(f):
+            f.names |= names_in(part) - {bound}
+    return f.names
 
 
 def preorder(q):
