@@ -225,7 +225,7 @@ pub record AreMet (l : Led) (origin goal taken promoted : Option Value) : Type 0
   pub goal_met : meets goal (Some l.goal) ≡ true
   pub taken_met : meets taken l.taken ≡ true
 
-four : (a b c d : Bool) → (a && b && c && d) ≡ true → (a ≡ true) × (b ≡ true) × (c ≡ true)
+pub four : (a b c d : Bool) → (a && b && c && d) ≡ true → (a ≡ true) × (b ≡ true) × (c ≡ true)
 four true true true d e = (refl, refl, refl)
 four true true false d e = cc
 four true false c d e = cc

@@ -2,3 +2,4 @@ pub mod Children
 pub mod Cutting
 pub mod Ended
 pub mod Loops
+pub mod Seeking

@@ -7,6 +7,7 @@ ghost use Rattle.cq_position.specs.Games as games;
 ghost use Rattle.cq_position.specs.Games.{IsTree};
 ghost use Rattle.cq_position.specs.Search.{children_in};
 ghost use Rattle.cq_symmetry.specs.Images.{is_in};
+ghost use Rattle.cql_here.specs.Moves.{IsSought};
 ghost use Rattle.cql_here.specs.Places.{tree_of, value_at, values_at, holds_at, IsAt};
 ghost use Rattle.cql_syntax.specs.Meaning as meaning;
 ghost use Rattle.cql_syntax.specs.TreeOf.{filter_tree, filters_tree, played_tree, written_tree};
@@ -19,6 +20,7 @@ use crate::ends::ends_of;
 use crate::halt::{Elsewhere, Halt};
 use crate::leaves::word_here;
 use crate::place::Place;
+use crate::sought::{Sought, may_hold, moves_sought};
 use crate::worth::tried;
 use cq_geometry::Square;
 use cq_sets::lowest_square;
@@ -190,16 +192,37 @@ fn some_above(part: &Filter, place: &Place, names: &mut Names) -> Result<bool, H
         (games.way_up place.now.game.now.nodes place.now.node)) }
     ensures names { names.new ≡ names.old }
 {
+    let moves = moves_sought(part, &*names);
     let mut at = Some(place.node);
     while let Some(node) = at {
         let above = Place { node, ..*place };
-        let value = evaluate(part, &above, names)?;
-        if value.holds() {
+        let there = holds_after(&moves, part, &above, names)?;
+        if there {
             return Ok(true);
         }
         at = place.game.parent(node);
     }
     Ok(false)
+}
+
+// Whether a filter holds at a node, which it does after some moves alone.
+#[cycle(evaluate)]
+fn holds_after(
+    moves: &Sought,
+    part: &Filter,
+    place: &Place,
+    names: &mut Names,
+) -> Result<bool, Halt>
+    requires at { IsAt place.now }
+    requires sought { IsSought names.old (filter_tree part.now) moves.now }
+    ensures value { IfOk result (λ b. b ≡ spec.holds (value_at place.now names.old (filter_tree part.now) place.now.node)) }
+    ensures names { names.new ≡ names.old }
+{
+    if !may_hold(moves, place.game, place.node) {
+        return Ok(false);
+    }
+    let value = evaluate(part, place, names)?;
+    Ok(value.holds())
 }
 
 // What a chain gives.

@@ -11,6 +11,7 @@ mod evaluate;
 mod halt;
 mod leaves;
 mod place;
+mod sought;
 mod worth;
 
 pub use calls::{is_asked_here, square_here};

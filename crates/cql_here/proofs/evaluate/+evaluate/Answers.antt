@@ -18,10 +18,12 @@ use Rattle.cql_values.proofs.Ways.{within_up, children_from, all_children, paren
 use Rattle.cql_values.specs.Asked.{settles, of_value}
 use Rattle.cql_values.specs.Bindings.{rebound}
 use Rattle.cql_values.specs.Shown.{meant}
+use Rattle.cql_here.specs.Moves.{IsSought}
 use Rattle.cql_here.specs.Places.{tree_of, value_at, values_at, holds_at}
 use Rattle.cql_here.proofs.Children.{child_found, child_passed}
 use Rattle.cql_here.proofs.Cutting.{standing_is}
 use Rattle.cql_here.proofs.Loops.{all_values, any_values, all_stop, all_end, any_stop, any_end, settled_first, none_settles, settling, not_settling, by_found, rebound_again, rebound_outer, rebound_some, rebound_length, square_value, union_whole, common_whole}
+use Rattle.cql_here.proofs.Seeking.{not_held}
 use Rattle.cql_here.proofs.evaluate.+evaluate.Goals as goal
 
 pub all_of-returns-then-not-holds-clause-value : goal.all_of-returns-then-not-holds-clause-value
@@ -178,14 +180,14 @@ has_it-returns-in_ok-value-in-Some-clause-value t c =
     c.has_square.ensures ∙ ap (λ x. x c.in-Some.square) (sym c.squares.ensures) ∙ ap (λ x. has x c.in-Some.square) c.in_ok-value-in-Some.ensures.value
     ∙ ap (meets (Some v)) (sym c.in-Some.is)
 
-pub some_above-returns-then-holds-clause-value : goal.some_above-returns-then-holds-clause-value
-some_above-returns-then-holds-clause-value t c =
+pub some_above-returns-then-there-clause-value : goal.some_above-returns-then-there-clause-value
+some_above-returns-then-there-clause-value t c =
     let place = c.args.place.now in
     let nodes = place.game.now.nodes in
     let m = c.in-Some.node in
     let f = filter_tree c.args.part.now in
     let p : ℕ → Bool = λ k. holds (value_at place c.args.names.now f k) in
-    let is : p m ≡ true = ap (λ (b : _). holds (value_at place b f m)) (sym c.loop-at.invariant.names) ∙ sym (c.holds.ensures ∙ ap holds c.in_ok-value.ensures.value) ∙ c.if-holds.true in
+    let is : p m ≡ true = ap (λ (b : _). holds (value_at place b f m)) (sym c.loop-at.invariant.names) ∙ sym c.in_ok-there.ensures.value ∙ c.if-there.true in
     let had = subst (λ o. list_any p (way_from nodes o) ≡ list_any p (way_up nodes place.node)) c.in-Some.is c.loop-at.invariant.left in
     sym (ap (λ b. b || list_any p (way_from nodes (node_at nodes m).parent)) is) ∙ sym (ap (list_any p) (way_on nodes m (node_at nodes m).parent c.requires.tree refl)) ∙ had
 
@@ -197,14 +199,20 @@ some_above-loop-at-preserved t c =
     let o = c.parent-at.result in
     let f = filter_tree c.args.part.now in
     let p : ℕ → Bool = λ k. holds (value_at place c.args.names.now f k) in
-    let is : p m ≡ false = ap (λ (b : _). holds (value_at place b f m)) (sym c.loop-at.invariant.names) ∙ sym (c.holds.ensures ∙ ap holds c.in_ok-value.ensures.value) ∙ c.if-holds.false in
+    let is : p m ≡ false = ap (λ (b : _). holds (value_at place b f m)) (sym c.loop-at.invariant.names) ∙ sym c.in_ok-there.ensures.value ∙ c.if-there.false in
     let had = subst (λ o. list_any p (way_from nodes o) ≡ list_any p (way_up nodes place.node)) c.in-Some.is c.loop-at.invariant.left in
     let low : m < length nodes = subst (λ o. IfSome o (λ k. k < length nodes)) c.in-Some.is c.loop-at.invariant.within in
     record {
       left = sym (ap (λ b. b || list_any p (way_from nodes o)) is) ∙ sym (ap (list_any p) (way_on nodes m o c.requires.tree (sym c.parent-at.ensures.value))) ∙ had;
       within = within_up nodes m o c.requires.tree c.parent-at.ensures.value low;
-      names = c.evaluate.ensures.names ∙ c.loop-at.invariant.names;
+      names = c.holds_after.ensures.names ∙ c.loop-at.invariant.names;
     }
+
+pub holds_after-returns-then-not-may_hold-clause-value : goal.holds_after-returns-then-not-may_hold-clause-value
+holds_after-returns-then-not-may_hold-clause-value t c =
+    let place = c.args.place.now in
+    not_held (holds (value_at place c.args.names.now (filter_tree c.args.part.now) place.node)) c.may_hold.result
+    (λ h. c.may_hold.ensures (λ moved. c.requires.sought.led moved (tree_of place) place.node h)) c.if-not-may_hold.true
 
 pub some_settles-returns-then-holds-every-clause-value : goal.some_settles-returns-then-holds-every-clause-value
 some_settles-returns-then-holds-every-clause-value t c =
