@@ -743,8 +743,13 @@ def square_part(names, depth):
     if k == 14 and depth > 0:
         return "(line --> {%s} --> {%s})" % (square_part(names, depth - 1), square_part(names, depth - 1))
     words = " ".join(one_of("find", "find <--", "child", "parent") for _ in range(RANDOM.choice([1, 1, 2])))
-    body = " ".join(square_part(names, depth - 1) for _ in range(RANDOM.choice([1, 1, 2]))) if depth > 0 else square_part(names, 0)
-    return "%s { %s }" % (words, body) if depth > 0 else square_part(names, 0)
+    parts = [square_part(names, depth - 1) for _ in range(RANDOM.choice([1, 1, 2]))] if depth > 0 else []
+    if not parts:
+        return square_part(names, 0)
+    # a move by itself is sought along the nodes above, and one in braces is not
+    if len(parts) == 1 and parts[0].startswith("move "):
+        return "%s %s" % (words, parts[0])
+    return "%s { %s }" % (words, " ".join(parts))
 
 
 def squares_query():

@@ -40,6 +40,7 @@ cql(variations) square x in A {square x in a {x attackedby R} x attacks p}\n\
 cql(variations) square x in Q & ~Q {x attacks k}\n\
 cql(variations) square all x in Q & ~Q {x attacks k}\n\
 cql() square x in . square y in . {move from x to y parent find <-- move from y to x}\n\
+cql(variations) square x in A {move to x find <-- move from x}\n\
 cql(variations) square x in . {move to x find <-- {move capture x}}\n\
 cql(variations) square all x in a {find <-- not (x & a)}\n\
 cql(variations) square x in A {move to x promote Q}\n\
