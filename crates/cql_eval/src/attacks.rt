@@ -10,7 +10,7 @@ ghost use Rattle.cql_eval.specs.Attacked.{AsksAttack, IsOnly, IsItsName, IsDesig
 ghost use Rattle.cql_eval.specs.Columns.{AreAsked, AreTruths, shown};
 ghost use Rattle.cql_eval.specs.Scopes.{tree_in};
 
-use crate::combine::{held, pair_values};
+use crate::combine::{held, pair_column};
 use crate::filter_column::FilterColumn;
 use crate::leaves::standing_sets;
 use crate::scope::Scope;
@@ -123,8 +123,7 @@ pub(crate) fn attack_truths(
 {
     let goals = standing_sets(alloc, d, scope, live)?;
     let goals = FilterColumn::Sets(goals);
-    let values = pair_values(alloc, Pair::Attacks, scope, squares, &goals, live)?;
-    let values = FilterColumn::Values(values);
-    let truths = held(alloc, &values, live)?;
+    let attacking = pair_column(alloc, Pair::Attacks, scope, squares, &goals, live)?;
+    let truths = held(alloc, &attacking, live)?;
     Ok(truths)
 }

@@ -1,19 +1,21 @@
 //! Columns that are made of the columns of parts.
-ghost use Rattle.std.specs.Prelude.{◌≡◌, ◌<◌, ◌&&◌, length, map, true, not, IfOk, OnOk};
+ghost use Rattle.std.specs.Prelude.{◌≡◌, ℕ, List, ◌<◌, ◌&&◌, length, map, true, not, IfOk, OnOk};
 ghost use Rattle.cq_position.specs.Games.{node_at};
+ghost use Rattle.cq_position.specs.declared.men.Man.{Man};
+ghost use Rattle.cq_symmetry.specs.Images.{is_in};
 ghost use Rattle.cql_syntax.specs.Values as spec;
-ghost use Rattle.cql_values.specs.Asked.{of_value};
+ghost use Rattle.cql_values.specs.Asked.{of_value, is_true};
 ghost use Rattle.cql_values.specs.Shown.{meant, terms_meant};
-ghost use Rattle.cql_eval.specs.Columns.{AreAsked, AreTruths, AreValues, IsNumbered, shown, all_shown, terms_shown};
+ghost use Rattle.cql_eval.specs.Columns.{AreAsked, AreSets, AreTruths, AreValues, IsColumn, IsNumbered, shown, all_shown, terms_shown};
 ghost use Rattle.cql_eval.specs.Scopes.{tree_in};
 
-use crate::filter_column::{FilterColumn, blank_truths, blank_values};
+use crate::filter_column::{FilterColumn, blank_sets, blank_truths, blank_values};
 use crate::scope::Scope;
 use crate::spans::{asked_end, end_of, first_asked, first_live};
 use cq_geometry::Compass;
 use cq_outside::NoMemory;
 use cql_syntax::{Chain, Kind, Pair, Unary};
-use cql_values::combine::{any_of, chain_of, if_of, pair_of, unary_here};
+use cql_values::combine::{any_of, chain_of, compares, if_of, related, unary_here};
 use cql_values::numbers::total;
 use cql_values::sets::reached;
 use cql_values::value::Value;
@@ -166,49 +168,104 @@ fn reached_value(asked: bool, directions: &[Compass], least: u32, most: u32, val
     }
 }
 
-/// What a filter of two parts makes of their columns.
-pub(crate) fn pair_values(
+/// What a filter of two parts makes of their columns: squares of attacks and between two sets, truths of a comparison.
+pub(crate) fn pair_column(
     alloc: Global,
     pair: Pair,
     scope: &Scope,
     first: &FilterColumn,
     second: &FilterColumn,
     live: &[bool],
-) -> Result<Vec<Value>, NoMemory>
+) -> Result<FilterColumn, NoMemory>
     requires asked { AreAsked (tree_in scope.now) live.now }
-    ensures { IfOk result (λ values. AreValues values.items live.now
+    ensures { IfOk result (λ c. IsColumn c live.now
         (λ n. spec.pair_of (node_at scope.now.game.now.nodes n).position.men pair (shown first.now n) (shown second.now n))) }
 {
-    let end = asked_end(live, scope.game.len());
-    let mut values = blank_values(alloc, end as usize)?;
-    for n in first_asked(live, scope.game.len())..end {
-        values[n as usize] = pair_value(live[n as usize], pair, scope.game, first, second, n);
+    match pair {
+        Pair::Attacks | Pair::AttackedBy | Pair::Between => {
+            let sets = pair_sets(alloc, pair, scope, first, second, live)?;
+            Ok(FilterColumn::Sets(sets))
+        }
+        Pair::Less | Pair::AtMost | Pair::Equal | Pair::AtLeast | Pair::Greater => {
+            let truths = pair_truths(alloc, pair, first, second, live)?;
+            Ok(FilterColumn::Truths(truths))
+        }
     }
-    Ok(values)
 }
 
-fn pair_value(
+/// The squares that a filter of two parts makes of their columns.
+pub(crate) fn pair_sets(
+    alloc: Global,
+    pair: Pair,
+    scope: &Scope,
+    first: &FilterColumn,
+    second: &FilterColumn,
+    live: &[bool],
+) -> Result<Vec<u64>, NoMemory>
+    requires asked { AreAsked (tree_in scope.now) live.now }
+    ensures { IfOk result (λ sets. AreSets sets.items live.now (λ n. spec.as_squares (spec.has
+        (spec.pair_of (node_at scope.now.game.now.nodes n).position.men pair (shown first.now n) (shown second.now n))))) }
+{
+    let end = asked_end(live, scope.game.len());
+    let mut sets = blank_sets(alloc, end as usize)?;
+    for n in first_asked(live, scope.game.len())..end {
+        sets[n as usize] = pair_set(live[n as usize], pair, scope.game, first, second, n);
+    }
+    Ok(sets)
+}
+
+fn pair_set(
     asked: bool,
     pair: Pair,
     game: &Game,
     first: &FilterColumn,
     second: &FilterColumn,
     n: u32,
-) -> Value
+) -> u64
     requires { n < length game.now.nodes }
-    ensures { asked ≡ true → meant result
-        ≡ spec.pair_of (node_at game.now.nodes n).position.men pair (shown first.now n) (shown second.now n) }
+    ensures { asked ≡ true → is_in result
+        ≡ spec.has (spec.pair_of (node_at game.now.nodes n).position.men pair (shown first.now n) (shown second.now n)) }
 {
     if asked {
-        pair_of(
+        related(
             game.position(n),
             pair,
             first.at(n as usize),
             second.at(n as usize),
         )
     } else {
-        Value::Truth(false)
+        0
     }
+}
+
+fn pair_truths(
+    alloc: Global,
+    pair: Pair,
+    first: &FilterColumn,
+    second: &FilterColumn,
+    live: &[bool],
+) -> Result<Vec<bool>, NoMemory>
+    ensures { IfOk result (λ truths. (men : ℕ → List Man) → AreTruths truths.items live.now
+        (λ n. spec.as_truth (is_true (spec.pair_of (men n) pair (shown first.now n) (shown second.now n))))) }
+{
+    let end = end_of(live);
+    let mut truths = blank_truths(alloc, end)?;
+    for n in first_live(live)..end {
+        truths[n] = pair_truth(live[n], pair, first, second, n);
+    }
+    Ok(truths)
+}
+
+fn pair_truth(
+    asked: bool,
+    pair: Pair,
+    first: &FilterColumn,
+    second: &FilterColumn,
+    n: usize,
+) -> bool
+    ensures { asked ≡ true → (men : List Man) → result ≡ is_true (spec.pair_of men pair (shown first.now n) (shown second.now n)) }
+{
+    asked && compares(pair, first.at(n), second.at(n))
 }
 
 /// What a filter of any number of parts makes of their columns.

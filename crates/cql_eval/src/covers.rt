@@ -17,7 +17,7 @@ use cq_geometry::Square;
 use cq_outside::NoMemory;
 use cq_sets::mark;
 use cql_syntax::Pair;
-use cql_values::combine::pair_of;
+use cql_values::combine::related;
 use cql_values::led::led_to;
 use cql_values::value::Value;
 use pgn_tree::Game;
@@ -206,13 +206,12 @@ fn related_one(set: u64, asked: bool, game: &Game, pair: Pair, column: &FilterCo
     ensures { IsCut asked (IsSoRelated (node_at game.now.nodes n).position.men pair (shown column.now n)) set result }
 {
     if asked {
-        pair_of(
+        related(
             game.position(n),
             pair,
             Value::Set(set),
             column.at(n as usize),
         )
-        .squares()
     } else {
         set
     }

@@ -25,7 +25,7 @@ mod trial;
 
 use crate::binding::Binding;
 use crate::combine::{
-    any_values, chain_values, chosen, negated, numbered, pair_values, reached_values, sum_values,
+    any_values, chain_values, chosen, negated, numbered, pair_column, reached_values, sum_values,
     unary_values,
 };
 use crate::elsewhere::{found_from, looked_at, looks_elsewhere};
@@ -103,8 +103,7 @@ pub(crate) fn evaluate<L: Ledger>(
         Form::Pair(pair, first, second) => {
             let first = evaluate(alloc, first, scope, live, steps)?;
             let second = evaluate(alloc, second, scope, live, steps)?;
-            let values = pair_values(alloc, *pair, scope, &first, &second, live)?;
-            Ok(FilterColumn::Values(values))
+            pair_column(alloc, *pair, scope, &first, &second, live)
         }
         Form::If(condition, then, otherwise) => {
             let first = evaluate(alloc, condition, scope, live, steps)?;

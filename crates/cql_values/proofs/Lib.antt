@@ -3,6 +3,7 @@ pub mod Evaluated
 pub mod Masks
 pub mod Mates
 pub mod MoveCounts
+pub mod Paired
 pub mod Ranges
 pub mod Reaching
 pub mod Reversed

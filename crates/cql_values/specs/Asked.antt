@@ -1,10 +1,10 @@
 -- What is asked of one square, and what a word makes of one value, as the private functions give it.
-use Rattle.std.specs.Prelude.{◌≡◌, ℕ, Bool, ◌&&◌, not, List, if◌then◌else◌}
+use Rattle.std.specs.Prelude.{◌≡◌, ℕ, Bool, false, ◌&&◌, not, List, if◌then◌else◌}
 use Rattle.std.specs.List.{list_any}
 use Rattle.cq_position.specs.Men.{man_number, same_man}
 use Rattle.cq_position.specs.declared.men.Man.{Man}
 use Rattle.cq_symmetry.specs.Images.{is_in}
-use Rattle.cql_syntax.specs.Values.{Value, as_truth, holds, complement_of, size_of, power_of, light_of, dark_of}
+use Rattle.cql_syntax.specs.Values.{Value, as_truth, as_squares, as_number, holds, complement_of, size_of, power_of, light_of, dark_of}
 use Rattle.cql_syntax.specs.declared.leaves.Unary.{Unary}
 use Rattle.cql_syntax.specs.declared.leaves.Unary.TheVariants.{Complement, Count, Power, Light, Dark}
 
@@ -20,6 +20,12 @@ of_value men Power x = power_of men x
 of_value men Light x = light_of x
 of_value men Dark x = dark_of x
 of_value men word x = as_truth (not (holds x))
+
+-- where a truth is wanted and nothing else will do
+abbrev pub is_true : Value → Bool
+is_true (as_truth b) = b
+is_true (as_squares x) = false
+is_true (as_number v) = false
 
 -- the men of a set
 abbrev pub AreTheMen : ℕ → List Man → Type 0

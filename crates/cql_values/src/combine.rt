@@ -1,8 +1,10 @@
 //! What filters of parts make of the values of their parts.
-ghost use Rattle.std.specs.Prelude.{◌≡◌, map, int_lt, int_le};
+ghost use Rattle.std.specs.Prelude.{◌≡◌, List, map, int_lt, int_le};
 ghost use Rattle.std.specs.List.{list_any, list_all};
+ghost use Rattle.cq_position.specs.declared.men.Man.{Man};
+ghost use Rattle.cq_symmetry.specs.Images.{is_in};
 ghost use Rattle.cql_syntax.specs.Values as spec;
-ghost use Rattle.cql_values.specs.Asked.{of_value};
+ghost use Rattle.cql_values.specs.Asked.{of_value, is_true};
 ghost use Rattle.cql_values.specs.Shown.{meant};
 
 use crate::numbers::{greatest, greatest_of_all, least_of_all, power, product, size};
@@ -55,14 +57,40 @@ pub fn pair_of(position: &Position, pair: Pair, x: Value, y: Value) -> Value
     ensures { meant result ≡ spec.pair_of position.now.men pair (meant x) (meant y) }
 {
     match pair {
-        Pair::Attacks => attacking(position, x, y),
-        Pair::AttackedBy => attacked_by(position, x, y),
-        Pair::Between => between(x, y),
-        Pair::Less => Value::Truth(is_less(x, y)),
-        Pair::AtMost => Value::Truth(is_at_most(x, y)),
-        Pair::Equal => Value::Truth(is_at_most(x, y) && is_at_most(y, x)),
-        Pair::AtLeast => Value::Truth(is_at_most(y, x)),
-        Pair::Greater => Value::Truth(is_less(y, x)),
+        Pair::Attacks | Pair::AttackedBy | Pair::Between => {
+            Value::Set(related(position, pair, x, y))
+        }
+        Pair::Less | Pair::AtMost | Pair::Equal | Pair::AtLeast | Pair::Greater => {
+            Value::Truth(compares(pair, x, y))
+        }
+    }
+}
+
+/// The squares that a filter of two parts gives, of men in a relation of attack or between two sets; a comparison gives none.
+#[inline(always)]
+pub fn related(position: &Position, pair: Pair, x: Value, y: Value) -> u64
+    ensures { is_in result ≡ spec.has (spec.pair_of position.now.men pair (meant x) (meant y)) }
+{
+    match pair {
+        Pair::Attacks => attacking(position, x, y).squares(),
+        Pair::AttackedBy => attacked_by(position, x, y).squares(),
+        Pair::Between => between(x, y).squares(),
+        Pair::Less | Pair::AtMost | Pair::Equal | Pair::AtLeast | Pair::Greater => 0,
+    }
+}
+
+/// Whether two values are as a comparison asks. A filter of two parts that gives squares compares nothing.
+#[inline(always)]
+pub fn compares(pair: Pair, x: Value, y: Value) -> bool
+    ensures { (men : List Man) → result ≡ is_true (spec.pair_of men pair (meant x) (meant y)) }
+{
+    match pair {
+        Pair::Less => is_less(x, y),
+        Pair::AtMost => is_at_most(x, y),
+        Pair::Equal => is_at_most(x, y) && is_at_most(y, x),
+        Pair::AtLeast => is_at_most(y, x),
+        Pair::Greater => is_less(y, x),
+        Pair::Attacks | Pair::AttackedBy | Pair::Between => false,
     }
 }
 

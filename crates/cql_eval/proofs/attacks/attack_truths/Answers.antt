@@ -7,5 +7,5 @@ use Rattle.cql_eval.proofs.attacks.attack_truths.Goals as goal
 
 pub returns : goal.returns
 returns c = λ n l. c.in_ok-truths.ensures n l
-    ∙ ap (λ v. as_truth (holds v)) (c.in_ok-values.ensures n l
+    ∙ ap (λ v. as_truth (holds v)) (c.in_ok-attacking.ensures n l
     ∙ ap (λ y. related (attacks (node_at c.args.scope.now.game.now.nodes n).position.men) (shown c.args.squares.now n) y) (c.in_ok-goals.ensures n l))

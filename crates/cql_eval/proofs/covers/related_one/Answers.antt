@@ -1,4 +1,4 @@
-use Rattle.std.proofs.Common.{◌∙◌, sym, ap, ap₂}
+use Rattle.std.proofs.Common.{◌∙◌, ap₂}
 use Rattle.cq_position.specs.Games.{node_at}
 use Rattle.cql_syntax.specs.Values.{has, as_squares, pair_of}
 use Rattle.cq_symmetry.specs.Images.{is_in}
@@ -9,6 +9,5 @@ use Rattle.cql_eval.proofs.covers.related_one.Goals as goal
 
 pub returns-then-asked : goal.returns-then-asked
 returns-then-asked c =
-    related_cut (node_at c.args.game.now.nodes c.args.n).position.men c.args.pair (shown c.args.column.now c.args.n) c.args.asked c.args.set c.squares.result c.requires.attack
-    (sym c.squares.ensures ∙ ap has (c.pair_of.ensures
-    ∙ ap₂ (λ p v. pair_of p.men c.args.pair (as_squares (is_in c.args.set)) (meant v)) c.position.ensures c.at.ensures))
+    related_cut (node_at c.args.game.now.nodes c.args.n).position.men c.args.pair (shown c.args.column.now c.args.n) c.args.asked c.args.set c.related.result c.requires.attack
+    (c.related.ensures ∙ ap₂ (λ p v. has (pair_of p.men c.args.pair (as_squares (is_in c.args.set)) (meant v))) c.position.ensures c.at.ensures)
