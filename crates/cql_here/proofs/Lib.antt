@@ -1,4 +1,5 @@
 pub mod Children
 pub mod Cutting
+pub mod Deciding
 pub mod Ended
 pub mod Loops

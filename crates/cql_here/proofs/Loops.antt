@@ -47,6 +47,9 @@ module _ {A : Type 0} (p : A → Bool) (xs : List A) (whole : Bool) where
     pub all_stop : p x ≡ false → list_all p (drop i xs) ≡ whole → false ≡ whole
     all_stop here e = sym (ap (λ b. b && list_all p (drop (i + 1) xs)) here) ∙ sym (ap (list_all p) (next_item xs i x low is)) ∙ e
 
+    pub all_on : p x ≡ true → list_all p (drop i xs) ≡ whole → list_all p (drop (i + 1) xs) ≡ whole
+    all_on here e = sym (ap (λ b. b && list_all p (drop (i + 1) xs)) here) ∙ sym (ap (list_all p) (next_item xs i x low is)) ∙ e
+
     pub any_stop : p x ≡ true → list_any p (drop i xs) ≡ whole → true ≡ whole
     any_stop here e = sym (ap (λ b. b || list_any p (drop (i + 1) xs)) here) ∙ sym (ap (list_any p) (next_item xs i x low is)) ∙ e
 

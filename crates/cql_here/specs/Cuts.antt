@@ -1,19 +1,37 @@
 -- Squares that are worth trying for a name.
-use Rattle.std.specs.Prelude.{◌≡◌, ℕ, ◌<◌, ◌==◌, Bool, true, List, [], ◌∷◌, Option}
+use Rattle.std.specs.Prelude.{◌≡◌, ℕ, ◌<◌, ◌%◌, ◌==◌, Bool, true, false, List, [], ◌∷◌, length, get_or, Option}
 use Rattle.std.specs.List.{list_all}
 use Rattle.cq_position.specs.Board.{Board}
 use Rattle.cq_position.specs.Search.{SearchedTree}
 use Rattle.cq_symmetry.specs.Images.{is_in}
 use Rattle.cql_syntax.specs.Meaning.{Names, value, values, written_value, meets, position_at}
+use Rattle.cql_syntax.specs.TreeOf.{filters_in}
 use Rattle.cql_syntax.specs.Trees.{FilterTree, FilterTrees, WrittenTree}
 use Rattle.cql_syntax.specs.Values.{Value, has, squares_where}
+use Rattle.cql_syntax.specs.declared.leaves.Chain.{Chain}
+use Rattle.cql_syntax.specs.declared.tree.Filter.{Filter}
+use Rattle.cql_syntax.specs.declared.tree.Filters.{Filters}
+use Rattle.cql_syntax.specs.declared.tree.Form.{Chain as Chain'}
 use Rattle.cql_here.specs.Places.{tree_of}
+use Rattle.cql_here.specs.declared.worth.Cut.{Cut}
 use Rattle.cql_here.specs.declared.worth.Trial.{Trial}
 
 -- of the squares of a set some are left, among them all of which this is true
 pub record IsCut (test : ℕ → Bool) (old new : ℕ) : Type 0 where
   pub within : (s : ℕ) → is_in new s ≡ true → is_in old s ≡ true
   pub keeps : (s : ℕ) → is_in old s ≡ true → test s ≡ true → is_in new s ≡ true
+
+-- where nothing is pending, it is true of each square that is left
+abbrev pub IsMet : (ℕ → Bool) → Cut → Type 0
+IsMet test cut = cut.pending ≡ 0 → (s : ℕ) → is_in cut.squares s ≡ true → test s ≡ true
+
+-- of filters those that are not pending pass; bit k stands for those numbered k, k + 64 and so on
+pub record AreDecided (pending : ℕ) (passes : Filter → Bool) (fs : List Filter) : Type 0 where
+  pub each : (i : ℕ) (f : Filter) → i < length fs → f ≡ get_or fs i f → is_in pending (i % 64) ≡ false → passes f ≡ true
+
+-- the same of the filters of a chain
+pub record IsDecided (pending : ℕ) (passes : Filter → Bool) (f : Filter) : Type 0 where
+  pub parts : (k : Chain) (fs : Filters) → f.form ≡ Chain' k fs → AreDecided pending passes (filters_in fs)
 
 -- what a filter gives with the name bound to a square
 abbrev pub value_with : Trial → FilterTree → ℕ → Value

@@ -1,5 +1,5 @@
 //! What a filter gives at a node, by recursion on the filter.
-ghost use Rattle.std.specs.Prelude.{◌≡◌, ◌<◌, ◌&&◌, [], length, ℕ, Some, IfOk, option_to_list};
+ghost use Rattle.std.specs.Prelude.{◌≡◌, ◌<◌, ◌&&◌, [], length, ℕ, true, false, Some, IfOk, option_to_list};
 ghost use Rattle.std.specs.List.{list_any, list_all};
 ghost use Rattle.cq_geometry.specs.Squares.{squares};
 ghost use Rattle.cq_position.specs.Bitboards.{IsBitboard};
@@ -7,9 +7,10 @@ ghost use Rattle.cq_position.specs.Games as games;
 ghost use Rattle.cq_position.specs.Games.{IsTree};
 ghost use Rattle.cq_position.specs.Search.{children_in};
 ghost use Rattle.cq_symmetry.specs.Images.{is_in};
+ghost use Rattle.cql_here.specs.Cuts.{AreDecided, IsDecided};
 ghost use Rattle.cql_here.specs.Places.{tree_of, value_at, values_at, holds_at, IsAt};
 ghost use Rattle.cql_syntax.specs.Meaning as meaning;
-ghost use Rattle.cql_syntax.specs.TreeOf.{filter_tree, filters_tree, played_tree, written_tree};
+ghost use Rattle.cql_syntax.specs.TreeOf.{filter_tree, filters_tree, filters_in, played_tree, written_tree};
 ghost use Rattle.cql_syntax.specs.Values as spec;
 ghost use Rattle.cql_values.specs.Asked.{settles};
 ghost use Rattle.cql_values.specs.Bindings.{rebound};
@@ -19,7 +20,7 @@ use crate::ends::ends_of;
 use crate::halt::{Elsewhere, Halt};
 use crate::leaves::word_here;
 use crate::place::Place;
-use crate::worth::tried;
+use crate::worth::{is_pending, tried};
 use cq_geometry::Square;
 use cq_sets::lowest_square;
 use cql_played::Led;
@@ -58,7 +59,7 @@ pub(crate) fn evaluate(f: &Filter, place: &Place, names: &mut Names) -> Result<V
             let value = evaluate(part, place, names)?;
             Ok(reached(directions(*way), *m, *n, value))
         }
-        Form::Chain(chain, parts) => chain_at(*chain, parts, place, names),
+        Form::Chain(chain, parts) => chain_at(u64::MAX, *chain, parts, place, names),
         Form::Pair(pair, first, second) => {
             let first = evaluate(first, place, names)?;
             let second = evaluate(second, place, names)?;
@@ -202,10 +203,18 @@ fn some_above(part: &Filter, place: &Place, names: &mut Names) -> Result<bool, H
     Ok(false)
 }
 
-// What a chain gives.
+// What a chain gives, of whose filters those that are not pending hold.
 #[cycle(evaluate)]
-fn chain_at(chain: Chain, parts: &Filters, place: &Place, names: &mut Names) -> Result<Value, Halt>
-    requires { IsAt place.now }
+fn chain_at(
+    pending: u64,
+    chain: Chain,
+    parts: &Filters,
+    place: &Place,
+    names: &mut Names,
+) -> Result<Value, Halt>
+    requires at { IsAt place.now }
+    requires decided { AreDecided pending
+        (λ f. spec.holds (value_at place.now names.old (filter_tree f) place.now.node)) (filters_in parts.now) }
     ensures value { IfOk result (λ v. meant v
         ≡ spec.chain_of chain (values_at place.now names.old (filters_tree parts.now) place.now.node)) }
     ensures names { names.new ≡ names.old }
@@ -216,7 +225,7 @@ fn chain_at(chain: Chain, parts: &Filters, place: &Place, names: &mut Names) -> 
             Ok(Value::Truth(holds))
         }
         Chain::And | Chain::All => {
-            let holds = all_of(parts, place, names)?;
+            let holds = all_of(pending, parts, place, names)?;
             Ok(Value::Truth(holds))
         }
         Chain::Union => union_of(parts, place, names),
@@ -242,20 +251,38 @@ fn any_at(kind: Kind, parts: &Filters, place: &Place, names: &mut Names) -> Resu
     }
 }
 
-// Whether all of some filters hold.
+// Whether all of some filters hold, of which those that are not pending do.
 #[cycle(evaluate)]
-fn all_of(parts: &Filters, place: &Place, names: &mut Names) -> Result<bool, Halt>
-    requires { IsAt place.now }
+fn all_of(pending: u64, parts: &Filters, place: &Place, names: &mut Names) -> Result<bool, Halt>
+    requires at { IsAt place.now }
+    requires decided { AreDecided pending
+        (λ f. spec.holds (value_at place.now names.old (filter_tree f) place.now.node)) (filters_in parts.now) }
     ensures value { IfOk result (λ b. b ≡ list_all spec.holds (values_at place.now names.old (filters_tree parts.now) place.now.node)) }
     ensures names { names.new ≡ names.old }
 {
-    for part in parts.as_slice() {
-        let value = evaluate(part, place, names)?;
-        if !value.holds() {
+    let all = parts.as_slice();
+    for (i, part) in all.iter().enumerate() {
+        let holds = holds_if(is_pending(pending, i), part, place, names)?;
+        if !holds {
             return Ok(false);
         }
     }
     Ok(true)
+}
+
+// Whether a filter holds, which one that is not pending does.
+#[cycle(evaluate)]
+fn holds_if(pending: bool, part: &Filter, place: &Place, names: &mut Names) -> Result<bool, Halt>
+    requires at { IsAt place.now }
+    requires decided { pending ≡ false → spec.holds (value_at place.now names.old (filter_tree part.now) place.now.node) ≡ true }
+    ensures value { IfOk result (λ b. b ≡ spec.holds (value_at place.now names.old (filter_tree part.now) place.now.node)) }
+    ensures names { names.new ≡ names.old }
+{
+    if !pending {
+        return Ok(true);
+    }
+    let value = evaluate(part, place, names)?;
+    Ok(value.holds())
 }
 
 // Whether one of some filters holds.
@@ -320,12 +347,12 @@ pub(crate) fn square_at(
         (holds_at place.now name.now names.old (filter_tree asked.now))) }
     ensures names { names.new ≡ names.old }
 {
-    let left = tried(every, &*name, set, asked, &*place, &*names);
-    if left == 0 {
+    let cut = tried(every, &*name, set, asked, &*place, &*names);
+    if cut.squares == 0 {
         return Ok(every);
     }
-    names.bind(name, lowest_square(left))?;
-    let found = some_settles(every, left, asked, place, names);
+    names.bind(name, lowest_square(cut.squares))?;
+    let found = some_settles(every, cut.squares, cut.pending, asked, place, names);
     names.unbind();
     match found {
         Ok(found) => Ok(found != every),
@@ -333,17 +360,21 @@ pub(crate) fn square_at(
     }
 }
 
-// Whether a square of a set settles what is asked of every square of it, or of some, with the innermost name bound to it.
+// Whether a square of a set settles what is asked of every square of it, or of some, with the innermost name bound to it. Filters that are
+// not pending hold with each of them.
 #[cycle(evaluate)]
 fn some_settles(
     every: bool,
     set: u64,
+    pending: u64,
     asked: &Filter,
     place: &Place,
     names: &mut Names,
 ) -> Result<bool, Halt>
     requires at { IsAt place.now }
     requires bound { 0 < length names.old }
+    requires decided { (s : ℕ) → is_in set s ≡ true
+        → IsDecided pending (λ f. spec.holds (value_at place.now (rebound names.old s) (filter_tree f) place.now.node)) asked.now }
     ensures value { IfOk result (λ b. b ≡ list_any (settles every (is_in set)
         (λ s. spec.holds (value_at place.now (rebound names.old s) (filter_tree asked.now) place.now.node))) squares) }
     ensures names { (s : ℕ) → rebound names.new s ≡ rebound names.old s }
@@ -353,12 +384,33 @@ fn some_settles(
         let square = lowest_square(left);
         left &= !(1 << square.number());
         names.rebind(square);
-        let value = evaluate(asked, place, names)?;
-        if value.holds() != every {
+        let holds = asked_holds(pending, asked, place, names)?;
+        if holds != every {
             return Ok(true);
         }
     }
     Ok(false)
+}
+
+// Whether a filter holds, of whose parts those that are not pending do.
+#[cycle(evaluate)]
+#[tactic(auto, unfolding(cql_syntax::specs::Meaning::value))]
+fn asked_holds(pending: u64, asked: &Filter, place: &Place, names: &mut Names) -> Result<bool, Halt>
+    requires at { IsAt place.now }
+    requires decided { IsDecided pending (λ f. spec.holds (value_at place.now names.old (filter_tree f) place.now.node)) asked.now }
+    ensures value { IfOk result (λ b. b ≡ spec.holds (value_at place.now names.old (filter_tree asked.now) place.now.node)) }
+    ensures names { names.new ≡ names.old }
+{
+    match &asked.form {
+        Form::Chain(chain, parts) => {
+            let value = chain_at(pending, *chain, parts, place, names)?;
+            Ok(value.holds())
+        }
+        _ => {
+            let value = evaluate(asked, place, names)?;
+            Ok(value.holds())
+        }
+    }
 }
 
 // Whether the move that led to a node is as it is asked for: where it came from and what it took is asked at the node before, its goal and

@@ -1,13 +1,14 @@
 //! Squares that are worth trying for a name: of the squares of a set those with which what is asked may hold.
-ghost use Rattle.std.specs.Prelude.{◌≡◌, ℕ, ◌<◌, ◌⊎◌, ◌&&◌, [], ◌∷◌, true, IfSome};
+ghost use Rattle.std.specs.Prelude.{◌≡◌, ℕ, ◌<◌, ◌⊎◌, ◌&&◌, ◌-◌, ◌^◌, ◌%◌, [], ◌∷◌, true, false, IfSome};
 ghost use Rattle.std.specs.List.{list_any, list_all};
 ghost use Rattle.cq_geometry.specs.Squares.{squares};
 ghost use Rattle.cq_position.specs.Attacks.{attacks};
 ghost use Rattle.cq_symmetry.specs.Images.{is_in};
-ghost use Rattle.cql_here.specs.Cuts.{IsCut, IsFixed, IsName, IsOwn, HaveName, Allows, value_with, values_with, position_of};
+ghost use Rattle.cql_here.specs.Cuts.{IsCut, IsMet, IsDecided, AreDecided, IsFixed, IsName, IsOwn, HaveName, Allows};
+ghost use Rattle.cql_here.specs.Cuts.{value_with, values_with, position_of};
 ghost use Rattle.cql_here.specs.Places.{IsAt, tree_of, holds_at};
 ghost use Rattle.cql_syntax.specs.Meaning as meaning;
-ghost use Rattle.cql_syntax.specs.TreeOf.{filter_tree, filters_tree, written_tree, played_tree};
+ghost use Rattle.cql_syntax.specs.TreeOf.{filter_tree, filters_tree, filters_in, written_tree, played_tree};
 ghost use Rattle.cql_syntax.specs.Values as spec;
 ghost use Rattle.cql_syntax.specs.declared.leaves.Pair.TheVariants.{Attacks, AttackedBy};
 
@@ -30,7 +31,27 @@ struct Trial<'a, 'b> {
     names: &'a Names,
 }
 
-/// Squares of a set by which is answered whether what is asked holds of every square of it, or of some.
+/// Squares of a set that are left, and what may still fail with one of them.
+#[derive(Clone, Copy)]
+pub(crate) struct Cut {
+    pub(crate) squares: u64,
+    /// Nothing where no bit is set. Of filters that must all hold, bit k stands for those numbered k, k + 64 and so on.
+    pub(crate) pending: u64,
+}
+
+// All may fail.
+fn all_pending(squares: u64) -> Cut
+    ensures squares { result.squares ≡ squares }
+    ensures pending { result.pending ≡ 2 ^ 64 - 1 }
+{
+    Cut {
+        squares,
+        pending: u64::MAX,
+    }
+}
+
+/// Squares of a set by which is answered whether what is asked holds of every square of it, or of some; where what is asked is that filters
+/// all hold, with which of them that is known.
 pub(crate) fn tried<'x, 'y>(
     every: bool,
     name: &'x [u8],
@@ -38,60 +59,97 @@ pub(crate) fn tried<'x, 'y>(
     asked: &Filter,
     place: &'x Place<'y>,
     names: &'x Names,
-) -> u64
+) -> Cut
     requires { IsAt place.now }
-    ensures { spec.square_of every (spec.as_squares (is_in result)) (holds_at place.now name.now names.now (filter_tree asked.now))
+    ensures answer { spec.square_of every (spec.as_squares (is_in result.squares))
+        (holds_at place.now name.now names.now (filter_tree asked.now))
         ≡ spec.square_of every (spec.as_squares (is_in set)) (holds_at place.now name.now names.now (filter_tree asked.now)) }
+    ensures decided { (s : ℕ) → is_in result.squares s ≡ true
+        → IsDecided result.pending (λ f. holds_at place.now name.now names.now (filter_tree f) s) asked.now }
 {
     if every {
-        return set;
+        return all_pending(set);
     }
     let trial = Trial { name, place, names };
-    worth(&trial, asked, set)
+    match &asked.form {
+        Form::Chain(chain, parts) => worth_in_chain(&trial, *chain, parts, set),
+        _ => all_pending(worth(&trial, asked, set).squares),
+    }
 }
 
 // Of the squares of a set those with which what is asked may hold.
 #[cycle(worth)]
 #[tactic(auto, unfolding(cql_syntax::specs::Meaning::value))]
-fn worth(trial: &Trial, asked: &Filter, set: u64) -> u64
+fn worth(trial: &Trial, asked: &Filter, set: u64) -> Cut
     requires { IsAt trial.now.place.now }
-    ensures { IsCut (λ s. spec.holds (value_with trial.now (filter_tree asked.now) s)) set result }
+    ensures cut { IsCut (λ s. spec.holds (value_with trial.now (filter_tree asked.now) s)) set result.squares }
+    ensures met { IsMet (λ s. spec.holds (value_with trial.now (filter_tree asked.now) s)) result }
 {
     if set == 0 {
-        return 0;
+        return all_pending(0);
     }
     match &asked.form {
-        Form::Chain(chain, parts) => worth_in_chain(trial, *chain, parts, set),
+        Form::Chain(chain, parts) => all_pending(worth_in_chain(trial, *chain, parts, set).squares),
         Form::Pair(pair, first, second) => worth_in_pair(trial, *pair, first, second, set),
-        Form::Played(played) => worth_in_move(trial, played, set),
-        _ => set,
+        Form::Played(played) => all_pending(worth_in_move(trial, played, set)),
+        _ => all_pending(set),
     }
 }
 
 // The same of a chain of filters.
 #[cycle(worth)]
-fn worth_in_chain(trial: &Trial, chain: Chain, parts: &Filters, set: u64) -> u64
+fn worth_in_chain(trial: &Trial, chain: Chain, parts: &Filters, set: u64) -> Cut
     requires { IsAt trial.now.place.now }
-    ensures { IsCut (λ s. spec.holds (spec.chain_of chain (values_with trial.now (filters_tree parts.now) s))) set result }
+    ensures cut { IsCut (λ s. spec.holds (spec.chain_of chain (values_with trial.now (filters_tree parts.now) s))) set result.squares }
+    ensures decided { (s : ℕ) → is_in result.squares s ≡ true
+        → AreDecided result.pending (λ f. spec.holds (value_with trial.now (filter_tree f) s)) (filters_in parts.now) }
 {
     match chain {
         Chain::And | Chain::All => worth_in_all(trial, parts, set),
-        Chain::Intersect => worth_in_common(trial, parts, set),
-        _ => set,
+        Chain::Intersect => all_pending(worth_in_common(trial, parts, set)),
+        _ => all_pending(set),
     }
 }
 
 // Of filters that must all hold.
 #[cycle(worth)]
-fn worth_in_all(trial: &Trial, parts: &Filters, set: u64) -> u64
+fn worth_in_all(trial: &Trial, parts: &Filters, set: u64) -> Cut
     requires { IsAt trial.now.place.now }
-    ensures { IsCut (λ s. list_all spec.holds (values_with trial.now (filters_tree parts.now) s)) set result }
+    ensures cut { IsCut (λ s. list_all spec.holds (values_with trial.now (filters_tree parts.now) s)) set result.squares }
+    ensures decided { (s : ℕ) → is_in result.squares s ≡ true
+        → AreDecided result.pending (λ f. spec.holds (value_with trial.now (filter_tree f) s)) (filters_in parts.now) }
 {
+    let all = parts.as_slice();
     let mut left = set;
-    for part in parts.as_slice() {
-        left = worth(trial, part, left);
+    let mut pending = 0;
+    for (i, part) in all.iter().enumerate() {
+        let cut = worth(trial, part, left);
+        left = cut.squares;
+        pending = with_pending(pending, i, cut.pending);
     }
-    left
+    Cut {
+        squares: left,
+        pending,
+    }
+}
+
+// What is pending of filters, and of one more where something is pending of it.
+fn with_pending(pending: u64, number: usize, of_one: u64) -> u64
+    ensures earlier { (k : ℕ) → is_in result k ≡ false → is_in pending k ≡ false }
+    ensures one { is_in result (number % 64) ≡ false → of_one ≡ 0 }
+{
+    if of_one == 0 {
+        pending
+    } else {
+        pending | 1 << (number % 64)
+    }
+}
+
+/// Whether filter `number` is pending.
+pub(crate) fn is_pending(pending: u64, number: usize) -> bool
+    ensures { result ≡ is_in pending (number % 64) }
+{
+    pending >> (number % 64) & 1 == 1
 }
 
 // Of sets that have a square in common.
@@ -128,7 +186,9 @@ fn worth_if_pair(trial: &Trial, asked: &Filter, set: u64) -> u64
     ensures { IsCut (λ s. spec.holds (value_with trial.now (filter_tree asked.now) s)) set result }
 {
     match &asked.form {
-        Form::Pair(pair, first, second) => worth_in_pair(trial, *pair, first, second, set),
+        Form::Pair(pair, first, second) => {
+            worth_in_pair(trial, *pair, first, second, set).squares
+        }
         _ => set,
     }
 }
@@ -145,10 +205,12 @@ fn fixed_or_all(trial: &Trial, part: &Filter) -> u64
 }
 
 // Of men that attack a square, or that are attacked from it.
-fn worth_in_pair(trial: &Trial, pair: Pair, first: &Filter, second: &Filter, set: u64) -> u64
+fn worth_in_pair(trial: &Trial, pair: Pair, first: &Filter, second: &Filter, set: u64) -> Cut
     requires { IsAt trial.now.place.now }
-    ensures { IsCut (λ s. spec.holds (spec.pair_of (position_of trial.now).men pair
-        (value_with trial.now (filter_tree first.now) s) (value_with trial.now (filter_tree second.now) s))) set result }
+    ensures cut { IsCut (λ s. spec.holds (spec.pair_of (position_of trial.now).men pair
+        (value_with trial.now (filter_tree first.now) s) (value_with trial.now (filter_tree second.now) s))) set result.squares }
+    ensures met { IsMet (λ s. spec.holds (spec.pair_of (position_of trial.now).men pair
+        (value_with trial.now (filter_tree first.now) s) (value_with trial.now (filter_tree second.now) s))) result }
 {
     match pair {
         Pair::Attacks => {
@@ -157,7 +219,7 @@ fn worth_in_pair(trial: &Trial, pair: Pair, first: &Filter, second: &Filter, set
             } else if is_name(trial.name, second) {
                 attacked_by_some(trial, first, set)
             } else {
-                set
+                all_pending(set)
             }
         }
         Pair::AttackedBy => {
@@ -166,40 +228,50 @@ fn worth_in_pair(trial: &Trial, pair: Pair, first: &Filter, second: &Filter, set
             } else if is_name(trial.name, second) {
                 attacking_some(trial, first, set)
             } else {
-                set
+                all_pending(set)
             }
         }
-        _ => set,
+        _ => all_pending(set),
     }
 }
 
 // The squares of a set whose men attack a square of a filter, as far as its squares are known.
-fn attacking_some(trial: &Trial, goal: &Filter, set: u64) -> u64
+fn attacking_some(trial: &Trial, goal: &Filter, set: u64) -> Cut
     requires { IsAt trial.now.place.now }
-    ensures { IsCut (λ s. list_any (λ t. spec.has (value_with trial.now (filter_tree goal.now) s) t
-        && attacks (position_of trial.now).men s t) squares) set result }
+    ensures cut { IsCut (λ s. list_any (λ t. spec.has (value_with trial.now (filter_tree goal.now) s) t
+        && attacks (position_of trial.now).men s t) squares) set result.squares }
+    ensures met { IsMet (λ s. list_any (λ t. spec.has (value_with trial.now (filter_tree goal.now) s) t
+        && attacks (position_of trial.now).men s t) squares) result }
 {
     match fixed(trial, goal) {
         Some(goal) => {
             let position = trial.place.game.position(trial.place.node);
-            attacking(position, Value::Set(set), Value::Set(goal)).squares()
+            Cut {
+                squares: attacking(position, Value::Set(set), Value::Set(goal)).squares(),
+                pending: 0,
+            }
         }
-        None => set,
+        None => all_pending(set),
     }
 }
 
 // The squares of a set that a man on a square of a filter attacks, as far as its squares are known.
-fn attacked_by_some(trial: &Trial, origin: &Filter, set: u64) -> u64
+fn attacked_by_some(trial: &Trial, origin: &Filter, set: u64) -> Cut
     requires { IsAt trial.now.place.now }
-    ensures { IsCut (λ s. list_any (λ t. spec.has (value_with trial.now (filter_tree origin.now) s) t
-        && attacks (position_of trial.now).men t s) squares) set result }
+    ensures cut { IsCut (λ s. list_any (λ t. spec.has (value_with trial.now (filter_tree origin.now) s) t
+        && attacks (position_of trial.now).men t s) squares) set result.squares }
+    ensures met { IsMet (λ s. list_any (λ t. spec.has (value_with trial.now (filter_tree origin.now) s) t
+        && attacks (position_of trial.now).men t s) squares) result }
 {
     match fixed(trial, origin) {
         Some(origin) => {
             let position = trial.place.game.position(trial.place.node);
-            attacked_by(position, Value::Set(set), Value::Set(origin)).squares()
+            Cut {
+                squares: attacked_by(position, Value::Set(set), Value::Set(origin)).squares(),
+                pending: 0,
+            }
         }
-        None => set,
+        None => all_pending(set),
     }
 }
 

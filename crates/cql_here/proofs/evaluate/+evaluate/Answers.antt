@@ -1,5 +1,6 @@
-use Rattle.std.proofs.Common.{rules, ◌≡◌, ℕ, ◌^◌, ◌<◌, ◌∷◌, Bool, true, false, ◌&&◌, ◌||◌, refl, drop, length, ap, ap₂, sym, ◌∙◌, subst, arith, Some}
+use Rattle.std.proofs.Common.{rules, ◌≡◌, ℕ, ◌-◌, ◌*◌, ◌%◌, ◌^◌, ◌<◌, ◌∷◌, Bool, true, false, ◌&&◌, ◌||◌, refl, drop, length, get_or, ap, ap₂, sym, ◌∙◌, subst, arith, Some}
 use Rattle.std.specs.Prelude.{filter, IfOk, IfSome}
+use Rattle.std.specs.Int.{bit_not, w64}
 use Rattle.std.specs.List.{list_any, list_all}
 use Rattle.cq_bits.proofs.Gathering.{cleared, smaller}
 use Rattle.cq_geometry.specs.Squares.{squares}
@@ -13,37 +14,67 @@ use Rattle.cql_syntax.specs.Trees.{filter_at, square}
 use Rattle.cql_syntax.specs.Values.{holds, has, as_truth, as_squares, square_of}
 use Rattle.cql_syntax.specs.declared.tree.Filter.{Filter}
 use Rattle.cql_values.proofs.Evaluated.{by_settling, word_here}
-use Rattle.cql_values.proofs.Masks.{union_step, intersection_step, all_squares}
+use Rattle.cql_values.proofs.Masks.{in_both, union_step, intersection_step, all_squares}
+use Rattle.cql_values.proofs.Ranges.{left as first_holds}
 use Rattle.cql_values.proofs.Ways.{within_up, children_from, all_children, parent_of_first, parent_of_next, inside_of}
 use Rattle.cql_values.specs.Asked.{settles, of_value}
 use Rattle.cql_values.specs.Bindings.{rebound}
 use Rattle.cql_values.specs.Shown.{meant}
+use Rattle.cql_here.specs.Cuts.{IsDecided}
 use Rattle.cql_here.specs.Places.{tree_of, value_at, values_at, holds_at}
 use Rattle.cql_here.proofs.Children.{child_found, child_passed}
 use Rattle.cql_here.proofs.Cutting.{standing_is}
-use Rattle.cql_here.proofs.Loops.{all_values, any_values, all_stop, all_end, any_stop, any_end, settled_first, none_settles, settling, not_settling, by_found, rebound_again, rebound_outer, rebound_some, rebound_length, square_value, union_whole, common_whole}
+use Rattle.cql_here.proofs.Deciding.{lowest_in, pending_parts}
+use Rattle.cql_here.proofs.Loops.{all_values, any_values, all_on, all_stop, all_end, any_stop, any_end, settled_first, none_settles, settling, not_settling, by_found, rebound_again, rebound_outer, rebound_some, rebound_length, square_value, union_whole, common_whole}
 use Rattle.cql_here.proofs.evaluate.+evaluate.Goals as goal
+
+pub all_of-holds_if-requires : goal.all_of-holds_if-requires
+all_of-holds_if-requires t c =
+    let place = c.args.place.now in
+    let f = c.index-all-i.result in
+    let items = c.as_slice-all.ensures.items in
+    (search rules, (c.requires.at, (λ none. ap (λ (b : _). holds (value_at place b (filter_tree f) place.node)) c.loop-i.invariant.names
+    ∙ c.requires.decided.each c.loop-i.i f (subst (λ l. c.loop-i.i < length l) items c.loop-i-test.true) (c.index-all-i.is ∙ ap (λ l. get_or l c.loop-i.i f) items)
+    (sym c.is_pending.ensures ∙ none))))
+
+pub all_of-loop-i-preserved : goal.all_of-loop-i-preserved
+all_of-loop-i-preserved t c =
+    let place = c.args.place.now in
+    let items = c.as_slice-all.result.now in
+    let f = c.index-all-i.result in
+    let p : Filter → Bool = λ f. holds (value_at place c.args.names.now (filter_tree f) place.node) in
+    let is : p f ≡ true = ap (λ (b : _). holds (value_at place b (filter_tree f) place.node)) (sym c.loop-i.invariant.names) ∙ sym c.in_ok-holds.ensures.value ∙ c.if-not-holds.false in
+    record {
+      left = all_on p items (list_all p items) c.loop-i.i f c.loop-i-test.true c.index-all-i.is is c.loop-i.invariant.left;
+      names = c.holds_if.ensures.names ∙ c.loop-i.invariant.names;
+    }
 
 pub all_of-returns-then-not-holds-clause-value : goal.all_of-returns-then-not-holds-clause-value
 all_of-returns-then-not-holds-clause-value t c =
     let place = c.args.place.now in
     let e = c.args.names.now in
-    let items = c.as_slice-part-items.result.now in
-    let f = c.part-item.result in
+    let items = c.as_slice-all.result.now in
+    let f = c.index-all-i.result in
     let p : Filter → Bool = λ f. holds (value_at place e (filter_tree f) place.node) in
-    let is : p f ≡ false = ap (λ (b : _). holds (value_at place b (filter_tree f) place.node)) (sym c.loop-part.invariant.names)
-    ∙ sym (c.holds.ensures ∙ ap holds c.in_ok-value.ensures.value) ∙ c.if-not-holds.true in
-    all_stop p items (list_all p items) c.loop-part.part-index f c.loop-part-test.true c.part-item.is is c.loop-part.invariant.left
-    ∙ sym (all_values holds (tree_of place) e place.node items) ∙ ap (λ fs. list_all holds (values_at place e fs place.node)) c.as_slice-part-items.ensures.tree
+    let is : p f ≡ false = ap (λ (b : _). holds (value_at place b (filter_tree f) place.node)) (sym c.loop-i.invariant.names) ∙ sym c.in_ok-holds.ensures.value ∙ c.if-not-holds.true in
+    all_stop p items (list_all p items) c.loop-i.i f c.loop-i-test.true c.index-all-i.is is c.loop-i.invariant.left
+    ∙ sym (all_values holds (tree_of place) e place.node items) ∙ ap (λ fs. list_all holds (values_at place e fs place.node)) c.as_slice-all.ensures.tree
 
 pub all_of-returns-clause-value : goal.all_of-returns-clause-value
 all_of-returns-clause-value t c =
     let place = c.args.place.now in
     let e = c.args.names.now in
-    let items = c.as_slice-part-items.result.now in
+    let items = c.as_slice-all.result.now in
     let p : Filter → Bool = λ f. holds (value_at place e (filter_tree f) place.node) in
-    all_end p items (list_all p items) c.loop-part.part-index c.loop-part-test.false c.loop-part.invariant.left
-    ∙ sym (all_values holds (tree_of place) e place.node items) ∙ ap (λ fs. list_all holds (values_at place e fs place.node)) c.as_slice-part-items.ensures.tree
+    all_end p items (list_all p items) c.loop-i.i c.loop-i-test.false c.loop-i.invariant.left
+    ∙ sym (all_values holds (tree_of place) e place.node items) ∙ ap (λ fs. list_all holds (values_at place e fs place.node)) c.as_slice-all.ensures.tree
+
+pub asked_holds-chain_at-requires : goal.asked_holds-chain_at-requires
+asked_holds-chain_at-requires t c = (search rules, (c.requires.at, c.requires.decided.parts c.in-Chain.chain _ c.in-Chain.is))
+
+pub evaluate-chain_at-requires : goal.evaluate-chain_at-requires
+evaluate-chain_at-requires t c =
+    (search rules, (c.requires, pending_parts (2 ^ 64 - 1) (λ f. holds (value_at c.args.place.now c.args.names.now (filter_tree f) c.args.place.now.node)) _ refl))
 
 pub some_child-loop-at-init : goal.some_child-loop-at-init
 some_child-loop-at-init t c =
@@ -212,10 +243,10 @@ some_settles-returns-then-holds-every-clause-value t c =
     let sq = c.lowest_square-square.result in
     let f = filter_tree c.args.asked.now in
     let test : ℕ → Bool = λ s. holds (value_at place (rebound c.args.names.now s) f place.node) in
-    let is : c.holds.result ≡ test sq = c.holds.ensures ∙ ap holds c.in_ok-value.ensures.value
+    let is : c.in_ok-holds.holds ≡ test sq = c.in_ok-holds.ensures.value
     ∙ ap (λ (b : _). holds (value_at place b f place.node)) (c.rebind.ensures ∙ c.loop-left.invariant.names sq) in
     let first = settled_first c.args.every test c.loop-left.left sq c.number.result (omega arith) (search rules) c.lowest_square-square.ensures.value c.number.ensures.value in
-    sym (ap (λ b. b || list_any (settles c.args.every (is_in (cleared c.loop-left.left c.number.result)) test) squares) (settling c.args.every c.holds.result (test sq) is c.if-holds-every.true)) ∙ sym first ∙ c.loop-left.invariant.left
+    sym (ap (λ b. b || list_any (settles c.args.every (is_in (cleared c.loop-left.left c.number.result)) test) squares) (settling c.args.every c.in_ok-holds.holds (test sq) is c.if-holds-every.true)) ∙ sym first ∙ c.loop-left.invariant.left
 
 pub some_settles-loop-left-smaller : goal.some_settles-loop-left-smaller
 some_settles-loop-left-smaller t c =
@@ -223,19 +254,31 @@ some_settles-loop-left-smaller t c =
     let fits : c.loop-left.left < 2 ^ 64 = search rules in
     smaller c.loop-left.left c.lowest_square-square.result c.number.result some fits c.lowest_square-square.ensures.value c.number.ensures.value
 
+pub some_settles-asked_holds-requires : goal.some_settles-asked_holds-requires
+some_settles-asked_holds-requires t c =
+    let place = c.args.place.now in
+    let sq = c.lowest_square-square.result in
+    let there : is_in c.loop-left.left sq ≡ true = lowest_in c.loop-left.left sq (omega arith) (search rules) c.lowest_square-square.ensures.value in
+    (search rules, (c.requires.at, subst (λ (b : _). IsDecided c.args.pending (λ f. holds (value_at place b (filter_tree f) place.node)) c.args.asked.now)
+    (sym (c.rebind.ensures ∙ c.loop-left.invariant.names sq)) (c.requires.decided sq (c.loop-left.invariant.within sq there))))
+
 pub some_settles-loop-left-preserved : goal.some_settles-loop-left-preserved
 some_settles-loop-left-preserved t c =
     let place = c.args.place.now in
     let sq = c.lowest_square-square.result in
     let f = filter_tree c.args.asked.now in
     let test : ℕ → Bool = λ s. holds (value_at place (rebound c.args.names.now s) f place.node) in
-    let is : c.holds.result ≡ test sq = c.holds.ensures ∙ ap holds c.in_ok-value.ensures.value
+    let is : c.in_ok-holds.holds ≡ test sq = c.in_ok-holds.ensures.value
     ∙ ap (λ (b : _). holds (value_at place b f place.node)) (c.rebind.ensures ∙ c.loop-left.invariant.names sq) in
     let first = settled_first c.args.every test c.loop-left.left sq c.number.result (omega arith) (search rules) c.lowest_square-square.ensures.value c.number.ensures.value in
+    let rest = bit_not w64 (1 * 2 ^ c.number.result % 2 ^ 64) in
+    let both_in : (s : ℕ) → is_in (cleared c.loop-left.left c.number.result) s ≡ true → is_in c.loop-left.left s ≡ true
+    = λ s h. first_holds (is_in c.loop-left.left s) (is_in rest s) (sym (in_both c.loop-left.left rest s) ∙ h) in
     record {
-      left = sym (ap (λ b. b || list_any (settles c.args.every (is_in (cleared c.loop-left.left c.number.result)) test) squares) (not_settling c.args.every c.holds.result (test sq) is c.if-holds-every.false)) ∙ sym first ∙ c.loop-left.invariant.left;
-      bound = subst (λ (b : _). 0 < length b) (sym (c.evaluate.ensures.names ∙ c.rebind.ensures)) (let l = rebound_length c.loop-left.names sq in omega (arith, l, c.loop-left.invariant.bound));
-      names = λ s. ap (λ (b : _). rebound b s) (c.evaluate.ensures.names ∙ c.rebind.ensures) ∙ rebound_again c.loop-left.names sq s ∙ c.loop-left.invariant.names s;
+      left = sym (ap (λ b. b || list_any (settles c.args.every (is_in (cleared c.loop-left.left c.number.result)) test) squares) (not_settling c.args.every c.in_ok-holds.holds (test sq) is c.if-holds-every.false)) ∙ sym first ∙ c.loop-left.invariant.left;
+      bound = subst (λ (b : _). 0 < length b) (sym (c.asked_holds.ensures.names ∙ c.rebind.ensures)) (let l = rebound_length c.loop-left.names sq in omega (arith, l, c.loop-left.invariant.bound));
+      within = λ s h. c.loop-left.invariant.within s (both_in s h);
+      names = λ s. ap (λ (b : _). rebound b s) (c.asked_holds.ensures.names ∙ c.rebind.ensures) ∙ rebound_again c.loop-left.names sq s ∙ c.loop-left.invariant.names s;
     }
 
 pub some_settles-returns-clause-value : goal.some_settles-returns-clause-value
@@ -244,11 +287,18 @@ some_settles-returns-clause-value t c =
     let test : ℕ → Bool = λ s. holds (value_at place (rebound c.args.names.now s) (filter_tree c.args.asked.now) place.node) in
     sym (none_settles c.args.every test c.loop-left.left (omega (arith, c.loop-left-test.false))) ∙ c.loop-left.invariant.left
 
-pub square_at-returns-then-left-eq0-clause-value : goal.square_at-returns-then-left-eq0-clause-value
-square_at-returns-then-left-eq0-clause-value t c =
+pub square_at-returns-then-cut-eq0-clause-value : goal.square_at-returns-then-cut-eq0-clause-value
+square_at-returns-then-cut-eq0-clause-value t c =
     let test = holds_at c.args.place.now c.args.name.now c.args.names.now (filter_tree c.args.asked.now) in
-    sym (by_settling c.args.every (as_squares (is_in c.tried-left.result)) test false (sym (none_settles c.args.every test c.tried-left.result (omega (arith, c.if-left-eq0.true)))))
-    ∙ c.tried-left.ensures
+    sym (by_settling c.args.every (as_squares (is_in c.tried-cut.result.squares)) test false (sym (none_settles c.args.every test c.tried-cut.result.squares (omega (arith, c.if-cut-eq0.true)))))
+    ∙ c.tried-cut.ensures.answer
+
+pub square_at-some_settles-found-requires : goal.square_at-some_settles-found-requires
+square_at-some_settles-found-requires t c =
+    let place = c.args.place.now in
+    let bound : c.bind.new.self ≡ (c.args.name.now, c.lowest_square.result) ∷ c.args.names.now = c.in_ok-bind.ensures.ok in
+    (search rules, (c.requires, (subst (λ (b : _). 0 < length b) (sym bound) (omega arith), (λ s h. subst (λ (b : _). IsDecided c.tried-cut.result.pending (λ f. holds (value_at place (rebound b s) (filter_tree f) place.node)) c.args.asked.now)
+    (sym bound) (c.tried-cut.ensures.decided s h)))))
 
 pub square_at-unbind-requires : goal.square_at-unbind-requires
 square_at-unbind-requires t c = rebound_some c.some_settles-found.new.names c.bind.new.self (search rules) (c.some_settles-found.ensures.names 0)
@@ -258,7 +308,7 @@ square_at-returns-in-Ok-clause-value t c =
     let place = c.args.place.now in
     let f = filter_tree c.args.asked.now in
     let test = holds_at place c.args.name.now c.args.names.now f in
-    let left = c.tried-left.result in
+    let left = c.tried-cut.result.squares in
     let value : c.in-Ok.found ≡ list_any (settles c.args.every (is_in left) (λ s. holds (value_at place (rebound c.bind.new.self s) f place.node))) squares
     = subst (λ r. IfOk r (λ b. b ≡ list_any (settles c.args.every (is_in left) (λ s. holds (value_at place (rebound c.bind.new.self s) f place.node))) squares)) c.in-Ok.is
     c.some_settles-found.ensures.value in
@@ -266,7 +316,7 @@ square_at-returns-in-Ok-clause-value t c =
     ap as_truth (by_found c.in-Ok.found c.args.every)
     ∙ sym (by_settling c.args.every (as_squares (is_in left)) test c.in-Ok.found (value
     ∙ ap (λ (b : _). list_any (settles c.args.every (is_in left) (λ s. holds (value_at place (rebound b s) f place.node))) squares) bound))
-    ∙ c.tried-left.ensures
+    ∙ c.tried-cut.ensures.answer
 
 pub square_at-returns-in-Ok-clause-names : goal.square_at-returns-in-Ok-clause-names
 square_at-returns-in-Ok-clause-names t c =

@@ -1,4 +1,4 @@
-use Rattle.std.proofs.Common.{◌≡◌, ℕ, ◌<◌, length, take, drop, Some}
+use Rattle.std.proofs.Common.{◌≡◌, ℕ, ◌<◌, true, length, take, drop, Some}
 use Rattle.std.specs.Prelude.{IfSome, filter}
 use Rattle.std.specs.List.{list_any, list_all}
 use Rattle.cq_geometry.specs.Squares.{squares}
@@ -15,10 +15,10 @@ use Rattle.cql_values.specs.Bindings.{rebound}
 use Rattle.cql_here.specs.Places.{tree_of, value_at}
 use Rattle.cql_here.proofs.evaluate.+evaluate.Given as goal
 
-abbrev pub invariant-all_of-loop-part : goal.invariant-all_of-loop-part
-invariant-all_of-loop-part l = record {
-  left : list_all (λ f. holds (value_at l.place l.fn.names (filter_tree f) l.place.node)) (drop l.part-index l.part-items)
-      ≡ list_all (λ f. holds (value_at l.place l.fn.names (filter_tree f) l.place.node)) l.part-items;
+abbrev pub invariant-all_of-loop-i : goal.invariant-all_of-loop-i
+invariant-all_of-loop-i l = record {
+  left : list_all (λ f. holds (value_at l.place l.fn.names (filter_tree f) l.place.node)) (drop l.i l.all)
+      ≡ list_all (λ f. holds (value_at l.place l.fn.names (filter_tree f) l.place.node)) l.all;
   names : l.names ≡ l.fn.names;
 }
 
@@ -57,6 +57,7 @@ invariant-some_settles-loop-left l = record {
   left : list_any (settles l.every (is_in l.left) (λ s. holds (value_at l.place (rebound l.fn.names s) (filter_tree l.asked) l.place.node))) squares
       ≡ list_any (settles l.every (is_in l.set) (λ s. holds (value_at l.place (rebound l.fn.names s) (filter_tree l.asked) l.place.node))) squares;
   bound : 0 < length l.names;
+  within : (s : ℕ) → is_in l.left s ≡ true → is_in l.set s ≡ true;
   names : (s : ℕ) → rebound l.names s ≡ rebound l.fn.names s;
 }
 
