@@ -2,6 +2,7 @@ pub mod Bound
 pub mod Evaluated
 pub mod Masks
 pub mod Mates
+pub mod MenFound
 pub mod MoveCounts
 pub mod Paired
 pub mod Ranges

@@ -50,7 +50,7 @@ flipped : (b : Bool) → 1 - bit_of b ≡ bit_of (not b)
 flipped true = refl
 flipped false = refl
 
-max_of : (t u : Bool) → max (bit_of t) (bit_of u) ≡ bit_of (t || u)
+pub max_of : (t u : Bool) → max (bit_of t) (bit_of u) ≡ bit_of (t || u)
 max_of true true = refl
 max_of true false = refl
 max_of false true = refl

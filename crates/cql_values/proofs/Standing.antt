@@ -32,19 +32,13 @@ some_man test BlackN = or-false (test 10)
 some_man test BlackP = or-false (test 11)
 some_man test Empty = or-false (test 12)
 
-and_true : (b : Bool) → b ≡ (b && true)
+pub and_true : (b : Bool) → b ≡ (b && true)
 and_true true = refl
 and_true false = refl
 
 and_false : (b : Bool) → false ≡ (b && false)
 and_false true = refl
 and_false false = refl
-
-pub kept_if : (mask : ℕ) (test : ℕ → Bool) (b : Bool) → b ≡ true → IsBitboard mask test → IsBitboard mask (λ s. test s && b)
-kept_if mask test b e m = marks_same mask test (λ s. test s && b) (λ s low. and_true (test s) ∙ ap (λ c. test s && c) (sym e)) m
-
-pub none_if : (test : ℕ → Bool) (b : Bool) → b ≡ false → IsBitboard 0 (λ s. test s && b)
-none_if test b e = record { bit = λ s low. bit_at-zero s ∙ ap bit_of (and_false (test s) ∙ ap (λ c. test s && c) (sym e)) }
 
 -- the squares of a set on which it is so
 pub masked : (part mask : ℕ) (test : ℕ → Bool) → IsBitboard mask test → IsBitboard (bit_and part mask) (λ s. is_in part s && test s)

@@ -1,5 +1,5 @@
 //! Filters of one leaf.
-ghost use Rattle.std.specs.Prelude.{◌≡◌, ◌<◌, ◌&&◌, ◌++◌, ◌∷◌, [], not, length, Some, IfOk, OnOk, if◌then◌else◌};
+ghost use Rattle.std.specs.Prelude.{◌≡◌, ◌<◌, ◌^◌, ◌&&◌, ◌++◌, ◌∷◌, [], not, length, Some, IfOk, OnOk, if◌then◌else◌};
 ghost use Rattle.std.specs.List.{list_any};
 ghost use Rattle.cq_position.specs.Games.{IsTree};
 ghost use Rattle.cq_position.specs.Legality.{has_legal_move};
@@ -31,26 +31,39 @@ pub fn standing_on(position: &Position, d: &Designator) -> u64
     d.part.squares & squares_of_some(position.men(), d.men)
 }
 
+// The men that there are, with the empty square.
+const ALL_MEN: u16 = 0x1fff;
+
 // The squares on which one of some men stands: bit k is man k.
 fn squares_of_some(men: &Men, wanted: u16) -> u64
     ensures { IsBitboard result (λ s. is_in wanted (man_number (man_at men.now s))) }
 {
+    if wanted & ALL_MEN == ALL_MEN {
+        return u64::MAX;
+    }
+    squares_of_each(men, wanted & ALL_MEN)
+}
+
+// The same, man by man.
+fn squares_of_each(men: &Men, wanted: u16) -> u64
+    requires { wanted < 2 ^ 13 }
+    ensures { IsBitboard result (λ s. is_in wanted (man_number (man_at men.now s))) }
+{
     let mut mask = 0;
-    for man in &Man::ALL {
-        mask |= squares_if(men, wanted, *man);
+    let mut left = wanted;
+    while left != 0 {
+        let number = left.trailing_zeros();
+        left &= !(1 << number);
+        mask |= men.squares_of(man_numbered(number as usize));
     }
     mask
 }
 
-// The squares on which a man stands, if it is wanted.
-fn squares_if(men: &Men, wanted: u16, man: Man) -> u64
-    ensures { IsBitboard result (λ s. stands men.now s man && is_in wanted (man_number man)) }
+fn man_numbered(number: usize) -> Man
+    requires { number < 13 }
+    ensures { man_number result ≡ number }
 {
-    if has_man(wanted, man) {
-        men.squares_of(man)
-    } else {
-        0
-    }
+    Man::ALL[number]
 }
 
 /// The men of a set: bit k is man k.
