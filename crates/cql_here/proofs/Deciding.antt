@@ -1,8 +1,8 @@
 -- What is known to hold with each of the squares that are left.
-use Rattle.std.proofs.Common.{◌≡◌, ℕ, zero, suc, ◌+◌, ◌-◌, ◌*◌, ◌%◌, ◌^◌, ◌<◌, ◌≤◌, Bool, true, false, ◌&&◌, ◌==◌, nat_lt, List, [], ◌∷◌, length, get_or, refl, sym, ap, ◌∙◌, subst, arith, inl, inr, ⊎_elim}
+use Rattle.std.proofs.Common.{◌≡◌, ℕ, zero, suc, ◌+◌, ◌-◌, ◌*◌, ◌%◌, ◌^◌, ◌<◌, ◌≤◌, Bool, true, false, ◌&&◌, ◌||◌, ◌==◌, nat_lt, List, [], ◌∷◌, length, get_or, refl, sym, ap, ◌∙◌, subst, arith, inl, inr, ⊎_elim}
 use Rattle.std.specs.Int.{bit_at, trailing_zeros, w64}
 use Rattle.std.specs.List.{list_any}
-use Rattle.std.specs.Prelude.{bit_or}
+use Rattle.std.specs.Prelude.{bit_or, not}
 use Rattle.std.proofs.lemmas.Bool.{cases_Bool, cases_eq, lt-ltb, eq-eqb}
 use Rattle.std.proofs.lemmas.Nat.Bits.{bit_at-trailing_zeros, bit_at_set_same}
 use Rattle.cq_geometry.specs.Squares.{squares}
@@ -46,6 +46,9 @@ pub chain_decided : (pending : ℕ) (passes : Filter → Bool) (f : Filter) (k :
 chain_decided pending passes f k fs is had = record {
   parts = λ j gs e. let same : fs ≡ gs = cc in subst (λ x. AreDecided pending passes (filters_in x)) same had;
 }
+
+pub decided_parts : (pending : ℕ) (passes : Filter → Bool) (f : Filter) (k : Chain) (fs : Filters) → IsDecided pending passes f → f.form ≡ Chain' k fs → AreDecided pending passes (filters_in fs)
+decided_parts pending passes f k fs had is = had.parts k fs is
 
 own_there : (x : Value) (s : ℕ) → s < 64 → x ≡ squares_where (λ t. s == t) → has x s ≡ true
 own_there x s low is = ap (λ v. has v s) is ∙ both (nat_lt s 64) (s == s) (lt-ltb s 64 low) (eq-eqb s s refl)
@@ -108,6 +111,15 @@ pub decided_all : (test : ℕ → Filter → Bool) (fs gs : List Filter) (k pend
     → (s : ℕ) → is_in set s ≡ true → AreDecided pending (test s) gs
 decided_all test fs gs k pending set end same had s h =
     subst (AreDecided pending (test s)) same (record { each = λ i f low item none. had s h i f (omega (arith, low, end)) item none })
+
+-- of a filter that is asked where it is pending, and holds else
+pub holds_where : (pending told there : Bool) → told ≡ (not pending || there) → told ≡ true → (pending ≡ false → there ≡ true) → there ≡ true
+holds_where true told there is yes decided = sym is ∙ yes
+holds_where false told there is yes decided = decided refl
+
+pub fails_where : (pending told there : Bool) → told ≡ (not pending || there) → told ≡ false → there ≡ false
+fails_where true told there is no = sym is ∙ no
+fails_where false told there is no = let h = sym is ∙ no in cc
 
 -- a filter that is a chain
 pub chain_cut : (tree : SearchedTree) (e : Names) (n : ℕ) (name : List ℕ) (f : Filter) (k : Chain) (ps : Filters) (set new : ℕ) → f.form ≡ Chain' k ps

@@ -1,5 +1,5 @@
 //! What a filter gives at a node, by recursion on the filter.
-ghost use Rattle.std.specs.Prelude.{◌≡◌, ◌<◌, ◌&&◌, [], length, ℕ, true, false, Some, IfOk, option_to_list};
+ghost use Rattle.std.specs.Prelude.{◌≡◌, ◌<◌, ◌&&◌, ◌||◌, [], length, ℕ, not, true, false, Some, IfOk, option_to_list};
 ghost use Rattle.std.specs.List.{list_any, list_all};
 ghost use Rattle.cq_geometry.specs.Squares.{squares};
 ghost use Rattle.cq_position.specs.Bitboards.{IsBitboard};
@@ -37,7 +37,7 @@ use cql_values::words::{directions, standing_on};
 
 /// What a filter gives at a node.
 #[cycle(evaluate)]
-#[tactic(auto, unfolding(cql_syntax::specs::Meaning::value, cql_syntax::specs::Contexts::designator_image))]
+#[tactic(auto, using(crate::proofs::Deciding::pending_parts), unfolding(cql_syntax::specs::Meaning::value, cql_syntax::specs::Contexts::designator_image))]
 pub(crate) fn evaluate(f: &Filter, place: &Place, names: &mut Names) -> Result<Value, Halt>
     requires { IsAt place.now }
     ensures value { IfOk result (λ v. meant v ≡ value_at place.now names.old (filter_tree f.now) place.now.node) }
@@ -270,12 +270,12 @@ fn all_of(pending: u64, parts: &Filters, place: &Place, names: &mut Names) -> Re
     Ok(true)
 }
 
-// Whether a filter holds, which one that is not pending does.
+// Whether a filter holds, where it is pending.
 #[cycle(evaluate)]
 fn holds_if(pending: bool, part: &Filter, place: &Place, names: &mut Names) -> Result<bool, Halt>
-    requires at { IsAt place.now }
-    requires decided { pending ≡ false → spec.holds (value_at place.now names.old (filter_tree part.now) place.now.node) ≡ true }
-    ensures value { IfOk result (λ b. b ≡ spec.holds (value_at place.now names.old (filter_tree part.now) place.now.node)) }
+    requires { IsAt place.now }
+    ensures value { IfOk result (λ b. b
+        ≡ (not pending || spec.holds (value_at place.now names.old (filter_tree part.now) place.now.node))) }
     ensures names { names.new ≡ names.old }
 {
     if !pending {
@@ -394,7 +394,7 @@ fn some_settles(
 
 // Whether a filter holds, of whose parts those that are not pending do.
 #[cycle(evaluate)]
-#[tactic(auto, unfolding(cql_syntax::specs::Meaning::value))]
+#[tactic(auto, using(crate::proofs::Deciding::decided_parts), unfolding(cql_syntax::specs::Meaning::value))]
 fn asked_holds(pending: u64, asked: &Filter, place: &Place, names: &mut Names) -> Result<bool, Halt>
     requires at { IsAt place.now }
     requires decided { IsDecided pending (λ f. spec.holds (value_at place.now names.old (filter_tree f) place.now.node)) asked.now }

@@ -1,5 +1,5 @@
 use Rattle.std.proofs.Common.{rules, ◌≡◌, ℕ, ◌-◌, ◌*◌, ◌%◌, ◌^◌, ◌<◌, ◌∷◌, Bool, true, false, ◌&&◌, ◌||◌, refl, drop, length, get_or, ap, ap₂, sym, ◌∙◌, subst, arith, Some}
-use Rattle.std.specs.Prelude.{filter, IfOk, IfSome}
+use Rattle.std.specs.Prelude.{filter, not, IfOk, IfSome}
 use Rattle.std.specs.Int.{bit_not, w64}
 use Rattle.std.specs.List.{list_any, list_all}
 use Rattle.cq_bits.proofs.Gathering.{cleared, smaller}
@@ -24,26 +24,22 @@ use Rattle.cql_here.specs.Cuts.{IsDecided}
 use Rattle.cql_here.specs.Places.{tree_of, value_at, values_at, holds_at}
 use Rattle.cql_here.proofs.Children.{child_found, child_passed}
 use Rattle.cql_here.proofs.Cutting.{standing_is}
-use Rattle.cql_here.proofs.Deciding.{lowest_in, pending_parts}
+use Rattle.cql_here.proofs.Deciding.{lowest_in}
 use Rattle.cql_here.proofs.Loops.{all_values, any_values, all_on, all_stop, all_end, any_stop, any_end, settled_first, none_settles, settling, not_settling, by_found, rebound_again, rebound_outer, rebound_some, rebound_length, square_value, union_whole, common_whole}
 use Rattle.cql_here.proofs.evaluate.+evaluate.Goals as goal
-
-pub all_of-holds_if-requires : goal.all_of-holds_if-requires
-all_of-holds_if-requires t c =
-    let place = c.args.place.now in
-    let f = c.index-all-i.result in
-    let items = c.as_slice-all.ensures.items in
-    (search rules, (c.requires.at, (λ none. ap (λ (b : _). holds (value_at place b (filter_tree f) place.node)) c.loop-i.invariant.names
-    ∙ c.requires.decided.each c.loop-i.i f (subst (λ l. c.loop-i.i < length l) items c.loop-i-test.true) (c.index-all-i.is ∙ ap (λ l. get_or l c.loop-i.i f) items)
-    (sym c.is_pending.ensures ∙ none))))
 
 pub all_of-loop-i-preserved : goal.all_of-loop-i-preserved
 all_of-loop-i-preserved t c =
     let place = c.args.place.now in
     let items = c.as_slice-all.result.now in
+    let same = c.as_slice-all.ensures.items in
     let f = c.index-all-i.result in
     let p : Filter → Bool = λ f. holds (value_at place c.args.names.now (filter_tree f) place.node) in
-    let is : p f ≡ true = ap (λ (b : _). holds (value_at place b (filter_tree f) place.node)) (sym c.loop-i.invariant.names) ∙ sym c.in_ok-holds.ensures.value ∙ c.if-not-holds.false in
+    let told : c.in_ok-holds.holds ≡ (not c.is_pending.result || p f)
+    = c.in_ok-holds.ensures.value ∙ ap (λ (b : _). not c.is_pending.result || holds (value_at place b (filter_tree f) place.node)) c.loop-i.invariant.names in
+    let is : p f ≡ true = holds_where c.is_pending.result c.in_ok-holds.holds (p f) told c.if-not-holds.false
+    (λ none. c.requires.decided.each c.loop-i.i f (subst (λ l. c.loop-i.i < length l) same c.loop-i-test.true) (c.index-all-i.is ∙ ap (λ l. get_or l c.loop-i.i f) same)
+    (sym c.is_pending.ensures ∙ none)) in
     record {
       left = all_on p items (list_all p items) c.loop-i.i f c.loop-i-test.true c.index-all-i.is is c.loop-i.invariant.left;
       names = c.holds_if.ensures.names ∙ c.loop-i.invariant.names;
@@ -56,7 +52,9 @@ all_of-returns-then-not-holds-clause-value t c =
     let items = c.as_slice-all.result.now in
     let f = c.index-all-i.result in
     let p : Filter → Bool = λ f. holds (value_at place e (filter_tree f) place.node) in
-    let is : p f ≡ false = ap (λ (b : _). holds (value_at place b (filter_tree f) place.node)) (sym c.loop-i.invariant.names) ∙ sym c.in_ok-holds.ensures.value ∙ c.if-not-holds.true in
+    let told : c.in_ok-holds.holds ≡ (not c.is_pending.result || p f)
+    = c.in_ok-holds.ensures.value ∙ ap (λ (b : _). not c.is_pending.result || holds (value_at place b (filter_tree f) place.node)) c.loop-i.invariant.names in
+    let is : p f ≡ false = fails_where c.is_pending.result c.in_ok-holds.holds (p f) told c.if-not-holds.true in
     all_stop p items (list_all p items) c.loop-i.i f c.loop-i-test.true c.index-all-i.is is c.loop-i.invariant.left
     ∙ sym (all_values holds (tree_of place) e place.node items) ∙ ap (λ fs. list_all holds (values_at place e fs place.node)) c.as_slice-all.ensures.tree
 
@@ -68,13 +66,6 @@ all_of-returns-clause-value t c =
     let p : Filter → Bool = λ f. holds (value_at place e (filter_tree f) place.node) in
     all_end p items (list_all p items) c.loop-i.i c.loop-i-test.false c.loop-i.invariant.left
     ∙ sym (all_values holds (tree_of place) e place.node items) ∙ ap (λ fs. list_all holds (values_at place e fs place.node)) c.as_slice-all.ensures.tree
-
-pub asked_holds-chain_at-requires : goal.asked_holds-chain_at-requires
-asked_holds-chain_at-requires t c = (search rules, (c.requires.at, c.requires.decided.parts c.in-Chain.chain _ c.in-Chain.is))
-
-pub evaluate-chain_at-requires : goal.evaluate-chain_at-requires
-evaluate-chain_at-requires t c =
-    (search rules, (c.requires, pending_parts (2 ^ 64 - 1) (λ f. holds (value_at c.args.place.now c.args.names.now (filter_tree f) c.args.place.now.node)) _ refl))
 
 pub some_child-loop-at-init : goal.some_child-loop-at-init
 some_child-loop-at-init t c =
