@@ -24,7 +24,7 @@ use Rattle.cql_here.specs.Cuts.{IsDecided}
 use Rattle.cql_here.specs.Places.{tree_of, value_at, values_at, holds_at}
 use Rattle.cql_here.proofs.Children.{child_found, child_passed}
 use Rattle.cql_here.proofs.Cutting.{standing_is}
-use Rattle.cql_here.proofs.Deciding.{lowest_in}
+use Rattle.cql_here.proofs.Deciding.{fails_where, holds_where, lowest_in}
 use Rattle.cql_here.proofs.Loops.{all_values, any_values, all_on, all_stop, all_end, any_stop, any_end, settled_first, none_settles, settling, not_settling, by_found, rebound_again, rebound_outer, rebound_some, rebound_length, square_value, union_whole, common_whole}
 use Rattle.cql_here.proofs.evaluate.+evaluate.Goals as goal
 
