@@ -1,0 +1,344 @@
+use Rattle.std.proofs.Common.{rules, ◌≡◌, ℕ, ◌-◌, ◌*◌, ◌%◌, ◌^◌, ◌<◌, ◌∷◌, Bool, true, false, ◌&&◌, ◌||◌, refl, drop, length, get_or, ap, ap₂, sym, ◌∙◌, subst, arith, Some}
+use Rattle.std.specs.Prelude.{filter, not, IfOk, IfSome}
+use Rattle.std.specs.Int.{bit_not, w64}
+use Rattle.std.specs.List.{list_any, list_all}
+use Rattle.cq_bits.proofs.Gathering.{cleared, smaller}
+use Rattle.cq_geometry.specs.Squares.{squares}
+use Rattle.cq_position.specs.Games.{node_at, is_searched, next_sibling, way_up}
+use Rattle.cq_position.specs.Search.{children_in}
+use Rattle.cq_position.proofs.WaysUp.{way_from, way_on}
+use Rattle.cq_symmetry.specs.Images.{is_in}
+use Rattle.cql_syntax.specs.Meaning.{meets}
+use Rattle.cql_syntax.specs.TreeOf.{filter_tree, filters_tree, form_tree}
+use Rattle.cql_syntax.specs.Trees.{filter_at, square}
+use Rattle.cql_syntax.specs.Values.{holds, has, as_truth, as_squares, square_of}
+use Rattle.cql_syntax.specs.declared.tree.Filter.{Filter}
+use Rattle.cql_values.proofs.Evaluated.{by_settling, word_here}
+use Rattle.cql_values.proofs.Masks.{in_both, union_step, intersection_step, all_squares}
+use Rattle.cql_values.proofs.Ranges.{left as first_holds}
+use Rattle.cql_values.proofs.Ways.{within_up, children_from, all_children, parent_of_first, parent_of_next, inside_of}
+use Rattle.cql_values.specs.Asked.{settles, of_value}
+use Rattle.cql_values.specs.Bindings.{rebound}
+use Rattle.cql_values.specs.Shown.{meant}
+use Rattle.cql_here.specs.Cuts.{IsDecided}
+use Rattle.cql_here.specs.Moves.{IsSought}
+use Rattle.cql_here.specs.Places.{tree_of, value_at, values_at, holds_at}
+use Rattle.cql_here.proofs.Children.{child_found, child_passed}
+use Rattle.cql_here.proofs.Cutting.{standing_is}
+use Rattle.cql_here.proofs.Deciding.{fails_where, holds_where, lowest_in}
+use Rattle.cql_here.proofs.Loops.{all_values, any_values, all_on, all_stop, all_end, any_stop, any_end, settled_first, none_settles, settling, not_settling, by_found, rebound_again, rebound_outer, rebound_some, rebound_length, square_value, union_whole, common_whole}
+use Rattle.cql_here.proofs.Seeking.{not_held}
+use Rattle.cql_here.proofs.evaluate.+evaluate.Goals as goal
+
+pub all_of-loop-i-preserved : goal.all_of-loop-i-preserved
+all_of-loop-i-preserved t c =
+    let place = c.args.place.now in
+    let items = c.as_slice-all.result.now in
+    let same = c.as_slice-all.ensures.items in
+    let f = c.index-all-i.result in
+    let p : Filter → Bool = λ f. holds (value_at place c.args.names.now (filter_tree f) place.node) in
+    let told : c.in_ok-holds.holds ≡ (not c.is_pending.result || p f)
+    = c.in_ok-holds.ensures.value ∙ ap (λ (b : _). not c.is_pending.result || holds (value_at place b (filter_tree f) place.node)) c.loop-i.invariant.names in
+    let is : p f ≡ true = holds_where c.is_pending.result c.in_ok-holds.holds (p f) told c.if-not-holds.false
+    (λ none. c.requires.decided.each c.loop-i.i f (subst (λ l. c.loop-i.i < length l) same c.loop-i-test.true) (c.index-all-i.is ∙ ap (λ l. get_or l c.loop-i.i f) same)
+    (sym c.is_pending.ensures ∙ none)) in
+    record {
+      left = all_on p items (list_all p items) c.loop-i.i f c.loop-i-test.true c.index-all-i.is is c.loop-i.invariant.left;
+      names = c.holds_if.ensures.names ∙ c.loop-i.invariant.names;
+    }
+
+pub all_of-returns-then-not-holds-clause-value : goal.all_of-returns-then-not-holds-clause-value
+all_of-returns-then-not-holds-clause-value t c =
+    let place = c.args.place.now in
+    let e = c.args.names.now in
+    let items = c.as_slice-all.result.now in
+    let f = c.index-all-i.result in
+    let p : Filter → Bool = λ f. holds (value_at place e (filter_tree f) place.node) in
+    let told : c.in_ok-holds.holds ≡ (not c.is_pending.result || p f)
+    = c.in_ok-holds.ensures.value ∙ ap (λ (b : _). not c.is_pending.result || holds (value_at place b (filter_tree f) place.node)) c.loop-i.invariant.names in
+    let is : p f ≡ false = fails_where c.is_pending.result c.in_ok-holds.holds (p f) told c.if-not-holds.true in
+    all_stop p items (list_all p items) c.loop-i.i f c.loop-i-test.true c.index-all-i.is is c.loop-i.invariant.left
+    ∙ sym (all_values holds (tree_of place) e place.node items) ∙ ap (λ fs. list_all holds (values_at place e fs place.node)) c.as_slice-all.ensures.tree
+
+pub all_of-returns-clause-value : goal.all_of-returns-clause-value
+all_of-returns-clause-value t c =
+    let place = c.args.place.now in
+    let e = c.args.names.now in
+    let items = c.as_slice-all.result.now in
+    let p : Filter → Bool = λ f. holds (value_at place e (filter_tree f) place.node) in
+    all_end p items (list_all p items) c.loop-i.i c.loop-i-test.false c.loop-i.invariant.left
+    ∙ sym (all_values holds (tree_of place) e place.node items) ∙ ap (λ fs. list_all holds (values_at place e fs place.node)) c.as_slice-all.ensures.tree
+
+pub some_child-loop-at-init : goal.some_child-loop-at-init
+some_child-loop-at-init t c =
+    let place = c.args.place.now in
+    let nodes = place.game.now.nodes in
+    let test = is_searched place.variations nodes in
+    let p : ℕ → Bool = λ k. holds (value_at place c.args.names.now (filter_tree c.args.part.now) k) in
+    record {
+      left = ap (λ o. list_any p (filter test (children_from nodes place.node o))) c.first_child-at.ensures.value
+          ∙ sym (ap (λ l. list_any p (filter test l)) (all_children nodes place.node));
+      within = inside_of c.first_child-at.result place.node (length nodes) c.first_child-at.ensures.after;
+      child = parent_of_first nodes place.node c.first_child-at.result c.first_child-at.ensures.value;
+      names = refl;
+    }
+
+pub some_child-returns-then-there-clause-value : goal.some_child-returns-then-there-clause-value
+some_child-returns-then-there-clause-value t c =
+    let place = c.args.place.now in
+    let nodes = place.game.now.nodes in
+    let test = is_searched place.variations nodes in
+    let m = c.in-Some.child in
+    let f = filter_tree c.args.part.now in
+    let p : ℕ → Bool = λ k. holds (value_at place c.args.names.now f k) in
+    let is : (test m && p m) ≡ true = ap (λ (b : _). test m && holds (value_at place b f m)) (sym c.loop-at.invariant.names) ∙ sym c.in_ok-there.ensures.value ∙ c.if-there.true in
+    let parent : (node_at nodes m).parent ≡ Some place.node = subst (λ o. IfSome o (λ d. (node_at nodes d).parent ≡ Some place.node)) c.in-Some.is c.loop-at.invariant.child in
+    let had = subst (λ o. list_any p (filter test (children_from nodes place.node o)) ≡ list_any p (children_in (tree_of place) place.node)) c.in-Some.is c.loop-at.invariant.left in
+    child_found p nodes place.variations place.node m (next_sibling nodes m) (list_any p (children_in (tree_of place) place.node)) parent refl is had
+
+pub some_child-loop-at-preserved : goal.some_child-loop-at-preserved
+some_child-loop-at-preserved t c =
+    let place = c.args.place.now in
+    let nodes = place.game.now.nodes in
+    let test = is_searched place.variations nodes in
+    let m = c.in-Some.child in
+    let f = filter_tree c.args.part.now in
+    let p : ℕ → Bool = λ k. holds (value_at place c.args.names.now f k) in
+    let is : (test m && p m) ≡ false = ap (λ (b : _). test m && holds (value_at place b f m)) (sym c.loop-at.invariant.names) ∙ sym c.in_ok-there.ensures.value ∙ c.if-there.false in
+    let parent : (node_at nodes m).parent ≡ Some place.node = subst (λ o. IfSome o (λ d. (node_at nodes d).parent ≡ Some place.node)) c.in-Some.is c.loop-at.invariant.child in
+    let had = subst (λ o. list_any p (filter test (children_from nodes place.node o)) ≡ list_any p (children_in (tree_of place) place.node)) c.in-Some.is c.loop-at.invariant.left in
+    record {
+      left = child_passed p nodes place.variations place.node m c.next_sibling-at.result (list_any p (children_in (tree_of place) place.node)) parent c.next_sibling-at.ensures.value is had;
+      within = inside_of c.next_sibling-at.result m (length nodes) c.next_sibling-at.ensures.after;
+      child = parent_of_next nodes place.node m c.next_sibling-at.result parent c.next_sibling-at.ensures.value;
+      names = c.holds_searched.ensures.names ∙ c.loop-at.invariant.names;
+    }
+
+pub some_of-returns-then-holds-clause-value : goal.some_of-returns-then-holds-clause-value
+some_of-returns-then-holds-clause-value t c =
+    let place = c.args.place.now in
+    let e = c.args.names.now in
+    let items = c.as_slice-part-items.result.now in
+    let f = c.part-item.result in
+    let p : Filter → Bool = λ f. holds (value_at place e (filter_tree f) place.node) in
+    let is : p f ≡ true = ap (λ (b : _). holds (value_at place b (filter_tree f) place.node)) (sym c.loop-part.invariant.names)
+    ∙ sym (c.holds.ensures ∙ ap holds c.in_ok-value.ensures.value) ∙ c.if-holds.true in
+    any_stop p items (list_any p items) c.loop-part.part-index f c.loop-part-test.true c.part-item.is is c.loop-part.invariant.left
+    ∙ sym (any_values holds (tree_of place) e place.node items) ∙ ap (λ fs. list_any holds (values_at place e fs place.node)) c.as_slice-part-items.ensures.tree
+
+pub some_of-returns-clause-value : goal.some_of-returns-clause-value
+some_of-returns-clause-value t c =
+    let place = c.args.place.now in
+    let e = c.args.names.now in
+    let items = c.as_slice-part-items.result.now in
+    let p : Filter → Bool = λ f. holds (value_at place e (filter_tree f) place.node) in
+    any_end p items (list_any p items) c.loop-part.part-index c.loop-part-test.false c.loop-part.invariant.left
+    ∙ sym (any_values holds (tree_of place) e place.node items) ∙ ap (λ fs. list_any holds (values_at place e fs place.node)) c.as_slice-part-items.ensures.tree
+
+pub union_of-loop-part-preserved : goal.union_of-loop-part-preserved
+union_of-loop-part-preserved t c =
+    let place = c.args.place.now in
+    let e = c.args.names.now in
+    let f = c.part-item.result in
+    let x : Filter → ℕ → Bool = λ f. has (value_at place e (filter_tree f) place.node) in
+    let is : x f ≡ is_in c.squares-mask.result = ap (λ (b : _). has (value_at place b (filter_tree f) place.node)) (sym c.loop-part.invariant.names)
+    ∙ sym (ap has c.in_ok-value.ensures.value) ∙ c.squares-mask.ensures in
+    record {
+      mask = union_step c.loop-part.mask c.squares-mask.result c.as_slice-part-items.result.now x c.loop-part.part-index f c.loop-part-test.true
+          (ap x (sym c.part-item.is) ∙ is) c.loop-part.invariant.mask;
+      names = c.evaluate.ensures.names ∙ c.loop-part.invariant.names;
+    }
+
+pub union_of-returns-clause-value : goal.union_of-returns-clause-value
+union_of-returns-clause-value t c =
+    union_whole (tree_of c.args.place.now) c.args.names.now c.args.place.now.node c.as_slice-part-items.result.now (filters_tree c.args.parts.now) c.loop-part.part-index c.loop-part.mask
+    (omega arith) c.loop-part-test.false c.as_slice-part-items.ensures.tree c.loop-part.invariant.mask
+
+pub common_of-loop-part-init : goal.common_of-loop-part-init
+common_of-loop-part-init t c = record { mask = all_squares; names = search rules }
+
+pub common_of-loop-part-preserved : goal.common_of-loop-part-preserved
+common_of-loop-part-preserved t c =
+    let place = c.args.place.now in
+    let e = c.args.names.now in
+    let f = c.part-item.result in
+    let x : Filter → ℕ → Bool = λ f. has (value_at place e (filter_tree f) place.node) in
+    let is : x f ≡ is_in c.squares-mask.result = ap (λ (b : _). has (value_at place b (filter_tree f) place.node)) (sym c.loop-part.invariant.names)
+    ∙ sym (ap has c.in_ok-value.ensures.value) ∙ c.squares-mask.ensures in
+    record {
+      mask = intersection_step c.loop-part.mask c.squares-mask.result c.as_slice-part-items.result.now x c.loop-part.part-index f c.loop-part-test.true
+          (ap x (sym c.part-item.is) ∙ is) c.loop-part.invariant.mask;
+      names = c.evaluate.ensures.names ∙ c.loop-part.invariant.names;
+    }
+
+pub common_of-returns-clause-value : goal.common_of-returns-clause-value
+common_of-returns-clause-value t c =
+    common_whole (tree_of c.args.place.now) c.args.names.now c.args.place.now.node c.as_slice-part-items.result.now (filters_tree c.args.parts.now) c.loop-part.part-index c.loop-part.mask
+    (omega arith) c.loop-part-test.false c.as_slice-part-items.ensures.tree c.loop-part.invariant.mask
+
+pub evaluate-returns-in-Squares-clause-value : goal.evaluate-returns-in-Squares-clause-value
+evaluate-returns-in-Squares-clause-value t c =
+    standing_is (tree_of c.args.place.now) c.args.names.now c.args.place.now.node c.args.f.now c.in-Squares.d c.standing_on.result
+    c.in-Squares.is (omega arith) (rw c.position.ensures at c.standing_on.ensures)
+
+pub evaluate-returns-in_ok-holds-in-Square-clause-value : goal.evaluate-returns-in_ok-holds-in-Square-clause-value
+evaluate-returns-in_ok-holds-in-Square-clause-value t c =
+    let place = c.args.place.now in
+    let f = c.args.f.now in
+    let e = c.args.names.now in
+    let a = filter_tree c.deref-in-Square.result.now in
+    let b = filter_tree c.deref-in-Square-2.result.now in
+    let v : as_truth c.in_ok-holds-in-Square.holds ≡ square_of c.in-Square.every (as_squares (is_in c.squares.result)) (holds_at place c.in-Square.name e b)
+    = c.in_ok-holds-in-Square.ensures.value ∙ ap₂ (λ text names. square_of c.in-Square.every (as_squares (is_in c.squares.result)) (holds_at place text names b))
+    c.as_slice-in-Square.ensures c.evaluate-in-Square.ensures.names in
+    let whole = ap (λ form. filter_at f.at (form_tree form)) c.in-Square.is
+    ∙ sym (ap₂ (λ p q. filter_at f.at (square c.in-Square.every c.in-Square.name (filter_tree p) (filter_tree q))) c.deref-in-Square.ensures c.deref-in-Square-2.ensures) in
+    v ∙ square_value (tree_of place) e place.node f.at c.in-Square.every c.in-Square.name a b c.squares.result (meant c.in_ok-squares-in-Square.squares)
+    c.in_ok-squares-in-Square.ensures.value c.squares.ensures ∙ sym (ap (λ w. value_at place e w place.node) whole)
+
+pub has_it-returns-in_ok-value-in-Some-clause-value : goal.has_it-returns-in_ok-value-in-Some-clause-value
+has_it-returns-in_ok-value-in-Some-clause-value t c =
+    let v = value_at c.args.place.now c.args.names.now (filter_tree c.args.part.now) c.args.place.now.node in
+    c.has_square.ensures ∙ ap (λ x. x c.in-Some.square) (sym c.squares.ensures) ∙ ap (λ x. has x c.in-Some.square) c.in_ok-value-in-Some.ensures.value
+    ∙ ap (meets (Some v)) (sym c.in-Some.is)
+
+pub some_above-holds_after-there-requires : goal.some_above-holds_after-there-requires
+some_above-holds_after-there-requires t c =
+    let place = c.args.place.now in
+    let nodes = place.game.now.nodes in
+    let low : c.in-Some.node < length nodes = subst (λ o. IfSome o (λ k. k < length nodes)) c.in-Some.is c.loop-at.invariant.within in
+    (search rules, (record { tree = c.requires.tree; node = low }, subst (λ (b : _). IsSought b (filter_tree c.args.part.now) c.moves_sought-moves.result) (sym c.loop-at.invariant.names) c.moves_sought-moves.ensures))
+
+pub some_above-returns-then-there-clause-value : goal.some_above-returns-then-there-clause-value
+some_above-returns-then-there-clause-value t c =
+    let place = c.args.place.now in
+    let nodes = place.game.now.nodes in
+    let m = c.in-Some.node in
+    let f = filter_tree c.args.part.now in
+    let p : ℕ → Bool = λ k. holds (value_at place c.args.names.now f k) in
+    let is : p m ≡ true = ap (λ (b : _). holds (value_at place b f m)) (sym c.loop-at.invariant.names) ∙ sym c.in_ok-there.ensures.value ∙ c.if-there.true in
+    let had = subst (λ o. list_any p (way_from nodes o) ≡ list_any p (way_up nodes place.node)) c.in-Some.is c.loop-at.invariant.left in
+    sym (ap (λ b. b || list_any p (way_from nodes (node_at nodes m).parent)) is) ∙ sym (ap (list_any p) (way_on nodes m (node_at nodes m).parent c.requires.tree refl)) ∙ had
+
+pub some_above-loop-at-preserved : goal.some_above-loop-at-preserved
+some_above-loop-at-preserved t c =
+    let place = c.args.place.now in
+    let nodes = place.game.now.nodes in
+    let m = c.in-Some.node in
+    let o = c.parent-at.result in
+    let f = filter_tree c.args.part.now in
+    let p : ℕ → Bool = λ k. holds (value_at place c.args.names.now f k) in
+    let is : p m ≡ false = ap (λ (b : _). holds (value_at place b f m)) (sym c.loop-at.invariant.names) ∙ sym c.in_ok-there.ensures.value ∙ c.if-there.false in
+    let had = subst (λ o. list_any p (way_from nodes o) ≡ list_any p (way_up nodes place.node)) c.in-Some.is c.loop-at.invariant.left in
+    let low : m < length nodes = subst (λ o. IfSome o (λ k. k < length nodes)) c.in-Some.is c.loop-at.invariant.within in
+    record {
+      left = sym (ap (λ b. b || list_any p (way_from nodes o)) is) ∙ sym (ap (list_any p) (way_on nodes m o c.requires.tree (sym c.parent-at.ensures.value))) ∙ had;
+      within = within_up nodes m o c.requires.tree c.parent-at.ensures.value low;
+      names = c.holds_after.ensures.names ∙ c.loop-at.invariant.names;
+    }
+
+pub holds_after-returns-then-not-may_hold-clause-value : goal.holds_after-returns-then-not-may_hold-clause-value
+holds_after-returns-then-not-may_hold-clause-value t c =
+    let place = c.args.place.now in
+    not_held (holds (value_at place c.args.names.now (filter_tree c.args.part.now) place.node)) c.may_hold.result
+    (λ h. c.may_hold.ensures (λ moved. c.requires.sought.led moved (tree_of place) place.node h)) c.if-not-may_hold.true
+
+pub some_settles-returns-then-holds-every-clause-value : goal.some_settles-returns-then-holds-every-clause-value
+some_settles-returns-then-holds-every-clause-value t c =
+    let place = c.args.place.now in
+    let sq = c.lowest_square-square.result in
+    let f = filter_tree c.args.asked.now in
+    let test : ℕ → Bool = λ s. holds (value_at place (rebound c.args.names.now s) f place.node) in
+    let is : c.in_ok-holds.holds ≡ test sq = c.in_ok-holds.ensures.value
+    ∙ ap (λ (b : _). holds (value_at place b f place.node)) (c.rebind.ensures ∙ c.loop-left.invariant.names sq) in
+    let first = settled_first c.args.every test c.loop-left.left sq c.number.result (omega arith) (search rules) c.lowest_square-square.ensures.value c.number.ensures.value in
+    sym (ap (λ b. b || list_any (settles c.args.every (is_in (cleared c.loop-left.left c.number.result)) test) squares) (settling c.args.every c.in_ok-holds.holds (test sq) is c.if-holds-every.true)) ∙ sym first ∙ c.loop-left.invariant.left
+
+pub some_settles-loop-left-smaller : goal.some_settles-loop-left-smaller
+some_settles-loop-left-smaller t c =
+    let some : 0 < c.loop-left.left = omega arith in
+    let fits : c.loop-left.left < 2 ^ 64 = search rules in
+    smaller c.loop-left.left c.lowest_square-square.result c.number.result some fits c.lowest_square-square.ensures.value c.number.ensures.value
+
+pub some_settles-asked_holds-requires : goal.some_settles-asked_holds-requires
+some_settles-asked_holds-requires t c =
+    let place = c.args.place.now in
+    let sq = c.lowest_square-square.result in
+    let there : is_in c.loop-left.left sq ≡ true = lowest_in c.loop-left.left sq (omega arith) (search rules) c.lowest_square-square.ensures.value in
+    (search rules, (c.requires.at, subst (λ (b : _). IsDecided c.args.pending (λ f. holds (value_at place b (filter_tree f) place.node)) c.args.asked.now)
+    (sym (c.rebind.ensures ∙ c.loop-left.invariant.names sq)) (c.requires.decided sq (c.loop-left.invariant.within sq there))))
+
+pub some_settles-loop-left-preserved : goal.some_settles-loop-left-preserved
+some_settles-loop-left-preserved t c =
+    let place = c.args.place.now in
+    let sq = c.lowest_square-square.result in
+    let f = filter_tree c.args.asked.now in
+    let test : ℕ → Bool = λ s. holds (value_at place (rebound c.args.names.now s) f place.node) in
+    let is : c.in_ok-holds.holds ≡ test sq = c.in_ok-holds.ensures.value
+    ∙ ap (λ (b : _). holds (value_at place b f place.node)) (c.rebind.ensures ∙ c.loop-left.invariant.names sq) in
+    let first = settled_first c.args.every test c.loop-left.left sq c.number.result (omega arith) (search rules) c.lowest_square-square.ensures.value c.number.ensures.value in
+    let rest = bit_not w64 (1 * 2 ^ c.number.result % 2 ^ 64) in
+    let both_in : (s : ℕ) → is_in (cleared c.loop-left.left c.number.result) s ≡ true → is_in c.loop-left.left s ≡ true
+    = λ s h. first_holds (is_in c.loop-left.left s) (is_in rest s) (sym (in_both c.loop-left.left rest s) ∙ h) in
+    record {
+      left = sym (ap (λ b. b || list_any (settles c.args.every (is_in (cleared c.loop-left.left c.number.result)) test) squares) (not_settling c.args.every c.in_ok-holds.holds (test sq) is c.if-holds-every.false)) ∙ sym first ∙ c.loop-left.invariant.left;
+      bound = subst (λ (b : _). 0 < length b) (sym (c.asked_holds.ensures.names ∙ c.rebind.ensures)) (let l = rebound_length c.loop-left.names sq in omega (arith, l, c.loop-left.invariant.bound));
+      within = λ s h. c.loop-left.invariant.within s (both_in s h);
+      names = λ s. ap (λ (b : _). rebound b s) (c.asked_holds.ensures.names ∙ c.rebind.ensures) ∙ rebound_again c.loop-left.names sq s ∙ c.loop-left.invariant.names s;
+    }
+
+pub some_settles-returns-clause-value : goal.some_settles-returns-clause-value
+some_settles-returns-clause-value t c =
+    let place = c.args.place.now in
+    let test : ℕ → Bool = λ s. holds (value_at place (rebound c.args.names.now s) (filter_tree c.args.asked.now) place.node) in
+    sym (none_settles c.args.every test c.loop-left.left (omega (arith, c.loop-left-test.false))) ∙ c.loop-left.invariant.left
+
+pub square_at-returns-then-cut-eq0-clause-value : goal.square_at-returns-then-cut-eq0-clause-value
+square_at-returns-then-cut-eq0-clause-value t c =
+    let test = holds_at c.args.place.now c.args.name.now c.args.names.now (filter_tree c.args.asked.now) in
+    sym (by_settling c.args.every (as_squares (is_in c.tried-cut.result.squares)) test false (sym (none_settles c.args.every test c.tried-cut.result.squares (omega (arith, c.if-cut-eq0.true)))))
+    ∙ c.tried-cut.ensures.answer
+
+pub square_at-some_settles-found-requires : goal.square_at-some_settles-found-requires
+square_at-some_settles-found-requires t c =
+    let place = c.args.place.now in
+    let bound : c.bind.new.self ≡ (c.args.name.now, c.lowest_square.result) ∷ c.args.names.now = c.in_ok-bind.ensures.ok in
+    (search rules, (c.requires, (subst (λ (b : _). 0 < length b) (sym bound) (omega arith), (λ s h. subst (λ (b : _). IsDecided c.tried-cut.result.pending (λ f. holds (value_at place (rebound b s) (filter_tree f) place.node)) c.args.asked.now)
+    (sym bound) (c.tried-cut.ensures.decided s h)))))
+
+pub square_at-unbind-requires : goal.square_at-unbind-requires
+square_at-unbind-requires t c = rebound_some c.some_settles-found.new.names c.bind.new.self (search rules) (c.some_settles-found.ensures.names 0)
+
+pub square_at-returns-in-Ok-clause-value : goal.square_at-returns-in-Ok-clause-value
+square_at-returns-in-Ok-clause-value t c =
+    let place = c.args.place.now in
+    let f = filter_tree c.args.asked.now in
+    let test = holds_at place c.args.name.now c.args.names.now f in
+    let left = c.tried-cut.result.squares in
+    let value : c.in-Ok.found ≡ list_any (settles c.args.every (is_in left) (λ s. holds (value_at place (rebound c.bind.new.self s) f place.node))) squares
+    = subst (λ r. IfOk r (λ b. b ≡ list_any (settles c.args.every (is_in left) (λ s. holds (value_at place (rebound c.bind.new.self s) f place.node))) squares)) c.in-Ok.is
+    c.some_settles-found.ensures.value in
+    let bound : c.bind.new.self ≡ (c.args.name.now, c.lowest_square.result) ∷ c.args.names.now = c.in_ok-bind.ensures.ok in
+    ap as_truth (by_found c.in-Ok.found c.args.every)
+    ∙ sym (by_settling c.args.every (as_squares (is_in left)) test c.in-Ok.found (value
+    ∙ ap (λ (b : _). list_any (settles c.args.every (is_in left) (λ s. holds (value_at place (rebound b s) f place.node))) squares) bound))
+    ∙ c.tried-cut.ensures.answer
+
+pub square_at-returns-in-Ok-clause-names : goal.square_at-returns-in-Ok-clause-names
+square_at-returns-in-Ok-clause-names t c =
+    c.unbind.ensures ∙ rebound_outer c.some_settles-found.new.names c.bind.new.self (c.some_settles-found.ensures.names 0) ∙ ap (drop 1) c.in_ok-bind.ensures.ok
+
+pub square_at-returns-in-Err-clause-names : goal.square_at-returns-in-Err-clause-names
+square_at-returns-in-Err-clause-names t c =
+    c.unbind.ensures ∙ rebound_outer c.some_settles-found.new.names c.bind.new.self (c.some_settles-found.ensures.names 0) ∙ ap (drop 1) c.in_ok-bind.ensures.ok
+
+pub unary_at-returns-in_ok-value-in_default : goal.unary_at-returns-in_ok-value-in_default
+unary_at-returns-in_ok-value-in_default t c =
+    let tree = tree_of c.args.place.now in
+    let at = value_at c.args.place.now c.args.names.now (filter_tree c.args.part.now) in
+    record {
+      value = c.unary_here.ensures ∙ ap (λ p. of_value p.men c.args.word (meant c.in_ok-value-in_default.value)) c.position.ensures
+          ∙ word_here tree c.args.word at c.args.place.now.node (meant c.in_ok-value-in_default.value) c.in_default.not-Find c.in_default.not-FindUp c.in_default.not-Child
+          c.in_default.not-Parent c.in_ok-value-in_default.ensures.value;
+      names = c.evaluate.ensures.names;
+    }

@@ -1,0 +1,521 @@
+//! What a filter gives at a node, by recursion on the filter.
+ghost use Rattle.std.specs.Prelude.{◌≡◌, ◌<◌, ◌&&◌, ◌||◌, [], length, ℕ, not, true, false, Some, IfOk, option_to_list};
+ghost use Rattle.std.specs.List.{list_any, list_all};
+ghost use Rattle.cq_geometry.specs.Squares.{squares};
+ghost use Rattle.cq_position.specs.Bitboards.{IsBitboard};
+ghost use Rattle.cq_position.specs.Games as games;
+ghost use Rattle.cq_position.specs.Games.{IsTree};
+ghost use Rattle.cq_position.specs.Search.{children_in};
+ghost use Rattle.cq_symmetry.specs.Images.{is_in};
+ghost use Rattle.cql_here.specs.Cuts.{AreDecided, IsDecided};
+ghost use Rattle.cql_here.specs.Moves.{IsSought};
+ghost use Rattle.cql_here.specs.Places.{tree_of, value_at, values_at, holds_at, IsAt};
+ghost use Rattle.cql_syntax.specs.Meaning as meaning;
+ghost use Rattle.cql_syntax.specs.TreeOf.{filter_tree, filters_tree, filters_in, played_tree, written_tree};
+ghost use Rattle.cql_syntax.specs.Values as spec;
+ghost use Rattle.cql_values.specs.Asked.{settles};
+ghost use Rattle.cql_values.specs.Bindings.{rebound};
+ghost use Rattle.cql_values.specs.Shown.{meant};
+
+use crate::ends::ends_of;
+use crate::halt::{Elsewhere, Halt};
+use crate::leaves::word_here;
+use crate::place::Place;
+use crate::sought::{Sought, may_hold, moves_sought};
+use crate::worth::{is_pending, tried};
+use cq_geometry::Square;
+use cq_sets::lowest_square;
+use cql_played::Led;
+use cql_syntax::{Chain, Filter, Filters, Form, Kind, Played, Unary};
+use cql_values::combine::{if_of, pair_of, unary_here};
+use cql_values::headers::{has_text, is_result, rating};
+use cql_values::led::led_to;
+use cql_values::names::Names;
+use cql_values::numbers::counted;
+use cql_values::sets::{has_square, reached};
+use cql_values::value::Value;
+use cql_values::walks::is_searched;
+use cql_values::words::{directions, standing_on};
+
+/// What a filter gives at a node.
+#[cycle(evaluate)]
+#[tactic(auto, using(crate::proofs::Deciding::pending_parts), unfolding(cql_syntax::specs::Meaning::value, cql_syntax::specs::Contexts::designator_image))]
+pub(crate) fn evaluate(f: &Filter, place: &Place, names: &mut Names) -> Result<Value, Halt>
+    requires { IsAt place.now }
+    ensures value { IfOk result (λ v. meant v ≡ value_at place.now names.old (filter_tree f.now) place.now.node) }
+    ensures names { names.new ≡ names.old }
+{
+    match &f.form {
+        Form::Squares(d) => Ok(Value::Set(standing_on(place.game.position(place.node), d))),
+        Form::Number(number) => Ok(counted(*number)),
+        Form::Name(name) => Ok(names.squares_of(name.as_slice())),
+        Form::Plain(word) => word_here(*word, place).ok_or(Halt::Fault(Elsewhere)),
+        Form::Tagged(field, text) => {
+            let there = has_text(place.game, *field, text.as_slice());
+            Ok(Value::Truth(there))
+        }
+        Form::Outcome(outcome) => Ok(Value::Truth(is_result(*outcome, place.game.result()))),
+        Form::Elo(of) => Ok(Value::Number(rating(place.game, *of))),
+        Form::Unary(word, part) => unary_at(*word, part, place, names),
+        Form::Steps(way, m, n, part) => {
+            let value = evaluate(part, place, names)?;
+            Ok(reached(directions(*way), *m, *n, value))
+        }
+        Form::Chain(chain, parts) => chain_at(u64::MAX, *chain, parts, place, names),
+        Form::Pair(pair, first, second) => {
+            let first = evaluate(first, place, names)?;
+            let second = evaluate(second, place, names)?;
+            Ok(pair_of(place.game.position(place.node), *pair, first, second))
+        }
+        Form::If(condition, then, otherwise) => {
+            let condition = evaluate(condition, place, names)?;
+            let then = evaluate(then, place, names)?;
+            let otherwise = evaluate(otherwise, place, names)?;
+            Ok(if_of(condition, then, otherwise))
+        }
+        Form::Square(every, name, squares, asked) => {
+            let squares = evaluate(squares, place, names)?;
+            let holds = square_at(
+                *every,
+                name.as_slice(),
+                squares.squares(),
+                asked,
+                place,
+                names,
+            )?;
+            Ok(Value::Truth(holds))
+        }
+        Form::Played(played) => {
+            let met = played_at(played, place, names)?;
+            Ok(Value::Truth(met))
+        }
+        Form::Sort(.., part) => {
+            let value = evaluate(part, place, names)?;
+            Ok(Value::Truth(value.number().is_some()))
+        }
+        Form::Comment(_) => Ok(Value::Truth(true)),
+        Form::Any(kind, parts) => any_at(*kind, parts, place, names),
+        Form::Sum(_) | Form::Line(_) | Form::Transform(..) => Err(Halt::Fault(Elsewhere)),
+    }
+}
+
+// What a word or mark before a part gives.
+#[cycle(evaluate)]
+fn unary_at(word: Unary, part: &Filter, place: &Place, names: &mut Names) -> Result<Value, Halt>
+    requires { IsAt place.now }
+    ensures value { IfOk result (λ v. meant v ≡ meaning.unary_of (tree_of place.now) word
+        (value_at place.now names.old (filter_tree part.now)) place.now.node) }
+    ensures names { names.new ≡ names.old }
+{
+    match word {
+        Unary::Find => Err(Halt::Fault(Elsewhere)),
+        Unary::Child => {
+            let found = some_child(part, place, names)?;
+            Ok(Value::Truth(found))
+        }
+        Unary::FindUp => {
+            let found = some_above(part, place, names)?;
+            Ok(Value::Truth(found))
+        }
+        Unary::Parent => {
+            let found = at_parent(part, place, names)?;
+            Ok(Value::Truth(found))
+        }
+        _ => {
+            let value = evaluate(part, place, names)?;
+            Ok(unary_here(word, place.game.position(place.node), value))
+        }
+    }
+}
+
+// Whether a filter holds at the parent of a node, if it has one.
+#[cycle(evaluate)]
+fn at_parent(part: &Filter, place: &Place, names: &mut Names) -> Result<bool, Halt>
+    requires { IsAt place.now }
+    ensures value { IfOk result (λ b. b ≡ list_any (λ m. spec.holds (value_at place.now names.old (filter_tree part.now) m))
+        (option_to_list (games.node_at place.now.game.now.nodes place.now.node).parent)) }
+    ensures names { names.new ≡ names.old }
+{
+    let Some(parent) = place.game.parent(place.node) else {
+        return Ok(false);
+    };
+    let above = Place {
+        node: parent,
+        ..*place
+    };
+    let value = evaluate(part, &above, names)?;
+    Ok(value.holds())
+}
+
+// Whether a filter holds at a child of a node, one of those that are searched.
+#[cycle(evaluate)]
+fn some_child(part: &Filter, place: &Place, names: &mut Names) -> Result<bool, Halt>
+    requires { IsAt place.now }
+    ensures value { IfOk result (λ b. b ≡ list_any (λ m. spec.holds (value_at place.now names.old (filter_tree part.now) m))
+        (children_in (tree_of place.now) place.now.node)) }
+    ensures names { names.new ≡ names.old }
+{
+    let mut at = place.game.first_child(place.node);
+    while let Some(child) = at {
+        let below = Place {
+            node: child,
+            ..*place
+        };
+        let there = holds_searched(part, &below, names)?;
+        if there {
+            return Ok(true);
+        }
+        at = place.game.next_sibling(child);
+    }
+    Ok(false)
+}
+
+// Whether a node is searched, and a filter holds there.
+#[cycle(evaluate)]
+fn holds_searched(part: &Filter, place: &Place, names: &mut Names) -> Result<bool, Halt>
+    requires { IsAt place.now }
+    ensures value { IfOk result (λ b. b ≡ (games.is_searched place.now.variations place.now.game.now.nodes place.now.node
+        && spec.holds (value_at place.now names.old (filter_tree part.now) place.now.node))) }
+    ensures names { names.new ≡ names.old }
+{
+    if !is_searched(place.game, place.variations, place.node) {
+        return Ok(false);
+    }
+    let value = evaluate(part, place, names)?;
+    Ok(value.holds())
+}
+
+// Whether a filter holds at a node or at one above it.
+#[cycle(evaluate)]
+fn some_above(part: &Filter, place: &Place, names: &mut Names) -> Result<bool, Halt>
+    requires { IsAt place.now }
+    ensures value { IfOk result (λ b. b ≡ list_any (λ m. spec.holds (value_at place.now names.old (filter_tree part.now) m))
+        (games.way_up place.now.game.now.nodes place.now.node)) }
+    ensures names { names.new ≡ names.old }
+{
+    let moves = moves_sought(part, &*names);
+    let mut at = Some(place.node);
+    while let Some(node) = at {
+        let above = Place { node, ..*place };
+        let there = holds_after(&moves, part, &above, names)?;
+        if there {
+            return Ok(true);
+        }
+        at = place.game.parent(node);
+    }
+    Ok(false)
+}
+
+// Whether a filter holds at a node, which it does after some moves alone.
+#[cycle(evaluate)]
+fn holds_after(
+    moves: &Sought,
+    part: &Filter,
+    place: &Place,
+    names: &mut Names,
+) -> Result<bool, Halt>
+    requires at { IsAt place.now }
+    requires sought { IsSought names.old (filter_tree part.now) moves.now }
+    ensures value { IfOk result (λ b. b ≡ spec.holds (value_at place.now names.old (filter_tree part.now) place.now.node)) }
+    ensures names { names.new ≡ names.old }
+{
+    if !may_hold(moves, place.game, place.node) {
+        return Ok(false);
+    }
+    let value = evaluate(part, place, names)?;
+    Ok(value.holds())
+}
+
+// What a chain gives, of whose filters those that are not pending hold.
+#[cycle(evaluate)]
+fn chain_at(
+    pending: u64,
+    chain: Chain,
+    parts: &Filters,
+    place: &Place,
+    names: &mut Names,
+) -> Result<Value, Halt>
+    requires at { IsAt place.now }
+    requires decided { AreDecided pending
+        (λ f. spec.holds (value_at place.now names.old (filter_tree f) place.now.node)) (filters_in parts.now) }
+    ensures value { IfOk result (λ v. meant v
+        ≡ spec.chain_of chain (values_at place.now names.old (filters_tree parts.now) place.now.node)) }
+    ensures names { names.new ≡ names.old }
+{
+    match chain {
+        Chain::Or => {
+            let holds = some_of(parts, place, names)?;
+            Ok(Value::Truth(holds))
+        }
+        Chain::And | Chain::All => {
+            let holds = all_of(pending, parts, place, names)?;
+            Ok(Value::Truth(holds))
+        }
+        Chain::Union => union_of(parts, place, names),
+        Chain::Intersect => common_of(parts, place, names),
+        Chain::Product | Chain::Max | Chain::Min => Err(Halt::Fault(Elsewhere)),
+    }
+}
+
+// What one of some filters of a kind gives, or all of them together.
+#[cycle(evaluate)]
+fn any_at(kind: Kind, parts: &Filters, place: &Place, names: &mut Names) -> Result<Value, Halt>
+    requires { IsAt place.now }
+    ensures value { IfOk result (λ v. meant v ≡ spec.any_of kind (values_at place.now names.old (filters_tree parts.now) place.now.node)) }
+    ensures names { names.new ≡ names.old }
+{
+    match kind {
+        Kind::Position => {
+            let holds = some_of(parts, place, names)?;
+            Ok(Value::Truth(holds))
+        }
+        Kind::Set => union_of(parts, place, names),
+        Kind::Number => Err(Halt::Fault(Elsewhere)),
+    }
+}
+
+// Whether all of some filters hold, of which those that are not pending do.
+#[cycle(evaluate)]
+fn all_of(pending: u64, parts: &Filters, place: &Place, names: &mut Names) -> Result<bool, Halt>
+    requires at { IsAt place.now }
+    requires decided { AreDecided pending
+        (λ f. spec.holds (value_at place.now names.old (filter_tree f) place.now.node)) (filters_in parts.now) }
+    ensures value { IfOk result (λ b. b ≡ list_all spec.holds (values_at place.now names.old (filters_tree parts.now) place.now.node)) }
+    ensures names { names.new ≡ names.old }
+{
+    let all = parts.as_slice();
+    for (i, part) in all.iter().enumerate() {
+        let holds = holds_if(is_pending(pending, i), part, place, names)?;
+        if !holds {
+            return Ok(false);
+        }
+    }
+    Ok(true)
+}
+
+// Whether a filter holds, where it is pending.
+#[cycle(evaluate)]
+fn holds_if(pending: bool, part: &Filter, place: &Place, names: &mut Names) -> Result<bool, Halt>
+    requires { IsAt place.now }
+    ensures value { IfOk result (λ b. b
+        ≡ (not pending || spec.holds (value_at place.now names.old (filter_tree part.now) place.now.node))) }
+    ensures names { names.new ≡ names.old }
+{
+    if !pending {
+        return Ok(true);
+    }
+    let value = evaluate(part, place, names)?;
+    Ok(value.holds())
+}
+
+// Whether one of some filters holds.
+#[cycle(evaluate)]
+fn some_of(parts: &Filters, place: &Place, names: &mut Names) -> Result<bool, Halt>
+    requires { IsAt place.now }
+    ensures value { IfOk result (λ b. b ≡ list_any spec.holds (values_at place.now names.old (filters_tree parts.now) place.now.node)) }
+    ensures names { names.new ≡ names.old }
+{
+    for part in parts.as_slice() {
+        let value = evaluate(part, place, names)?;
+        if value.holds() {
+            return Ok(true);
+        }
+    }
+    Ok(false)
+}
+
+// The squares that are in one of some sets.
+#[cycle(evaluate)]
+fn union_of(parts: &Filters, place: &Place, names: &mut Names) -> Result<Value, Halt>
+    requires { IsAt place.now }
+    ensures value { IfOk result (λ v. meant v ≡ spec.union_of (values_at place.now names.old (filters_tree parts.now) place.now.node)) }
+    ensures names { names.new ≡ names.old }
+{
+    let mut mask = 0;
+    for part in parts.as_slice() {
+        let value = evaluate(part, place, names)?;
+        mask |= value.squares();
+    }
+    Ok(Value::Set(mask))
+}
+
+// The squares that are in each of some sets.
+#[cycle(evaluate)]
+fn common_of(parts: &Filters, place: &Place, names: &mut Names) -> Result<Value, Halt>
+    requires { IsAt place.now }
+    ensures value { IfOk result (λ v. meant v
+        ≡ spec.intersection_of (values_at place.now names.old (filters_tree parts.now) place.now.node)) }
+    ensures names { names.new ≡ names.old }
+{
+    let mut mask = u64::MAX;
+    for part in parts.as_slice() {
+        let value = evaluate(part, place, names)?;
+        mask &= value.squares();
+    }
+    Ok(Value::Set(mask))
+}
+
+/// Whether what is asked holds of every square of a set, or of some.
+#[cycle(evaluate)]
+pub(crate) fn square_at(
+    every: bool,
+    name: &[u8],
+    set: u64,
+    asked: &Filter,
+    place: &Place,
+    names: &mut Names,
+) -> Result<bool, Halt>
+    requires { IsAt place.now }
+    ensures value { IfOk result (λ b. spec.as_truth b ≡ spec.square_of every (spec.as_squares (is_in set))
+        (holds_at place.now name.now names.old (filter_tree asked.now))) }
+    ensures names { names.new ≡ names.old }
+{
+    let cut = tried(every, &*name, set, asked, &*place, &*names);
+    if cut.squares == 0 {
+        return Ok(every);
+    }
+    names.bind(name, lowest_square(cut.squares))?;
+    let found = some_settles(every, cut.squares, cut.pending, asked, place, names);
+    names.unbind();
+    match found {
+        Ok(found) => Ok(found != every),
+        Err(halt) => Err(halt),
+    }
+}
+
+// Whether a square of a set settles what is asked of every square of it, or of some, with the innermost name bound to it. Filters that are
+// not pending hold with each of them.
+#[cycle(evaluate)]
+fn some_settles(
+    every: bool,
+    set: u64,
+    pending: u64,
+    asked: &Filter,
+    place: &Place,
+    names: &mut Names,
+) -> Result<bool, Halt>
+    requires at { IsAt place.now }
+    requires bound { 0 < length names.old }
+    requires decided { (s : ℕ) → is_in set s ≡ true
+        → IsDecided pending (λ f. spec.holds (value_at place.now (rebound names.old s) (filter_tree f) place.now.node)) asked.now }
+    ensures value { IfOk result (λ b. b ≡ list_any (settles every (is_in set)
+        (λ s. spec.holds (value_at place.now (rebound names.old s) (filter_tree asked.now) place.now.node))) squares) }
+    ensures names { (s : ℕ) → rebound names.new s ≡ rebound names.old s }
+{
+    let mut left = set;
+    while left != 0 {
+        let square = lowest_square(left);
+        left &= !(1 << square.number());
+        names.rebind(square);
+        let holds = asked_holds(pending, asked, place, names)?;
+        if holds != every {
+            return Ok(true);
+        }
+    }
+    Ok(false)
+}
+
+// Whether a filter holds, of whose parts those that are not pending do.
+#[cycle(evaluate)]
+#[tactic(auto, using(crate::proofs::Deciding::decided_parts), unfolding(cql_syntax::specs::Meaning::value))]
+fn asked_holds(pending: u64, asked: &Filter, place: &Place, names: &mut Names) -> Result<bool, Halt>
+    requires at { IsAt place.now }
+    requires decided { IsDecided pending (λ f. spec.holds (value_at place.now names.old (filter_tree f) place.now.node)) asked.now }
+    ensures value { IfOk result (λ b. b ≡ spec.holds (value_at place.now names.old (filter_tree asked.now) place.now.node)) }
+    ensures names { names.new ≡ names.old }
+{
+    match &asked.form {
+        Form::Chain(chain, parts) => {
+            let value = chain_at(pending, *chain, parts, place, names)?;
+            Ok(value.holds())
+        }
+        _ => {
+            let value = evaluate(asked, place, names)?;
+            Ok(value.holds())
+        }
+    }
+}
+
+// Whether the move that led to a node is as it is asked for: where it came from and what it took is asked at the node before, its goal and
+// what it became at the node itself.
+#[cycle(evaluate)]
+#[tactic(auto, unfolding(cql_syntax::specs::Meaning::value))]
+fn played_at(played: &Played, place: &Place, names: &mut Names) -> Result<bool, Halt>
+    requires { IsAt place.now }
+    ensures value { IfOk result (λ b. b ≡ meaning.played_value (tree_of place.now) [] names.old (played_tree played.now) place.now.node) }
+    ensures names { names.new ≡ names.old }
+{
+    let Some(ends) = ends_of(place.game, place.node) else {
+        return Ok(false);
+    };
+    let above = Place {
+        node: ends.before,
+        ..*place
+    };
+    if !is_met(&played.origin, Some(ends.origin), &above, names)? {
+        return Ok(false);
+    }
+    if !is_met(&played.goal, Some(ends.goal), place, names)? {
+        return Ok(false);
+    }
+    if played.taken.is_none() && played.promoted.is_none() {
+        return Ok(true);
+    }
+    let Some(led) = led_to(place.game, place.node) else {
+        return Ok(false);
+    };
+    if !is_met(&played.taken, led.taken, &above, names)? {
+        return Ok(false);
+    }
+    let promoted = is_met(&played.promoted, promoted_on(&led), place, names)?;
+    Ok(promoted)
+}
+
+// Whether a square that is asked for is there and in the set; nothing is asked by a part that is left out.
+#[cycle(evaluate)]
+#[tactic(auto, unfolding(cql_syntax::specs::Meaning::value))]
+fn is_met(
+    part: &Option<Box<Filter>>,
+    square: Option<Square>,
+    place: &Place,
+    names: &mut Names,
+) -> Result<bool, Halt>
+    requires { IsAt place.now }
+    ensures value { IfOk result (λ b. b ≡ meaning.meets
+        (meaning.written_value (tree_of place.now) [] names.old (written_tree part.now) place.now.node) square) }
+    ensures names { names.new ≡ names.old }
+{
+    match part {
+        Some(filter) => has_it(filter, square, place, names),
+        None => Ok(true),
+    }
+}
+
+// Whether a square is there and in a set.
+#[cycle(evaluate)]
+fn has_it(
+    part: &Filter,
+    square: Option<Square>,
+    place: &Place,
+    names: &mut Names,
+) -> Result<bool, Halt>
+    requires { IsAt place.now }
+    ensures value { IfOk result (λ b. b ≡ meaning.meets
+        (Some (value_at place.now names.old (filter_tree part.now) place.now.node)) square) }
+    ensures names { names.new ≡ names.old }
+{
+    match square {
+        Some(square) => {
+            let value = evaluate(part, place, names)?;
+            Ok(has_square(value.squares(), square))
+        }
+        None => Ok(false),
+    }
+}
+
+// A goal where a pawn promoted.
+fn promoted_on(led: &Led) -> Option<Square>
+    ensures { result ≡ meaning.goal_if led.now.promoted led.now.goal }
+{
+    if led.promoted { Some(led.goal) } else { None }
+}
