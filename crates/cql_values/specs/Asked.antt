@@ -1,4 +1,4 @@
--- What is asked of one square, and what a word makes of one value, as the private functions give it.
+-- What is asked of one square, and what a word makes of one value.
 use Rattle.std.specs.Prelude.{◌≡◌, ℕ, Bool, false, ◌&&◌, not, List, if◌then◌else◌}
 use Rattle.std.specs.List.{list_any}
 use Rattle.cq_position.specs.Men.{man_number, same_man}
