@@ -36,6 +36,30 @@ TEXTS = [
     b"\xef\xbb\xbf",
     b"</script><!-- {",
 ]
+# A position, a move, and the position after it. The first three are examples of the PGN standard, 16.1.4; then both castle, a pawn is taken
+# in passing, a pawn takes a rook at home and becomes a knight, a rook leaves its home, and a king that steps keeps no right.
+PLAYED = [
+    ("rnbqkbnr/pppppppp/8/8/8/8/PPPPPPPP/RNBQKBNR w KQkq - 0 1", "e4", "rnbqkbnr/pppppppp/8/8/4P3/8/PPPP1PPP/RNBQKBNR b KQkq e3 0 1"),
+    (
+        "rnbqkbnr/pppppppp/8/8/4P3/8/PPPP1PPP/RNBQKBNR b KQkq e3 0 1",
+        "c5",
+        "rnbqkbnr/pp1ppppp/8/2p5/4P3/8/PPPP1PPP/RNBQKBNR w KQkq c6 0 2",
+    ),
+    (
+        "rnbqkbnr/pp1ppppp/8/2p5/4P3/8/PPPP1PPP/RNBQKBNR w KQkq c6 0 2",
+        "Nf3",
+        "rnbqkbnr/pp1ppppp/8/2p5/4P3/5N2/PPPP1PPP/RNBQKB1R b KQkq - 0 2",
+    ),
+    ("r3k2r/8/8/8/8/8/8/R3K2R w KQkq - 0 1", "O-O", "r3k2r/8/8/8/8/8/8/R4RK1 b kq - 0 1"),
+    ("r3k2r/8/8/8/8/8/8/R4RK1 b kq - 0 1", "O-O-O", "2kr3r/8/8/8/8/8/8/R4RK1 w - - 0 2"),
+    ("4k3/8/8/2ppP3/8/8/8/4K3 w - d6 0 2", "exd6", "4k3/8/3P4/2p5/8/8/8/4K3 b - - 0 2"),
+    ("r3k2r/6P1/8/8/8/8/8/4K3 w kq - 0 1", "gxh8=N", "r3k2N/8/8/8/8/8/8/4K3 b q - 0 1"),
+    ("r3k2r/8/8/8/8/8/8/4K3 b kq - 0 7", "Ra1", "4k2r/8/8/8/8/8/8/r3K3 w k - 0 8"),
+    ("4k3/8/8/8/8/8/8/R3K2R w KQ - 0 7", "Ke2", "4k3/8/8/8/8/8/4K3/R6R b - - 0 7"),
+    ("rnbqkbnr/pppppppp/8/8/4P3/8/PPPP1PPP/RNBQKBNR b KQkq e3 0 1", "--", "rnbqkbnr/pppppppp/8/8/4P3/8/PPPP1PPP/RNBQKBNR w KQkq - 0 2"),
+    ("8/8/8/8/8/8/8/K1k5 b - - 0 999999999", "Kd2", "8/8/8/8/8/8/3k4/K7 w - - 0 1000000000"),
+    ("r3k2r/1p6/8/2pP3p/8/P1P1P1P1/8/R3K2R w Kq c6 0 12", "dxc6", "r3k2r/1p6/2P5/7p/8/P1P1P1P1/8/R3K2R b Kq - 0 12"),
+]
 passed, failed = 0, 0
 
 
@@ -93,6 +117,15 @@ def lines():
             compare_lines(repr(archive), archive, mark)
 
 
+def played():
+    """the position after a move, at a node that is marked"""
+    for before, move, after in PLAYED:
+        archive = b'[FEN "%s"]\n%s {CQL} *\n' % (before.encode(), move.encode())
+        compare_lines(f"{move} at {before}", archive)
+        game = json.loads(asked(data=archive)[1])
+        compare(f"{move} leads to", (game["start"], game["nodes"][0]["fen"]), (before, after))
+
+
 def drawn():
     fuzz.RANDOM.seed(SEED)
     for number in range(COUNT):
@@ -131,6 +164,7 @@ def long_games():
 
 
 lines()
+played()
 drawn()
 statuses()
 long_games()

@@ -131,6 +131,9 @@ def failures(folder):
         compare("a full device takes no ok", process(["check", "q.cql"], folder=folder, stdout=full), (6, b"", b""))
         compare("a full device takes no refusal", process(["eval", "cql() echo"], stderr=full), (6, b"", b""))
         compare("a full device takes no usage line", process([], stderr=full), (6, b"", b""))
+    with open(os.path.join(folder, "a.pgn"), "rb") as unwritable:
+        took = process(["check", "q.cql"], folder=folder, stdout=unwritable)
+    compare("a file that is open for reading alone", took, (6, b"", b""))
     read_end, write_end = os.pipe()
     os.close(read_end)
     compare("a closed pipe", process(["eval", QUERY, "a.pgn"], folder=folder, stdout=write_end), (6, b"", b""))
