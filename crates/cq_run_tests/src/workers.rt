@@ -1,6 +1,6 @@
 //! The program has as many workers as it is told, and each of them tells the gate that was handed in.
-use crate::calls::{desk_of, job_of, status_of};
-use cq_outside::{Gate, SureSink};
+use crate::calls::{job_of, status_of};
+use cq_outside::{Gate, NoMemory, SureDesk, SureSink};
 use cq_run::Status;
 use std::alloc::Global;
 use std::process::Abort;
@@ -112,6 +112,15 @@ static JOBS: [&[&str]; 6] = [
     &["many", "two.cql", "games.pgn"],
 ];
 
+// A desk with these files.
+fn desk_of(alloc: Global) -> Result<SureDesk, NoMemory> {
+    let mut desk = SureDesk::new(alloc);
+    for (name, bytes) in FILES.iter() {
+        desk.add(name.as_bytes(), bytes.as_bytes())?;
+    }
+    Ok(desk)
+}
+
 // Asks that so many workers enter and leave each game of a job once, none of them a worker too many.
 fn expect<R: Threads + Sync + Abort>(
     rt: &R,
@@ -120,7 +129,7 @@ fn expect<R: Threads + Sync + Abort>(
     workers: &str,
     told: u64,
 ) -> Result<(), Fail> {
-    let mut desk = desk_of(alloc, &FILES)?;
+    let mut desk = desk_of(alloc)?;
     let mut out = SureSink::new(alloc, 4096)?;
     let mut err = SureSink::new(alloc, 4096)?;
     let words = job_of(alloc, job, workers)?;
@@ -136,17 +145,10 @@ fn expect<R: Threads + Sync + Abort>(
 }
 
 #[test]
-fn two_workers_enter_games_of_each_job(rt: HostRuntime) -> Result<(), Fail> {
-    for job in JOBS.iter() {
-        expect(&rt, rt.alloc(), job, "2", 2)?;
-    }
-    Ok(())
-}
-
-#[test]
-fn one_worker_enters_all_games_of_each_job(rt: HostRuntime) -> Result<(), Fail> {
+fn all_workers_enter_games_of_each_job(rt: HostRuntime) -> Result<(), Fail> {
     for job in JOBS.iter() {
         expect(&rt, rt.alloc(), job, "1", 1)?;
+        expect(&rt, rt.alloc(), job, "2", 2)?;
     }
     Ok(())
 }
