@@ -1,21 +1,19 @@
-//! Workers side by side at one batch, and how many games the batches of an archive have.
+//! Workers side by side at one batch.
 ghost use Rattle.std.specs.Prelude.{◌≤◌};
 
 use crate::plans::plan_of;
-use cq_outside::{Bytes, Gate, MemSource, NoMemory, OpenGate, Refusal};
-use cq_shards::{Batch, BatchFault, Batches, run_batch};
-use cql_plan::Plan;
+use cq_outside::{Bytes, Gate, NoMemory};
+use cq_shards::{Batch, run_batch};
 use pgn_cut::cut_whole;
 use std::alloc::Global;
 use std::process::Abort;
 use std::sync::atomic::{AtomicU32, Ordering};
 use std::test::Fail;
-use std::thread::Threads;
 
 /// How many games the batch has at which two workers are watched.
 const WATCHED: u32 = 64;
 
-/// How often a call at the gate looks for the calls that it waits for.
+/// How often the call at the gate looks for the calls that it waits for.
 const MOST_LOOKS: u32 = 1_000_000_000;
 
 // A game that has this number in its comment.
@@ -33,39 +31,32 @@ fn push_export(text: &mut Bytes, number: u32) -> Result<(), NoMemory> {
     text.push_all(b"} {CQL} *\n\n")
 }
 
-// An archive of so many games.
-fn archive_of(alloc: Global, games: u32) -> Result<Bytes, NoMemory> {
+// An archive of the games.
+fn archive_of(alloc: Global) -> Result<Bytes, NoMemory> {
     let mut archive = Bytes::new(alloc);
-    for number in 0..games {
+    for number in 0..WATCHED {
         push_game(&mut archive, number)?;
     }
     Ok(archive)
 }
 
-// ---- two workers at a gate
-
-/// A gate that counts its calls, and at which the first call of one kind waits for calls of another worker.
+/// A gate that counts its calls, and at which the first call of `enter` waits until all other games are left.
 #[derive(Drop)]
 struct Watch {
     exports: Vec<Bytes>,
     /// How often each game was entered, and left.
     entered: Vec<AtomicU32>,
     left: Vec<AtomicU32>,
-    /// How many games each of the two workers left.
-    by_worker: Vec<AtomicU32>,
     enters: AtomicU32,
     leaves: AtomicU32,
     /// How many calls were not as they should be.
     wrong: AtomicU32,
-    /// Whether the first call of `enter` waits, until all other games are left. Else that of `leave` does, until the other worker
-    /// has left a game.
-    at_enter: bool,
 }
 
-// So many counts of nothing.
-fn counts(alloc: Global, places: u32) -> Result<Vec<AtomicU32>, NoMemory> {
+// A count of nothing for each game.
+fn counts(alloc: Global) -> Result<Vec<AtomicU32>, NoMemory> {
     let mut counts = Vec::new(alloc);
-    for _ in 0..places {
+    for _ in 0..WATCHED {
         counts.push(AtomicU32::new(0))?;
     }
     Ok(counts)
@@ -90,7 +81,7 @@ fn comes_to(count: &AtomicU32, high: u32) -> bool {
 }
 
 impl Watch {
-    fn new(alloc: Global, at_enter: bool) -> Result<Watch, NoMemory> {
+    fn new(alloc: Global) -> Result<Watch, NoMemory> {
         let mut exports = Vec::new(alloc);
         for number in 0..WATCHED {
             let mut text = Bytes::new(alloc);
@@ -99,13 +90,11 @@ impl Watch {
         }
         Ok(Watch {
             exports,
-            entered: counts(alloc, WATCHED)?,
-            left: counts(alloc, WATCHED)?,
-            by_worker: counts(alloc, 2)?,
+            entered: counts(alloc)?,
+            left: counts(alloc)?,
             enters: AtomicU32::new(0),
             leaves: AtomicU32::new(0),
             wrong: AtomicU32::new(0),
-            at_enter,
         })
     }
 
@@ -129,25 +118,18 @@ impl Gate for Watch {
     fn enter(&self, _worker: u64, shard: u64) {
         let first = self.enters.fetch_add(1, Ordering::Relaxed) == 0;
         self.asks(count_at(self.entered.as_slice(), shard) == Some(0));
-        if first && self.at_enter {
+        if first {
             self.asks(comes_to(&self.leaves, WATCHED - 1));
         }
     }
 
-    fn leave(&self, worker: u64, shard: u64, text: &[u8]) {
+    fn leave(&self, _worker: u64, shard: u64, text: &[u8]) {
         self.asks(count_at(self.left.as_slice(), shard) == Some(0));
         match self.exports.get(shard as usize) {
             Some(export) => self.asks(export.as_slice() == text),
             None => self.asks(false),
         }
-        self.asks(count_at(self.by_worker.as_slice(), worker).is_some());
-        let first = self.leaves.fetch_add(1, Ordering::Relaxed) == 0;
-        if first && !self.at_enter {
-            match self.by_worker.get((worker ^ 1) as usize) {
-                Some(other) => self.asks(comes_to(other, 1)),
-                None => self.asks(false),
-            }
-        }
+        self.leaves.fetch_add(1, Ordering::Relaxed);
     }
 }
 
@@ -166,111 +148,14 @@ pub(crate) fn batch_of<R: Abort>(
     Batch::of(alloc, archive, spans.as_slice(), first)
 }
 
-// Asks that two workers enter and leave each game of a batch once.
-fn expect_both<R: Threads + Sync + Abort>(
-    rt: &R,
-    alloc: Global,
-    plan: &Plan,
-    at_enter: bool,
-) -> Result<(), Fail> {
-    let archive = archive_of(alloc, WATCHED)?;
-    let batch = batch_of(rt, alloc, archive.as_slice(), 0)?;
-    let watch = Watch::new(alloc, at_enter)?;
-    let answers = run_batch(rt, alloc, plan, &batch, 2, &watch)?;
-    assert_eq!(rt; (answers.len(), watch.calls()), (64, (64, 64, 0)));
-    Ok(())
-}
-
-#[test]
-fn two_workers_meet(rt: HostRuntime) -> Result<(), Fail> {
-    let plan = plan_of(rt.alloc(), b"cql() initial")?;
-    expect_both(&rt, rt.alloc(), &plan, false)
-}
-
 #[test]
 fn one_worker_takes_the_rest(rt: HostRuntime) -> Result<(), Fail> {
-    let plan = plan_of(rt.alloc(), b"cql() initial")?;
-    expect_both(&rt, rt.alloc(), &plan, true)
-}
-
-#[test]
-fn an_empty_batch_has_no_answers(rt: HostRuntime) -> Result<(), Fail> {
     let alloc = rt.alloc();
     let plan = plan_of(alloc, b"cql() initial")?;
-    let batch = batch_of(&rt, alloc, b"", 0)?;
-    let answers = run_batch(&rt, alloc, &plan, &batch, 64, &OpenGate)?;
-    assert_eq!(rt; (batch.len(), answers.len()), (0, 0));
-    Ok(())
-}
-
-// ---- batch after batch
-
-/// How many games an archive has, how many bytes of it one read gives at most, and how many games its batches have. That their games are
-/// answered in order by any number of workers, the process's rows show.
-static ROWS: [(u32, usize, &[u32]); 5] = [
-    (1023, 65_536, &[1023]),
-    (1024, 4096, &[1024]),
-    (1025, 1, &[1024, 1]),
-    (2048, 7, &[1024, 1024]),
-    (2049, 65_536, &[1024, 1024, 1]),
-];
-
-// How many games the batches of a source have.
-fn sizes_of(alloc: Global, source: MemSource) -> Result<Vec<u32>, Refusal<BatchFault>> {
-    let mut source = source;
-    let mut batches = Batches::new(alloc, 1 << 40);
-    let mut sizes = Vec::new(alloc);
-    for _turn in 0..8 {
-        let batch = match batches.next(&mut source) {
-            Ok(Some(batch)) => batch,
-            Ok(None) => return Ok(sizes),
-            Err(refusal) => return Err(refusal),
-        };
-        sizes.push(batch.len())?;
-    }
-    Err(Refusal::Fault(BatchFault::ArchiveTooLong))
-}
-
-// Asks that an archive that comes in pieces of so many bytes has batches of these sizes.
-fn expect<R: Abort>(
-    rt: &R,
-    alloc: Global,
-    archive: &[u8],
-    piece: usize,
-    games: &[u32],
-) -> Result<(), Fail> {
-    assert!(rt; piece >= 1);
-    let source = MemSource::new(alloc, archive, piece, &[])?;
-    let sizes = sizes_of(alloc, source)?;
-    assert_eq!(rt; sizes.as_slice(), games, "in pieces of {piece} bytes");
-    Ok(())
-}
-
-#[test]
-fn batches_have_their_games(rt: HostRuntime) -> Result<(), Fail> {
-    for (count, piece, games) in ROWS.iter() {
-        let archive = archive_of(rt.alloc(), *count)?;
-        expect(&rt, rt.alloc(), archive.as_slice(), *piece, games)?;
-    }
-    Ok(())
-}
-
-// Five games, of which the second has more than 16 MiB.
-fn long_archive(alloc: Global) -> Result<Bytes, NoMemory> {
-    let mut archive = Bytes::from_slice(alloc, b"{0} *\n{")?;
-    for _ in 0..4096 {
-        archive.push_all(&[b'a'; 4096])?;
-    }
-    archive.push_all(b"} *\n{2} *\n{3} *\n{4} *\n")?;
-    Ok(archive)
-}
-
-// Of a game that is too long no more is kept than shows this, and that fills its batch.
-#[test]
-fn a_long_game_fills_its_batch(rt: HostRuntime) -> Result<(), Fail> {
-    let archive = long_archive(rt.alloc())?;
-    for piece in [4096, 65_536] {
-        expect(&rt, rt.alloc(), archive.as_slice(), piece, &[2, 3])?;
-    }
+    let archive = archive_of(alloc)?;
+    let batch = batch_of(&rt, alloc, archive.as_slice(), 0)?;
+    let watch = Watch::new(alloc)?;
+    let answers = run_batch(&rt, alloc, &plan, &batch, 2, &watch)?;
+    assert_eq!(rt; (answers.len(), watch.calls()), (64, (64, 64, 0)));
     Ok(())
 }
