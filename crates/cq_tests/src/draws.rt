@@ -1,4 +1,4 @@
-//! Draws in turn, and by many threads.
+//! Draws by many threads.
 ghost use Rattle.std.specs.Prelude.{◌≡◌, All, length};
 ghost use Rattle.cq_board.specs.Seats.{IsSeatOf, HasEnded};
 
@@ -7,38 +7,6 @@ use cq_outside::NoMemory;
 use std::sync::atomic::{AtomicU32, Ordering};
 use std::thread;
 use std::thread::Threads;
-
-fn is_shared<T: Send + Sync>() {}
-
-fn is_sent<T: Send>() {}
-
-#[test]
-fn two_seats_draw_in_turn(rt: HostRuntime) -> Result<(), NoMemory> {
-    is_shared::<Board>();
-    is_sent::<ClaimSeat>();
-    let (board, mut seats) = Board::make(rt.alloc(), 3, 2)?;
-    let mut second = seats.pop().unwrap();
-    let mut first = seats.pop().unwrap();
-    assert_eq!(rt; board.claim(&mut first), Some(0));
-    assert_eq!(rt; board.claim(&mut second), Some(1));
-    assert_eq!(rt; board.claim(&mut first), Some(2));
-    assert_eq!(rt; board.claim(&mut first), None);
-    assert_eq!(rt; board.claim(&mut second), None);
-    seats.push(first)?;
-    seats.push(second)?;
-    assert_eq!(rt; board.close(seats), Ok(5));
-    Ok(())
-}
-
-#[test]
-fn a_board_of_no_numbers(rt: HostRuntime) -> Result<(), NoMemory> {
-    let (board, mut seats) = Board::make(rt.alloc(), 0, 1)?;
-    let mut seat = seats.pop().unwrap();
-    assert_eq!(rt; board.claim(&mut seat), None);
-    seats.push(seat)?;
-    assert_eq!(rt; board.close(seats), Ok(1));
-    Ok(())
-}
 
 // Draws until None, and counts how often each number was drawn.
 fn draw_all(board: &Board, seat: &mut ClaimSeat, times: &[AtomicU32])

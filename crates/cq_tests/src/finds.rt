@@ -1,4 +1,4 @@
-//! Numbers that are found in turn, and by many threads.
+//! Numbers that are found by many threads.
 ghost use Rattle.std.specs.Prelude.{◌≡◌, ◌<◌, ◌≤◌, All, length};
 ghost use Rattle.cq_first.specs.Seats.{IsSeatOf, numbers_of};
 
@@ -11,39 +11,6 @@ use std::thread::Threads;
 const NUMBERS: u64 = 40_000;
 
 const EACH: u64 = 10_000;
-
-fn is_shared<T: Send + Sync>() {}
-
-fn is_sent<T: Send>() {}
-
-#[test]
-fn two_seats_look_and_lower_in_turn(rt: HostRuntime) -> Result<(), NoMemory> {
-    is_shared::<FirstBoard>();
-    is_sent::<FirstSeat>();
-    let (board, mut seats) = FirstBoard::make(rt.alloc(), 5, 2)?;
-    let mut second = seats.pop().unwrap();
-    let mut first = seats.pop().unwrap();
-    assert_eq!(rt; board.look(&mut first, 4), false);
-    board.lower(&mut second, 3);
-    assert_eq!(rt; board.look(&mut first, 3), false);
-    assert_eq!(rt; board.look(&mut first, 4), true);
-    board.lower(&mut first, 1);
-    board.lower(&mut second, 2);
-    seats.push(first)?;
-    seats.push(second)?;
-    assert_eq!(rt; board.close(seats), Ok(1));
-    Ok(())
-}
-
-#[test]
-fn nothing_is_found(rt: HostRuntime) -> Result<(), NoMemory> {
-    let (board, mut seats) = FirstBoard::make(rt.alloc(), 1, 1)?;
-    let mut seat = seats.pop().unwrap();
-    assert_eq!(rt; board.look(&mut seat, 0), false);
-    seats.push(seat)?;
-    assert_eq!(rt; board.close(seats), Ok(1));
-    Ok(())
-}
 
 // Looks for a number, and finds it where it is 7 from a multiple of 1000.
 fn find(board: &FirstBoard, seat: &mut FirstSeat, number: u64)
