@@ -4,6 +4,7 @@ use cq_outside::NoMemory;
 use cq_position::{GameResult, Man, Position, material};
 use pgn_tree::{Game, Tags};
 use std::alloc::Global;
+use std::test::Fail;
 
 /// A square, and whether it is light: a1, h1, d1, e1 and h8.
 static LIGHT: [(u8, bool); 5] = [(0, false), (7, true), (3, true), (4, false), (63, false)];
@@ -27,7 +28,7 @@ fn steps_and_men_are_as_many_as_at_the_start(rt: HostRuntime) {
     assert_eq!(rt; (knight, king, bishop, men), (3, 5, 5, (8, 32)));
 }
 
-// Whether the path from the root of a game without moves to itself is the root.
+// Whether the path from the root of a game without moves to itself is the main line.
 fn leads_to_itself(alloc: Global) -> Result<bool, NoMemory> {
     let tags = Tags::new(alloc);
     let game = Game::new(alloc, tags, GameResult::Open, Position::start())?;
@@ -35,13 +36,25 @@ fn leads_to_itself(alloc: Global) -> Result<bool, NoMemory> {
         return Ok(false);
     }
     match game.down_path(0, 0)? {
-        Some(path) => Ok(path.as_slice() == [0].as_slice()),
+        Some(path) => Ok(path.as_slice() == game.main_line()?.as_slice()),
         None => Ok(false),
     }
 }
 
 #[test]
-fn the_root_leads_to_itself(rt: HostRuntime) -> Result<(), NoMemory> {
+fn the_root_alone_is_the_main_line(rt: HostRuntime) -> Result<(), NoMemory> {
     assert!(rt; leads_to_itself(rt.alloc())?);
+    Ok(())
+}
+
+#[test]
+fn a_node_keeps_its_notes(rt: HostRuntime) -> Result<(), Fail> {
+    let tags = Tags::new(rt.alloc());
+    let mut game = Game::new(rt.alloc(), tags, GameResult::Draw, Position::start())?;
+    game.add_nag(0, 14)?;
+    game.add_comment(0, b"\tone  two\n")?;
+    game.add_comment(0, b" \r\n")?;
+    let told = (game.nags(0), game.comments(0));
+    assert_eq!(rt; told, (b"\x0e".as_slice(), 1));
     Ok(())
 }
