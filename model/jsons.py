@@ -60,6 +60,19 @@ PLAYED = [
     ("8/8/8/8/8/8/8/K1k5 b - - 0 999999999", "Kd2", "8/8/8/8/8/8/3k4/K7 w - - 0 1000000000"),
     ("r3k2r/1p6/8/2pP3p/8/P1P1P1P1/8/R3K2R w Kq c6 0 12", "dxc6", "r3k2r/1p6/2P5/7p/8/P1P1P1P1/8/R3K2R b Kq - 0 12"),
 ]
+# A game with a tag that has to be escaped and is no UTF-8, comments, glyphs, a variation and a null move, behind another one; and its line.
+WORKED = (
+    b'* [White "a\\"b\xe9"] {at the start} 1. e4 $1 $3 {CQL} {x\xc3\xa9} (1. -- e5) 1... c5 1-0',
+    '{"game":2,"byte":2,"tags":[["White","a\\"b\u00e9"]],'
+    '"start":"rnbqkbnr/pppppppp/8/8/8/8/PPPPPPPP/RNBQKBNR w KQkq - 0 1",'
+    '"result":"1-0","comments":["at the start"],"nodes":['
+    '{"parent":0,"ply":1,"uci":"e2e4","san":"e4","nags":[1,3],'
+    '"comments":["CQL","x\u00e9"],'
+    '"fen":"rnbqkbnr/pppppppp/8/8/4P3/8/PPPP1PPP/RNBQKBNR b KQkq e3 0 1"},'
+    '{"parent":1,"ply":2,"uci":"c7c5","san":"c5"},'
+    '{"parent":0,"ply":1,"uci":"0000","san":"--"},'
+    '{"parent":3,"ply":2,"uci":"e7e5","san":"e5"}]}\n',
+)
 passed, failed = 0, 0
 
 
@@ -118,7 +131,10 @@ def lines():
 
 
 def played():
-    """the position after a move, at a node that is marked"""
+    """a worked line, and the position after a move, at a node that is marked"""
+    archive, line = WORKED
+    compare("the model's worked line", b"".join(json_lines.answer(archive)[1].splitlines(True)[1:]), line.encode())
+    compare("a worked line", b"".join(asked(data=archive)[1].splitlines(True)[1:]), line.encode())
     for before, move, after in PLAYED:
         archive = b'[FEN "%s"]\n%s {CQL} *\n' % (before.encode(), move.encode())
         compare_lines(f"{move} at {before}", archive)

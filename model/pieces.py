@@ -93,6 +93,20 @@ CUTS = [
     (b"1. e4 1-0x *", [(0, 12)]),
 ]
 
+# An archive, the least number of bytes, and the table.
+WORKED = [
+    (b"", "1", b""),
+    (b"{ no game }\n", "1", b"1 0 12 1 0\n"),
+    (b"*", "1", b"1 0 1 1 1\n"),
+    (b"1. e4 *\n", "7", b"1 0 7 1 1\n2 7 1 2 0\n"),
+    (b"1. e4 *\n", "8", b"1 0 8 1 1\n"),
+    (b"1. e4 *\n1. d4 *\n1. c4 *", "8", b"1 0 15 1 2\n2 15 8 3 1\n"),
+    (b"1. e4 *1. d4 *", "7", b"1 0 7 1 1\n2 7 7 2 1\n"),
+    (b"* 1. d4 d5 2. c4 * *", "3", b"1 0 18 1 2\n2 18 2 3 1\n"),
+    (b"*\n*\n; the end\n% and no more", "2", b"1 0 3 1 2\n2 3 24 3 0\n"),
+    (b"* 1. e4", "1", b"1 0 1 1 1\n2 1 6 2 1\n"),
+]
+
 # Texts, how often each is repeated to give some 16 MiB, and how many games that has.
 LONG = [
     (b"{", 16_777_216, 1),
@@ -113,6 +127,9 @@ def cuts():
             lines.append((ends[-1], len(archive) - ends[-1], len(games) + 1, 0))
         want = b"".join(b"%d %d %d %d %d\n" % (n, *line) for n, line in enumerate(lines, 1))
         compare(f"{archive} game by game", asked("-", "1", data=archive), (0, want, b""))
+    for archive, least, want in WORKED:
+        compare(f"the model's table of {archive}", table(archive, int(least)), want)
+        compare(f"{archive} by {least}", asked("-", least, data=archive), (0, want, b""))
     for text, times, games in LONG:
         archive = text * times
         want = b"1 0 %d 1 %d\n" % (len(archive), games)
