@@ -4,8 +4,6 @@
 #[cfg(test)]
 mod first_match;
 #[cfg(test)]
-mod parser;
-#[cfg(test)]
 mod plain;
 #[cfg(test)]
 mod plans;
