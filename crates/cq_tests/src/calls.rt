@@ -35,8 +35,9 @@ fn leads_to_itself(alloc: Global) -> Result<bool, NoMemory> {
     if game.len() == 0 {
         return Ok(false);
     }
+    let line = game.main_line()?;
     match game.down_path(0, 0)? {
-        Some(path) => Ok(path.as_slice() == game.main_line()?.as_slice()),
+        Some(path) => Ok(path.as_slice() == line.as_slice()),
         None => Ok(false),
     }
 }
