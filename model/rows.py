@@ -233,6 +233,8 @@ MISSED = [
     ("cql() line --> check{0}", OPENED),
     ("cql() line 3 2 --> wtm", OPENED),
     ("cql() move promote q", '[FEN "7k/P7/8/8/8/8/8/K7 w - - 0 1"]\n1. a8Q *'),
+    # each of 64 parts may stand any number of times, and each position needs the next one: the longest row from the start has 64
+    ("cql() initial not (line" + " --> wtm* --> btm*" * 32 + ") == 64", "Nf3 Nf6 Ng1 Ng8 " * 60 + "*"),
     ("cql() stalemate", ITALIAN),
     ("cql() result 1/2-1/2", ITALIAN),
     ("cql() initial parent initial", OPENED),
