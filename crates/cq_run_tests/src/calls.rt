@@ -1,8 +1,17 @@
 //! The top call, and what the tests give it.
-use cq_outside::{Desk, Gate, Sink};
+use cq_outside::{Desk, Gate, NoMemory, Sink, SureDesk};
 use cq_run::{Status, run};
 use std::alloc::{AllocError, Global};
 use std::thread::Threads;
+
+/// The words as a command has them.
+pub(crate) fn texts_of(alloc: Global, words: &[&str]) -> Result<Vec<String>, AllocError> {
+    let mut texts = Vec::new(alloc);
+    for word in words {
+        texts.push(String::from_str(alloc, word)?)?;
+    }
+    Ok(texts)
+}
 
 /// The words of a job, and so many workers.
 pub(crate) fn job_of(
@@ -10,13 +19,19 @@ pub(crate) fn job_of(
     job: &[&str],
     workers: &str,
 ) -> Result<Vec<String>, AllocError> {
-    let mut texts = Vec::new(alloc);
-    for word in job {
-        texts.push(String::from_str(alloc, word)?)?;
-    }
+    let mut texts = texts_of(alloc, job)?;
     texts.push(String::from_str(alloc, "--workers")?)?;
     texts.push(String::from_str(alloc, workers)?)?;
     Ok(texts)
+}
+
+/// A desk with these files, each a name and what it holds. The name `-` is standard input.
+pub(crate) fn desk_of(alloc: Global, files: &[(&str, &str)]) -> Result<SureDesk, NoMemory> {
+    let mut desk = SureDesk::new(alloc);
+    for (name, bytes) in files {
+        desk.add(name.as_bytes(), bytes.as_bytes())?;
+    }
+    Ok(desk)
 }
 
 /// How words are answered. The contract of the top call is a large one, so that all tests make this call alone.

@@ -1,6 +1,6 @@
-//! What `answer` leaves in a source behind a first match.
+//! What `answer` leaves in a source behind a first match, and what `answer_many` writes.
 use cq_outside::{Bytes, MemSource, OpenGate, Refusal, SureSink, read_up_to};
-use cq_run::{Status, answer};
+use cq_run::{Status, answer, answer_many};
 use cq_words::Settings;
 use cql_kinds::check;
 use cql_lexer::query_tokens;
@@ -62,6 +62,43 @@ fn the_rest_is_left_in_the_source(rt: HostRuntime) -> Result<(), Fail> {
     assert_eq!(rt;
         (status, out.taken(), err.taken(), left.len() >= 8000),
         (Status::Done, Some(EXPORT), Some(REPORT), true)
+    );
+    Ok(())
+}
+
+// The status of a query as one of several over a source, its export and its report.
+fn many_over_source<R: Threads + Sync>(
+    rt: &R,
+    alloc: Global,
+    source: &mut MemSource,
+) -> Result<(Status, SureSink, SureSink), Fail> {
+    let mut queries = Vec::new(alloc);
+    queries.push(read_query(alloc, b"cql() Pd4")?)?;
+    let queries = queries.as_slice();
+    let mut out = SureSink::new(alloc, 4096)?;
+    let mut err = SureSink::new(alloc, 4096)?;
+    let settings = Settings {
+        workers: 4,
+        limit: 1_099_511_627_776,
+        first: false,
+    };
+    let status = answer_many(
+        rt, alloc, queries, settings, source, &mut out, &mut err, &OpenGate,
+    );
+    Ok((status, out, err))
+}
+
+const HEADED: &[u8] = b"query 1 bytes 108\n\
+    [Event \"?\"]\n[Site \"?\"]\n[Date \"????.??.??\"]\n[Round \"?\"]\n[White \"?\"]\n[Black \"?\"]\n\
+    [Result \"*\"]\n\n1. d4 {CQL} *\n\n";
+
+#[test]
+fn a_query_of_several_is_answered(rt: HostRuntime) -> Result<(), Fail> {
+    let mut source = MemSource::new(rt.alloc(), MATCH, 8, &[])?;
+    let (status, out, err) = many_over_source(&rt, rt.alloc(), &mut source)?;
+    assert_eq!(rt;
+        (status, out.taken(), err.taken()),
+        (Status::Done, Some(HEADED), Some(REPORT))
     );
     Ok(())
 }

@@ -1,6 +1,6 @@
 //! The program has as many workers as it is told, and each of them tells the gate that was handed in.
-use crate::calls::{job_of, status_of};
-use cq_outside::{Gate, NoMemory, SureDesk, SureSink};
+use crate::calls::{desk_of, job_of, status_of};
+use cq_outside::{Gate, SureSink};
 use cq_run::Status;
 use std::alloc::Global;
 use std::process::Abort;
@@ -112,15 +112,6 @@ static JOBS: [&[&str]; 6] = [
     &["many", "two.cql", "games.pgn"],
 ];
 
-// A desk with these files.
-fn desk_of(alloc: Global) -> Result<SureDesk, NoMemory> {
-    let mut desk = SureDesk::new(alloc);
-    for (name, bytes) in FILES.iter() {
-        desk.add(name.as_bytes(), bytes.as_bytes())?;
-    }
-    Ok(desk)
-}
-
 // Asks that so many workers enter and leave each game of a job once, none of them a worker too many.
 fn expect<R: Threads + Sync + Abort>(
     rt: &R,
@@ -129,7 +120,7 @@ fn expect<R: Threads + Sync + Abort>(
     workers: &str,
     told: u64,
 ) -> Result<(), Fail> {
-    let mut desk = desk_of(alloc)?;
+    let mut desk = desk_of(alloc, &FILES)?;
     let mut out = SureSink::new(alloc, 4096)?;
     let mut err = SureSink::new(alloc, 4096)?;
     let words = job_of(alloc, job, workers)?;

@@ -137,7 +137,11 @@ fn the_first_querys_export_is_told(rt: HostRuntime) -> Result<(), Fail> {
     let enters = watch.enters.load(Ordering::Relaxed);
     let leaves = watch.leaves.load(Ordering::Relaxed);
     let wrong = watch.wrong.load(Ordering::Relaxed);
-    assert_eq!(rt; (many.take(0).len(), many.take(1).len()), (64, 64));
-    assert_eq!(rt; (enters, leaves, wrong), (64, 64, 0));
+    let taken = (many.take(0).len(), many.take(1).len());
+    let again = (many.take(0).len(), many.take(1).len());
+    assert_eq!(rt;
+        (taken, again, enters, leaves, wrong),
+        ((64, 64), (0, 0), 64, 64, 0)
+    );
     Ok(())
 }

@@ -1,9 +1,7 @@
 //! Calls that no program makes.
+use cq_bits::{attackers, slide};
 use cq_geometry::{Square, is_light, king_steps, knight_steps, ray};
-use cq_outside::NoMemory;
-use cq_position::{GameResult, Man, Position, material};
-use pgn_tree::{Game, Tags};
-use std::alloc::Global;
+use cq_position::{Man, Position, material, read_fen};
 use std::test::Fail;
 
 /// A square, and whether it is light: a1, h1, d1, e1 and h8.
@@ -28,34 +26,16 @@ fn steps_and_men_are_as_many_as_at_the_start(rt: HostRuntime) {
     assert_eq!(rt; (knight, king, bishop, men), (3, 5, 5, (8, 32)));
 }
 
-// Whether the path from the root of a game without moves to itself is the main line.
-fn leads_to_itself(alloc: Global) -> Result<bool, NoMemory> {
-    let tags = Tags::new(alloc);
-    let game = Game::new(alloc, tags, GameResult::Open, Position::start())?;
-    if game.len() == 0 {
-        return Ok(false);
-    }
-    let line = game.main_line()?;
-    match game.down_path(0, 0)? {
-        Some(path) => Ok(path.as_slice() == line.as_slice()),
-        None => Ok(false),
-    }
+// From a1, where all squares but d1 are empty: b1, c1 and d1.
+#[test]
+fn a_rook_slides_up_to_the_first_man(rt: HostRuntime) {
+    assert_eq!(rt; slide::<1, 0>(1, !8), 14);
 }
 
+// The queen on e2 and the pawn on d4 attack e5; the rook stands behind the queen.
 #[test]
-fn the_root_alone_is_the_main_line(rt: HostRuntime) -> Result<(), NoMemory> {
-    assert!(rt; leads_to_itself(rt.alloc())?);
-    Ok(())
-}
-
-#[test]
-fn a_node_keeps_its_notes(rt: HostRuntime) -> Result<(), Fail> {
-    let tags = Tags::new(rt.alloc());
-    let mut game = Game::new(rt.alloc(), tags, GameResult::Draw, Position::start())?;
-    game.add_nag(0, 14)?;
-    game.add_comment(0, b"\tone  two\n")?;
-    game.add_comment(0, b" \r\n")?;
-    let told = (game.nags(0), game.comments(0));
-    assert_eq!(rt; told, (b"\x0e".as_slice(), 1));
+fn attackers_of_a_square_are_those_that_attack_it(rt: HostRuntime) -> Result<(), Fail> {
+    let position = read_fen(b"4k3/8/8/8/3P4/2N5/4Q3/4R1K1 b - - 0 1")?;
+    assert_eq!(rt; attackers(&position, 1 << 36), 1 << 27 | 1 << 12);
     Ok(())
 }

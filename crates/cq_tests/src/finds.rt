@@ -1,4 +1,4 @@
-//! Numbers that are found by many threads.
+//! Numbers that are found in turn, and by many threads.
 ghost use Rattle.std.specs.Prelude.{◌≡◌, ◌<◌, ◌≤◌, All, length};
 ghost use Rattle.cq_first.specs.Seats.{IsSeatOf, numbers_of};
 
@@ -11,6 +11,22 @@ use std::thread::Threads;
 const NUMBERS: u64 = 40_000;
 
 const EACH: u64 = 10_000;
+
+#[test]
+fn two_seats_look_and_lower_in_turn(rt: HostRuntime) -> Result<(), NoMemory> {
+    let (board, mut seats) = FirstBoard::make(rt.alloc(), 5, 2)?;
+    let mut second = seats.pop().unwrap();
+    let mut first = seats.pop().unwrap();
+    let before = board.look(&mut first, 4);
+    board.lower(&mut second, 3);
+    let after = board.look(&mut first, 4);
+    board.lower(&mut first, 1);
+    board.lower(&mut second, 2);
+    seats.push(first)?;
+    seats.push(second)?;
+    assert_eq!(rt; (before, after, board.close(seats)), (false, true, Ok(1)));
+    Ok(())
+}
 
 // Looks for a number, and finds it where it is 7 from a multiple of 1000.
 fn find(board: &FirstBoard, seat: &mut FirstSeat, number: u64)

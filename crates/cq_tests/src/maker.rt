@@ -1,4 +1,5 @@
 //! Archives that an independent model made.
+use cq_maker::laws::games_are_read_back;
 use cq_maker::make_archive;
 use std::alloc::Global;
 use std::process::Abort;
@@ -68,6 +69,7 @@ fn expect<R: Abort>(rt: &R, alloc: Global, row: Row) -> Result<(), cq_outside::N
 
 #[test]
 fn archives_are_made(rt: HostRuntime) -> Result<(), Fail> {
+    games_are_read_back();
     for row in ROWS.iter() {
         expect(&rt, rt.alloc(), *row)?;
     }

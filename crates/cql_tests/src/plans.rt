@@ -1,13 +1,19 @@
-//! Plans of small queries, and the form in which these are asked.
-use cq_outside::Refusal;
+//! Plans of small queries over small games, and the form in which queries are asked.
+ghost use Rattle.std.specs.Prelude.{◌≡◌, ◌<◌};
+
+use cq_outside::{NoMemory, Refusal, Steps};
 use cql_kinds::check;
 use cql_lexer::query_tokens;
 use cql_parser::{parse, spelled_queries_have_no_any, tokens_of_a_text_are_ended};
-use cql_plan::{Plan, join};
+use cql_plan::{Plan, Verdict, join, match_game, may_hold};
 use cql_rewrite::expand;
 use cql_syntax::{Chain, FlatQuery, Form, QueryFault, TypedQuery};
+use pgn_reader::read_game;
+use pgn_tree::Game;
 use std::alloc::Global;
+use std::marker::Brand;
 use std::process::Abort;
+use std::sync::ledger::{Blank, Ledger};
 use std::test::Fail;
 
 // The query that a text is.
@@ -23,6 +29,62 @@ fn read_query(alloc: Global, text: &[u8]) -> Result<TypedQuery, Refusal<QueryFau
 pub(crate) fn plan_of(alloc: Global, text: &[u8]) -> Result<Plan, Refusal<QueryFault>> {
     let query = read_query(alloc, text)?;
     Ok(Plan::make(alloc, &query)?)
+}
+
+fn counted<L: Ledger>(
+    alloc: Global,
+    plan: &Plan,
+    game: &Game,
+    blank: Blank,
+) -> Result<Verdict, NoMemory>
+    requires { (blank.name ≡ L.name) × (blank.parts ≡ L.parts) × (0 < blank.parts) }
+{
+    let mut steps = Steps::<L>::new(blank);
+    match_game(alloc, plan, game, &mut steps)
+}
+
+fn found(alloc: Global, plan: &Plan, game: &Game) -> Result<Verdict, NoMemory> {
+    counted::<Brand>(alloc, plan, game, Blank::new(1))
+}
+
+const KINGS: &[u8] = b"[FEN \"4k3/8/8/8/8/8/8/4K3 w - - 0 1\"]\n*\n";
+
+const PROMOTION: &[u8] = b"[FEN \"7k/P7/8/8/8/8/8/K7 w - - 0 1\"]\n1. a8=Q *\n";
+
+/// A query, a game, whether the game has what the query needs, the nodes at which it hits, and its keys.
+type Row<'a> = (&'a [u8], &'a [u8], bool, &'a [u32], &'a [i64]);
+
+static ROWS: [Row<'static>; 5] = [
+    (b"cql() Qa8", KINGS, false, &[], &[]),
+    (b"cql() not Qa8", KINGS, true, &[0], &[]),
+    (b"cql() Qa8", PROMOTION, true, &[1], &[]),
+    (b"cql() flip { wtm Kh1 }", PROMOTION, true, &[0], &[]),
+    (
+        b"cql() sort \"p\" ply sort min \"p\" ply",
+        PROMOTION,
+        true,
+        &[0, 1],
+        &[1, 0],
+    ),
+];
+
+// Asks what the plan of a query says of a game.
+fn expect<R: Abort>(rt: &R, alloc: Global, row: &Row<'_>) -> Result<(), Fail> {
+    let (query, game, may, nodes, keys) = *row;
+    let plan = plan_of(alloc, query)?;
+    let game = read_game(alloc, game, 0, true)?;
+    let verdict = found(alloc, &plan, &game)?;
+    let said = (may_hold(&plan, &game), verdict.nodes(), verdict.keys());
+    assert_eq!(rt; said, (may, nodes, keys), "of {query:?}");
+    Ok(())
+}
+
+#[test]
+fn plans_turn_games_away_and_find_hits_and_keys(rt: HostRuntime) -> Result<(), Fail> {
+    for row in ROWS.iter() {
+        expect(&rt, rt.alloc(), row)?;
+    }
+    Ok(())
 }
 
 // The form in which the query that a text is is asked.

@@ -2,18 +2,20 @@
 ghost use Rattle.std.specs.Prelude.{◌≤◌};
 
 use crate::plans::plan_of;
-use cq_outside::{Bytes, Gate, NoMemory};
+use cq_outside::{Bytes, Gate, NoMemory, OpenGate};
 use cq_shards::{Batch, run_batch};
+use cql_plan::Plan;
 use pgn_cut::cut_whole;
 use std::alloc::Global;
 use std::process::Abort;
 use std::sync::atomic::{AtomicU32, Ordering};
 use std::test::Fail;
+use std::thread::Threads;
 
 /// How many games the batch has at which two workers are watched.
 const WATCHED: u32 = 64;
 
-/// How often the call at the gate looks for the calls that it waits for.
+/// How often a call at the gate looks for the calls that it waits for.
 const MOST_LOOKS: u32 = 1_000_000_000;
 
 // A game that has this number in its comment.
@@ -40,23 +42,28 @@ fn archive_of(alloc: Global) -> Result<Bytes, NoMemory> {
     Ok(archive)
 }
 
-/// A gate that counts its calls, and at which the first call of `enter` waits until all other games are left.
+/// A gate that counts its calls, and at which the first call of one kind waits for calls of another worker.
 #[derive(Drop)]
 struct Watch {
     exports: Vec<Bytes>,
     /// How often each game was entered, and left.
     entered: Vec<AtomicU32>,
     left: Vec<AtomicU32>,
+    /// How many games each of the two workers left.
+    by_worker: Vec<AtomicU32>,
     enters: AtomicU32,
     leaves: AtomicU32,
     /// How many calls were not as they should be.
     wrong: AtomicU32,
+    /// Whether the first call of `enter` waits, until all other games are left. Else that of `leave` does, until the other worker
+    /// has left a game.
+    at_enter: bool,
 }
 
-// A count of nothing for each game.
-fn counts(alloc: Global) -> Result<Vec<AtomicU32>, NoMemory> {
+// So many counts of nothing.
+fn counts(alloc: Global, places: u32) -> Result<Vec<AtomicU32>, NoMemory> {
     let mut counts = Vec::new(alloc);
-    for _ in 0..WATCHED {
+    for _ in 0..places {
         counts.push(AtomicU32::new(0))?;
     }
     Ok(counts)
@@ -81,7 +88,7 @@ fn comes_to(count: &AtomicU32, high: u32) -> bool {
 }
 
 impl Watch {
-    fn new(alloc: Global) -> Result<Watch, NoMemory> {
+    fn new(alloc: Global, at_enter: bool) -> Result<Watch, NoMemory> {
         let mut exports = Vec::new(alloc);
         for number in 0..WATCHED {
             let mut text = Bytes::new(alloc);
@@ -90,11 +97,13 @@ impl Watch {
         }
         Ok(Watch {
             exports,
-            entered: counts(alloc)?,
-            left: counts(alloc)?,
+            entered: counts(alloc, WATCHED)?,
+            left: counts(alloc, WATCHED)?,
+            by_worker: counts(alloc, 2)?,
             enters: AtomicU32::new(0),
             leaves: AtomicU32::new(0),
             wrong: AtomicU32::new(0),
+            at_enter,
         })
     }
 
@@ -118,18 +127,25 @@ impl Gate for Watch {
     fn enter(&self, _worker: u64, shard: u64) {
         let first = self.enters.fetch_add(1, Ordering::Relaxed) == 0;
         self.asks(count_at(self.entered.as_slice(), shard) == Some(0));
-        if first {
+        if first && self.at_enter {
             self.asks(comes_to(&self.leaves, WATCHED - 1));
         }
     }
 
-    fn leave(&self, _worker: u64, shard: u64, text: &[u8]) {
+    fn leave(&self, worker: u64, shard: u64, text: &[u8]) {
         self.asks(count_at(self.left.as_slice(), shard) == Some(0));
         match self.exports.get(shard as usize) {
             Some(export) => self.asks(export.as_slice() == text),
             None => self.asks(false),
         }
-        self.leaves.fetch_add(1, Ordering::Relaxed);
+        self.asks(count_at(self.by_worker.as_slice(), worker).is_some());
+        let first = self.leaves.fetch_add(1, Ordering::Relaxed) == 0;
+        if first && !self.at_enter {
+            match self.by_worker.get((worker ^ 1) as usize) {
+                Some(other) => self.asks(comes_to(other, 1)),
+                None => self.asks(false),
+            }
+        }
     }
 }
 
@@ -148,14 +164,39 @@ pub(crate) fn batch_of<R: Abort>(
     Batch::of(alloc, archive, spans.as_slice(), first)
 }
 
+// Asks that two workers enter and leave each game of a batch once.
+fn expect_both<R: Threads + Sync + Abort>(
+    rt: &R,
+    alloc: Global,
+    plan: &Plan,
+    at_enter: bool,
+) -> Result<(), Fail> {
+    let archive = archive_of(alloc)?;
+    let batch = batch_of(rt, alloc, archive.as_slice(), 0)?;
+    let watch = Watch::new(alloc, at_enter)?;
+    let answers = run_batch(rt, alloc, plan, &batch, 2, &watch)?;
+    assert_eq!(rt; (answers.len(), watch.calls()), (64, (64, 64, 0)));
+    Ok(())
+}
+
+#[test]
+fn two_workers_meet(rt: HostRuntime) -> Result<(), Fail> {
+    let plan = plan_of(rt.alloc(), b"cql() initial")?;
+    expect_both(&rt, rt.alloc(), &plan, false)
+}
+
 #[test]
 fn one_worker_takes_the_rest(rt: HostRuntime) -> Result<(), Fail> {
+    let plan = plan_of(rt.alloc(), b"cql() initial")?;
+    expect_both(&rt, rt.alloc(), &plan, true)
+}
+
+#[test]
+fn an_empty_batch_has_no_answers(rt: HostRuntime) -> Result<(), Fail> {
     let alloc = rt.alloc();
     let plan = plan_of(alloc, b"cql() initial")?;
-    let archive = archive_of(alloc)?;
-    let batch = batch_of(&rt, alloc, archive.as_slice(), 0)?;
-    let watch = Watch::new(alloc)?;
-    let answers = run_batch(&rt, alloc, &plan, &batch, 2, &watch)?;
-    assert_eq!(rt; (answers.len(), watch.calls()), (64, (64, 64, 0)));
+    let batch = batch_of(&rt, alloc, b"", 0)?;
+    let answers = run_batch(&rt, alloc, &plan, &batch, 64, &OpenGate)?;
+    assert_eq!(rt; (batch.len(), answers.len()), (0, 0));
     Ok(())
 }

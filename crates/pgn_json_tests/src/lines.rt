@@ -1,6 +1,9 @@
 //! What the laws of lines ask of a game.
 use cq_outside::Refusal;
-use pgn_json::{games_are_kept, texts_are_bytes};
+use pgn_json::{
+    games_are_kept, lines_are_json, lines_are_utf8, same_lines_have_the_same_game,
+    strings_are_read_back, texts_are_bytes,
+};
 use pgn_reader::{GameFault, read_game};
 
 /// A game with a tag that has to be escaped and is no UTF-8, comments, glyphs, a variation and a null move.
@@ -15,4 +18,12 @@ fn a_game_has_what_the_laws_of_lines_ask(rt: HostRuntime) -> Result<(), Refusal<
         (true, true)
     );
     Ok(())
+}
+
+#[test]
+fn laws_of_lines_are_called() {
+    strings_are_read_back();
+    lines_are_json();
+    lines_are_utf8();
+    same_lines_have_the_same_game();
 }

@@ -1,5 +1,6 @@
 //! Failures of the outside through the top call.
 use cq_outside::{Calls, MemDesk, MemSink, NoMemory};
+use pgn_pieces::pieces_cover_their_archive;
 use pgn_pieces_run::{Status, answer_command, run};
 use std::alloc::{AllocError, Global};
 use std::process::Abort;
@@ -81,4 +82,9 @@ fn the_exit_status_is_that_of_the_answer(rt: HostRuntime) -> Result<(), Fail> {
     let lost = answer_command(alloc, Err(NoMemory), &mut desk, &mut out, &mut err);
     assert_eq!(&rt; (done, lost), (0, 7));
     Ok(())
+}
+
+#[test]
+fn laws_of_pieces_are_called() {
+    pieces_cover_their_archive();
 }

@@ -1,0 +1,108 @@
+//! The top call over a desk of other hands, which answers each call as it is told.
+ghost use Rattle.std.specs.Prelude.{◌≡◌, ◌≤◌, None};
+
+use crate::calls::{status_of, texts_of};
+use cq_outside::{Desk, Failed, OpenFault, OpenGate, Source, SureSink};
+use cq_run::Status;
+use std::alloc::Global;
+use std::process::Abort;
+use std::test::Fail;
+use std::thread::Threads;
+
+/// A desk without bytes that answers each call so.
+#[derive(Drop)]
+struct FailingDesk {
+    open: Result<(), OpenFault>,
+    read: Result<(), Failed>,
+    open_faults: u64,
+    read_faults: u64,
+}
+
+impl FailingDesk {
+    fn new(open: Result<(), OpenFault>, read: Result<(), Failed>) -> FailingDesk {
+        FailingDesk {
+            open,
+            read,
+            open_faults: 0,
+            read_faults: 0,
+        }
+    }
+}
+
+impl Source for FailingDesk {
+    ghost left = { λ _. None };
+
+    ghost faults = { λ d. d.read_faults };
+
+    ghost follows = { λ s t. (s.read_faults ≤ t.read_faults) × (t.open_faults ≡ s.open_faults) };
+
+    fn read(&mut self, _buf: &mut [u8]) -> Result<usize, Failed> {
+        if self.read.is_ok() {
+            return Ok(0);
+        }
+        self.read_faults = self.read_faults.saturating_add(1);
+        Err(Failed)
+    }
+
+    ghost use Rattle.std.proofs.Common.{refl, ◌∙◌, le_refl, le_trans};
+
+    ghost follows_same = { λ s. (le_refl s.read_faults, refl) };
+
+    ghost follows_on = { λ s t u f g. (le_trans f.0 g.0, g.1 ∙ f.1) };
+
+    ghost never_falls = { λ s t f. f.0 };
+}
+
+impl Desk for FailingDesk {
+    ghost told = { λ _. None };
+
+    ghost open_faults = { λ d. d.open_faults };
+
+    fn open(&mut self, _alloc: Global, _name: &[u8]) -> Result<(), OpenFault> {
+        match self.open {
+            Ok(()) => Ok(()),
+            Err(OpenFault::NoMemory) => Err(OpenFault::NoMemory),
+            Err(OpenFault::Failed) => {
+                self.open_faults = self.open_faults.saturating_add(1);
+                Err(OpenFault::Failed)
+            }
+        }
+    }
+
+    ghost use Rattle.std.proofs.Common.{refl};
+
+    ghost keeps_told = { λ s t f. refl };
+
+    ghost keeps_open_faults = { λ s t f. f.1 };
+}
+
+/// How openings and reads are answered, and the status of `eval` over standard input.
+type Row = (Result<(), OpenFault>, Result<(), Failed>, Status);
+
+static ROWS: [Row; 4] = [
+    (Err(OpenFault::Failed), Ok(()), Status::OpenFault),
+    (Err(OpenFault::NoMemory), Ok(()), Status::NoMemory),
+    (Ok(()), Err(Failed), Status::ReadFault),
+    (Ok(()), Ok(()), Status::Done),
+];
+
+// Asks that a row has its status, and that no game is written.
+fn expect<R: Threads + Sync + Abort>(rt: &R, alloc: Global, row: &Row) -> Result<(), Fail> {
+    let (open, read, want) = *row;
+    let mut desk = FailingDesk::new(open, read);
+    let mut out = SureSink::new(alloc, 64)?;
+    let mut err = SureSink::new(alloc, 64)?;
+    let words = texts_of(alloc, &["eval", "cql() Ka1"])?;
+    let words = words.as_slice();
+    let status = status_of(rt, alloc, words, &mut desk, &mut out, &mut err, &OpenGate);
+    assert_eq!(rt; (status, out.taken()), (want, Some(b"".as_slice())));
+    Ok(())
+}
+
+#[test]
+fn each_failure_of_a_desk_has_its_status(rt: HostRuntime) -> Result<(), Fail> {
+    for row in ROWS.iter() {
+        expect(&rt, rt.alloc(), row)?;
+    }
+    Ok(())
+}

@@ -1,0 +1,155 @@
+//! Trees of queries: their copies and kinds, and which are the same.
+use cq_outside::{NoMemory, Refusal};
+use cq_symmetry::{Family, Mapping, SquarePart};
+use cql_lexer::{query_tokens, tokens_are_read};
+use cql_parser::{parse, tokens_of_a_text_are_ended};
+use cql_rewrite::{same_filter, same_unplaced};
+use cql_syntax::{
+    Constituents, Filter, Filters, Form, Kind, Plain, Query, QueryFault, Terms, kind_of, weight,
+};
+use std::alloc::Global;
+use std::process::Abort;
+use std::test::Fail;
+
+// The query that a text is, before its kinds are looked at.
+fn parsed(alloc: Global, text: &[u8]) -> Result<Query, Refusal<QueryFault>> {
+    let tokens = query_tokens(alloc, text)?;
+    tokens_of_a_text_are_ended();
+    parse(alloc, tokens.as_slice())
+}
+
+/// A query of each form, its weight, and the kind of its first item.
+type Row<'a> = (&'a [u8], u64, Kind);
+
+static FORMS: [Row<'static>; 34] = [
+    (b"cql() check", 1, Kind::Position),
+    (b"cql() year", 1, Kind::Number),
+    (b"cql() parent check", 2, Kind::Position),
+    (b"cql() dark check", 2, Kind::Set),
+    (b"cql() power check", 2, Kind::Number),
+    (b"cql() {check check check}", 4, Kind::Position),
+    (b"cql() check & check & check", 4, Kind::Set),
+    (b"cql() min(check check check)", 4, Kind::Number),
+    (b"cql() between(check check)", 3, Kind::Set),
+    (b"cql() check == check", 3, Kind::Position),
+    (b"cql() 1 - check", 3, Kind::Number),
+    (b"cql() comment \"text\"", 1, Kind::Position),
+    (b"cql() shift check", 226, Kind::Position),
+    (b"cql() line --> (check){2}", 2, Kind::Number),
+    (b"cql() Ka1", 1, Kind::Set),
+    (b"cql() 7", 1, Kind::Number),
+    (b"cql() text", 1, Kind::Set),
+    (b"cql() event \"text\"", 1, Kind::Position),
+    (b"cql() result 1/2-1/2", 1, Kind::Position),
+    (b"cql() elo white", 1, Kind::Number),
+    (b"cql() up 1 7 check", 2, Kind::Set),
+    (b"cql() if check then check else check", 4, Kind::Position),
+    (b"cql() square all x in check check", 3, Kind::Position),
+    (b"cql() sort \"text\" check", 2, Kind::Position),
+    (b"cql() move from check", 2, Kind::Position),
+    (b"cql() not check", 2, Kind::Position),
+    (b"cql() check or check", 3, Kind::Position),
+    (b"cql() find <-- check", 2, Kind::Position),
+    (b"cql() # check", 2, Kind::Number),
+    (b"cql() ~ check", 2, Kind::Set),
+    (b"cql() check attacks check", 3, Kind::Set),
+    (b"cql() shift Ka1", 226, Kind::Set),
+    (b"cql() ~ # power light dark A", 6, Kind::Set),
+    (b"cql() 1 + up 2 A", 4, Kind::Number),
+];
+
+// The kind of a copy of the first item, and whether this is the same; nothing where there is no item.
+fn copied(alloc: Global, query: &Query) -> Result<Option<(Kind, bool)>, NoMemory> {
+    let Some(first) = query.items.as_slice().first() else {
+        return Ok(None);
+    };
+    let copy = first.copy(alloc)?;
+    Ok(Some((kind_of(&copy), same_filter(&copy, first))))
+}
+
+// Asks that a copy of a query has its weight and its kind.
+fn expect<R: Abort>(rt: &R, alloc: Global, row: &Row<'_>) -> Result<(), Fail> {
+    let (text, heavy, kind) = *row;
+    let query = parsed(alloc, text)?.copy()?;
+    let told = (weight(&query), copied(alloc, &query)?);
+    assert_eq!(rt; told, (heavy, Some((kind, true))), "of {text:?}");
+    Ok(())
+}
+
+#[test]
+fn copies_of_each_form_are_the_same(rt: HostRuntime) -> Result<(), Fail> {
+    for row in FORMS.iter() {
+        expect(&rt, rt.alloc(), row)?;
+    }
+    Ok(())
+}
+
+/// Two queries, whether their first items are the same, and whether they are but for their places.
+type Pair<'a> = (&'a [u8], &'a [u8], bool, bool);
+
+static PAIRS: [Pair<'static>; 4] = [
+    (b"cql() {check check}", b"cql() {check check}", true, true),
+    (
+        b"cql() {check check}",
+        b"cql() {check check check}",
+        false,
+        false,
+    ),
+    (b"cql() {check check}", b"cql()  {check check}", false, true),
+    (
+        b"cql() line --> ((check){2}){2}",
+        b"cql() line --> ((check){3}){3}",
+        false,
+        false,
+    ),
+];
+
+// Asks that two queries begin with items that are as much the same.
+fn expect_pair<R: Abort>(rt: &R, alloc: Global, pair: &Pair<'_>) -> Result<(), Fail> {
+    let (text, other_text, same, but_for_places) = *pair;
+    let one = parsed(alloc, text)?;
+    let other = parsed(alloc, other_text)?;
+    let found = match (one.items.as_slice().first(), other.items.as_slice().first()) {
+        (Some(f), Some(g)) => Some((same_filter(f, g), same_unplaced(f, g))),
+        _ => None,
+    };
+    assert_eq!(rt; found, Some((same, but_for_places)), "{text:?}");
+    Ok(())
+}
+
+#[test]
+fn trees_that_differ_are_not_the_same(rt: HostRuntime) -> Result<(), Fail> {
+    for pair in PAIRS.iter() {
+        expect_pair(&rt, rt.alloc(), pair)?;
+    }
+    Ok(())
+}
+
+// A family that is written out, which is in no text.
+#[test]
+fn a_family_that_is_written_out_has_its_kind(rt: HostRuntime) -> Result<(), Fail> {
+    let mut filters = Filters::new(rt.alloc());
+    filters.push(Filter {
+        at: 6,
+        form: Form::Plain(Plain::Check),
+    })?;
+    let any = Filter {
+        at: 6,
+        form: Form::Any(Kind::Set, filters),
+    };
+    assert_eq!(rt; kind_of(&any), Kind::Set);
+    Ok(())
+}
+
+fn is_shared<T: Send + Sync>() {}
+
+#[test]
+fn threads_may_share_trees() {
+    tokens_are_read();
+    is_shared::<Filters>();
+    is_shared::<Terms>();
+    is_shared::<Constituents>();
+    is_shared::<SquarePart>();
+    is_shared::<Mapping>();
+    is_shared::<Family>();
+}
