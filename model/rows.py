@@ -97,7 +97,8 @@ FOUND = [
     ("cql() check", '[FEN "4k3/8/8/8/8/8/8/4RK2 b - - 0 1"]\n*\n', "{CQL} *", "4k3/8/8/8/8/8/8/4RK2 b - - 0 1"),
     # squares between others, on files, ranks and diagonals, and where there is none
     (
-        "cql() #between(a1 h8) == 6 #between(h1 a8) == 6 #between(e1 e8) == 6 #between(e8 e1) == 6 #between(b1 c3) == 0 #between(b2 b2) == 0"
+        "cql() #between(a1 h8) == 6 #between(h1 a8) == 6 #between(e1 e8) == 6 #between(e8 e1) == 6"
+        " #between(b1 c3) == 0 #between(b2 b2) == 0"
         " #between([a1,h1] [a8,c1]) == 17",
         OPENED,
         "{CQL} 1. e4 {CQL} 1... e5 {CQL} 2. Nf3 {CQL} *",
@@ -111,7 +112,7 @@ FOUND = [
     ("cql() #light [a1,h1,d1,e1,h8] == 2 light h1 light d1", OPENED, "{CQL} 1. e4 {CQL} 1... e5 {CQL} 2. Nf3 {CQL} *"),
 ]
 
-# Positions, and whether they are a mate and a stalemate: check without mate, the shortest mate, a smothered mate, a stalemate in the corner,
+# Positions, and whether they are a mate and a stalemate: check without mate, the shortest mate, a smothered mate, a stalemate in a corner,
 # and one with a pinned man.
 ENDS = [
     ("4k3/8/8/8/8/8/8/4R1K1 b - - 0 1", False, False),
@@ -292,6 +293,9 @@ TURNED_AWAY = [
     ("play", "cql() Ka1", 3, USAGE),
 ]
 
+# The greatest numbers that words may have, which are read before the query.
+GREATEST = ["--seed", "4294967295", "--games", "100000", "--workers", "64"]
+
 # Words that ask for a made archive, and the line that is written.
 MADE = [
     (["selfrun", "cql() mate", "--games", "0"], "bytes 0 games 0 matched 0 refused 0 written 0\n"),
@@ -302,6 +306,7 @@ MADE = [
     (["selfrun", "cql() check", "--games", "5", "--seed", "7"], "bytes 2211 games 5 matched 3 refused 0 written 1352\n"),
     (["selfrun", "cql(variations) variation check", "--games", "20"], "bytes 7518 games 20 matched 1 refused 0 written 314\n"),
     (["selfrun", "cql() mate"], "bytes 39477 games 100 matched 1 refused 0 written 545\n"),
+    (["selfrun", "cql() check", "--seed", "4294967295", "--games", "5"], "bytes 2799 games 5 matched 3 refused 0 written 1805\n"),
 ]
 
 # Words that are refused.
@@ -466,6 +471,7 @@ def moves():
 def words_and_files():
     for mode, query, status, line in TURNED_AWAY:
         yield [mode, query], {"-": "*"}, (status, "", line)
+    yield ["selfrun", "cql() echo", *GREATEST], {}, (2, "", "query byte 6: outside profile echo\n")
     for words, line in MADE:
         yield words, {"-": "*"}, (0, line, "")
     for words in REFUSED:

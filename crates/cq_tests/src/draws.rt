@@ -1,5 +1,5 @@
 //! Draws in turn, and by many threads.
-ghost use Rattle.std.specs.Prelude.{◌≡◌, ⊥, All, IfSome, length};
+ghost use Rattle.std.specs.Prelude.{◌≡◌, All, IfSome, length};
 ghost use Rattle.cq_board.specs.Seats.{IsSeatOf, HasEnded};
 
 use cq_board::{Board, ClaimSeat};

@@ -71,37 +71,36 @@ fn looked_up_from<L: Ledger, R: Abort>(
     blank: Blank,
 ) -> Result<Vec<Option<u32>>, NoMemory>
     requires blank { (blank.name ≡ L.name) × (blank.parts ≡ L.parts) × (0 < blank.parts) }
+    requires nodes { length (spots_of shape.now) ≡ 4 }
 {
     let table = table_of::<L, R>(rt, alloc)?;
     assert!(rt; table.atoms() == 3);
-    assert!(rt; table.nodes() == shape.len());
+    assert!(rt; table.nodes() == 4);
     let mut steps = Steps::<L>::new(blank);
     looked_up(alloc, &table, shape, &mut steps)
 }
 
-fn values<R: Abort>(rt: &R, alloc: Global, shape: &Shape) -> Result<Vec<Option<u32>>, NoMemory> {
+fn values<R: Abort>(rt: &R, alloc: Global, shape: &Shape) -> Result<Vec<Option<u32>>, NoMemory>
+    requires { length (spots_of shape.now) ≡ 4 }
+{
     looked_up_from::<Brand, R>(rt, alloc, shape, Blank::new(1))
 }
 
-// A searched node more, the first child of its parent.
-fn grow<R: Abort>(rt: &R, shape: &mut Shape, parent: u32) -> Result<(), NoMemory> {
-    assert!(rt; (parent as usize) < shape.len());
-    assert!(rt; shape.searched(parent as usize));
-    shape.push(Some(parent), true, true)
-}
-
-fn path_of_four<R: Abort>(rt: &R, alloc: Global) -> Result<Shape, NoMemory> {
+// The tree of a game of three moves.
+fn path_of_four(alloc: Global) -> Result<Shape, NoMemory>
+    ensures { IfOk result (λ shape. length (spots_of shape) ≡ 4) }
+{
     let mut shape = Shape::new(alloc, false, false);
     shape.push(None, true, false)?;
-    for node in 0..3 {
-        grow(rt, &mut shape, node)?;
-    }
+    shape.push(Some(0), true, true)?;
+    shape.push(Some(1), true, true)?;
+    shape.push(Some(2), true, true)?;
     Ok(shape)
 }
 
 #[test]
 fn three_atoms_are_looked_at_once_at_each_of_four_nodes(rt: HostRuntime) -> Result<(), Fail> {
-    let shape = path_of_four(&rt, rt.alloc())?;
+    let shape = path_of_four(rt.alloc())?;
     let found = values(&rt, rt.alloc(), &shape)?;
     assert_eq!(rt; found.as_slice(), [Some(3), None, None, None].as_slice());
     Ok(())
