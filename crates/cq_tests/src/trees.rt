@@ -7,7 +7,6 @@ use pgn_reader::{GameFault, read_game};
 use pgn_tree::{Game, Tags};
 use std::alloc::Global;
 use std::process::Abort;
-use std::test::Fail;
 
 /// A node: its parent, its first child and its next sibling, its glyphs, and its first comment.
 type Node<'a> = (Option<u32>, Option<u32>, Option<u32>, &'a [u8], &'a [u8]);
@@ -133,13 +132,10 @@ fn trees_tell_their_men(rt: HostRuntime) -> Result<(), Refusal<GameFault>> {
 }
 
 #[test]
-fn a_node_keeps_its_notes(rt: HostRuntime) -> Result<(), Fail> {
+fn a_node_keeps_its_glyph(rt: HostRuntime) -> Result<(), NoMemory> {
     let tags = Tags::new(rt.alloc());
     let mut game = Game::new(rt.alloc(), tags, GameResult::Draw, Position::start())?;
     game.add_nag(0, 14)?;
-    game.add_comment(0, b"\tone  two\n")?;
-    game.add_comment(0, b" \r\n")?;
-    let told = (game.nags(0), game.comments(0));
-    assert_eq!(rt; told, (b"\x0e".as_slice(), 1));
+    assert_eq!(rt; game.nags(0), b"\x0e".as_slice());
     Ok(())
 }
