@@ -158,6 +158,23 @@ fn desk_with(alloc: Global, archive: &str, fails: Failing<'_>) -> Result<MemDesk
     Ok(desk)
 }
 
+// The status of a row by so many workers, and its sinks.
+fn answered<R: Threads + Sync>(
+    rt: &R,
+    alloc: Global,
+    row: &Row<'_>,
+    workers: &str,
+) -> Result<(Status, MemSink, MemSink), Fail> {
+    let (words, archive, fails, _) = *row;
+    let mut desk = desk_with(alloc, archive, fails)?;
+    let mut out = MemSink::new(alloc, 4096, 1, Calls::of(alloc, fails.3)?)?;
+    let mut err = MemSink::new(alloc, 4096, 1, Calls::of(alloc, fails.4)?)?;
+    let texts = job_of(alloc, words, workers)?;
+    let texts = texts.as_slice();
+    let status = status_of(rt, alloc, texts, &mut desk, &mut out, &mut err, &OpenGate);
+    Ok((status, out, err))
+}
+
 // Asks that a row comes out as it should, by so many workers.
 fn expect<R: Threads + Sync + Abort>(
     rt: &R,
@@ -165,13 +182,8 @@ fn expect<R: Threads + Sync + Abort>(
     row: &Row<'_>,
     workers: &str,
 ) -> Result<(), Fail> {
-    let (words, archive, fails, want) = *row;
-    let mut desk = desk_with(alloc, archive, fails)?;
-    let mut out = MemSink::new(alloc, 4096, 1, Calls::of(alloc, fails.3)?)?;
-    let mut err = MemSink::new(alloc, 4096, 1, Calls::of(alloc, fails.4)?)?;
-    let texts = job_of(alloc, words, workers)?;
-    let texts = texts.as_slice();
-    let status = status_of(rt, alloc, texts, &mut desk, &mut out, &mut err, &OpenGate);
+    let (words, _, fails, want) = *row;
+    let (status, out, err) = answered(rt, alloc, row, workers)?;
     let text = &EXPORTS[..want.1.min(EXPORTS.len())];
     assert_eq!(rt;
         (status, out.taken(), err.taken()),

@@ -70,14 +70,14 @@ fn is_part(taken: Option<&[u8]>, text: &str, count: Option<usize>) -> bool {
     text.as_bytes().starts_with(taken) && taken.len() == count.unwrap_or(taken.len())
 }
 
-// Asks that a case is answered as it should be in a run, and says whether a call failed.
-fn expect<R: Threads + Sync + Abort>(
+// The status of a case in a run, and its sinks.
+fn answered<R: Threads + Sync + Abort>(
     rt: &R,
     alloc: Global,
-    case: &Case<'_>,
+    words: &[&str],
     archive: &[u8],
     run: &Run,
-) -> Result<bool, Fail> {
+) -> Result<(Status, MemSink, MemSink), Fail> {
     let (given, taken, read, at_out, at_err) = *run;
     assert!(rt; given >= 1);
     assert!(rt; taken >= 1);
@@ -85,16 +85,37 @@ fn expect<R: Threads + Sync + Abort>(
     desk.add(b"-", archive, given, &[read])?;
     let mut out = MemSink::new(alloc, 1024, taken, Calls::of(alloc, &[at_out])?)?;
     let mut err = MemSink::new(alloc, 1024, taken, Calls::of(alloc, &[at_err])?)?;
-    let words = texts_of(alloc, case.0)?;
-    let words = words.as_slice();
+    let texts = texts_of(alloc, words)?;
+    let words = texts.as_slice();
     let status = status_of(rt, alloc, words, &mut desk, &mut out, &mut err, &OpenGate);
-    let is_right = match counts(case, run, status) {
-        Some((outs, errs)) => {
-            is_part(out.taken(), case.2, outs) && is_part(err.taken(), case.3, errs)
-        }
+    Ok((status, out, err))
+}
+
+// Whether a case is answered as it should be in a run.
+fn is_right(
+    case: &Case<'_>,
+    run: &Run,
+    status: Status,
+    out: Option<&[u8]>,
+    err: Option<&[u8]>,
+) -> bool {
+    match counts(case, run, status) {
+        Some((outs, errs)) => is_part(out, case.2, outs) && is_part(err, case.3, errs),
         None => false,
-    };
-    assert!(rt; is_right, "{status:?} in {run:?}");
+    }
+}
+
+// Asks for this, and says whether a call failed.
+fn expect<R: Threads + Sync + Abort>(
+    rt: &R,
+    alloc: Global,
+    case: &Case<'_>,
+    archive: &[u8],
+    run: &Run,
+) -> Result<bool, Fail> {
+    let (status, out, err) = answered(rt, alloc, case.0, archive, run)?;
+    let right = is_right(case, run, status, out.taken(), err.taken());
+    assert!(rt; right, "{status:?} in {run:?}");
     Ok(status != case.1)
 }
 

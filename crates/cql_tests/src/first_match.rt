@@ -2,10 +2,12 @@
 use crate::plans::plan_of;
 use crate::workers::batch_of;
 use cq_outside::{Bytes, Gate, NoMemory};
-use cq_shards::run_first;
+use cq_shards::{Batch, run_first};
+use cql_plan::Plan;
 use std::alloc::Global;
 use std::sync::atomic::{AtomicU32, Ordering};
 use std::test::Fail;
+use std::thread::Threads;
 
 /// The number of the first game.
 const FIRST: u64 = 1000;
@@ -41,6 +43,17 @@ impl Gate for Counts {
     }
 }
 
+// How many answers a batch has up to its first match, by one worker. The contract of this call is a large one.
+fn answered<R: Threads + Sync>(
+    rt: &R,
+    alloc: Global,
+    plan: &Plan,
+    batch: &Batch,
+    gate: &Counts,
+) -> Result<usize, NoMemory> {
+    Ok(run_first(rt, alloc, plan, batch, 1, gate)?.len())
+}
+
 // One worker draws in order, so it skips every game after the match.
 #[test]
 fn a_skipped_game_is_not_read(rt: HostRuntime) -> Result<(), Fail> {
@@ -52,11 +65,11 @@ fn a_skipped_game_is_not_read(rt: HostRuntime) -> Result<(), Fail> {
         enters: AtomicU32::new(0),
         leaves: AtomicU32::new(0),
     };
-    let answers = run_first(&rt, alloc, &plan, &batch, 1, &gate)?;
+    let count = answered(&rt, alloc, &plan, &batch, &gate)?;
     let calls = (
         gate.enters.load(Ordering::Relaxed),
         gate.leaves.load(Ordering::Relaxed),
     );
-    assert_eq!(rt; (answers.len(), calls), (41, (41, 41)));
+    assert_eq!(rt; (count, calls), (41, (41, 41)));
     Ok(())
 }

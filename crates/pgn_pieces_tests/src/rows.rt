@@ -1,5 +1,5 @@
 //! Failures of the outside through the top call.
-use cq_outside::{Calls, MemDesk, MemSink, NoMemory};
+use cq_outside::{Calls, Desk, MemDesk, MemSink, NoMemory, Sink};
 use pgn_pieces::pieces_cover_their_archive;
 use pgn_pieces_run::{Status, answer_command, run};
 use std::alloc::{AllocError, Global};
@@ -30,17 +30,46 @@ fn desk_with(alloc: Global, archive: &[u8], fails: Failing<'_>) -> Result<MemDes
     Ok(desk)
 }
 
-// Asks that three games are answered so, in pieces of at least one byte, and that out has taken this table, and err nothing.
-fn expect<R: Abort>(rt: &R, alloc: Global, row: &Row<'_>) -> Result<(), Fail> {
-    let (fails, want, table) = *row;
+// How words are answered. The contract of the top call is a large one, so that it is called here alone.
+fn status_of<D: Desk, O: Sink, E: Sink>(
+    alloc: Global,
+    words: &[String],
+    desk: &mut D,
+    out: &mut O,
+    err: &mut E,
+) -> Status {
+    run(alloc, words, desk, out, err)
+}
+
+// The exit status of words, for which there was memory or none. Its contract is as large.
+fn code_of<D: Desk, O: Sink, E: Sink>(
+    alloc: Global,
+    words: Result<Vec<String>, NoMemory>,
+    desk: &mut D,
+    out: &mut O,
+    err: &mut E,
+) -> u8 {
+    answer_command(alloc, words, desk, out, err)
+}
+
+// The status of three games in pieces of at least one byte, and what the sinks have taken.
+fn answered(alloc: Global, fails: Failing<'_>) -> Result<(Status, MemSink, MemSink), Fail> {
     let mut desk = desk_with(alloc, b"* * *", fails)?;
     let mut out = MemSink::new(alloc, 4096, 1, Calls::of(alloc, fails.2)?)?;
     let mut err = MemSink::new(alloc, 4096, 1, Calls::none(alloc))?;
     let texts = texts_of(alloc, &["a.pgn", "1"])?;
-    let status = run(alloc, texts.as_slice(), &mut desk, &mut out, &mut err);
+    let status = status_of(alloc, texts.as_slice(), &mut desk, &mut out, &mut err);
+    Ok((status, out, err))
+}
+
+// Asks that they are answered so, and that out has taken this table, and err nothing.
+fn expect<R: Abort>(rt: &R, alloc: Global, row: &Row<'_>) -> Result<(), Fail> {
+    let (fails, want, table) = *row;
+    let (status, out, err) = answered(alloc, fails)?;
+    let wanted = (want, Some(table.as_bytes()), Some(b"".as_slice()));
     assert_eq!(rt;
         (status, out.taken(), err.taken()),
-        (want, Some(table.as_bytes()), Some(b"".as_slice())),
+        wanted,
         "where {fails:?} fail"
     );
     Ok(())
@@ -78,8 +107,8 @@ fn the_exit_status_is_that_of_the_answer(rt: HostRuntime) -> Result<(), Fail> {
     let mut out = MemSink::new(alloc, 64, 1, Calls::none(alloc))?;
     let mut err = MemSink::new(alloc, 64, 1, Calls::none(alloc))?;
     let words = texts_of(alloc, &["a.pgn", "1"])?;
-    let done = answer_command(alloc, Ok(words), &mut desk, &mut out, &mut err);
-    let lost = answer_command(alloc, Err(NoMemory), &mut desk, &mut out, &mut err);
+    let done = code_of(alloc, Ok(words), &mut desk, &mut out, &mut err);
+    let lost = code_of(alloc, Err(NoMemory), &mut desk, &mut out, &mut err);
     assert_eq!(&rt; (done, lost), (0, 7));
     Ok(())
 }
