@@ -1,5 +1,7 @@
 //! The top call, and what the tests give it.
-use cq_outside::{Desk, Gate, NoMemory, Sink, SureDesk};
+ghost use Rattle.std.specs.Prelude.{◌≤◌};
+
+use cq_outside::{Calls, Desk, Gate, MemSink, NoMemory, Sink, SureDesk};
 use cq_run::{Status, run};
 use std::alloc::{AllocError, Global};
 use std::thread::Threads;
@@ -32,6 +34,13 @@ pub(crate) fn desk_of(alloc: Global, files: &[(&str, &str)]) -> Result<SureDesk,
         desk.add(name.as_bytes(), bytes.as_bytes())?;
     }
     Ok(desk)
+}
+
+/// A sink that takes so many bytes a write, of which some fail.
+pub(crate) fn sink_with(alloc: Global, piece: usize, fails: &[u64]) -> Result<MemSink, NoMemory>
+    requires { 1 ≤ piece }
+{
+    MemSink::new(alloc, 4096, piece, Calls::of(alloc, fails)?)
 }
 
 /// How words are answered. The contract of the top call is a large one, so that all tests make this call alone.

@@ -1,5 +1,5 @@
 //! Failures of the outside: each run by 1 and by 4 workers, over a desk and sinks in memory.
-use crate::calls::{job_of, status_of};
+use crate::calls::{job_of, sink_with, status_of};
 use cq_outside::{Calls, MemDesk, MemSink, NoMemory, OpenGate};
 use cq_run::Status;
 use std::alloc::Global;
@@ -152,9 +152,14 @@ static ROWS: [Row<'static>; 18] = [
 
 // A desk with the query's file and an archive, which is standard input too.
 fn desk_with(alloc: Global, archive: &str, fails: Failing<'_>) -> Result<MemDesk, NoMemory> {
+    let files: [(&[u8], &[u8], &[u64]); 2] = [
+        (b"q.cql", QUERY, fails.1),
+        (b"-", archive.as_bytes(), fails.2),
+    ];
     let mut desk = MemDesk::new(alloc, Calls::of(alloc, fails.0)?);
-    desk.add(b"q.cql", QUERY, 65_536, fails.1)?;
-    desk.add(b"-", archive.as_bytes(), 65_536, fails.2)?;
+    for (name, bytes, reads) in files {
+        desk.add(name, bytes, 65_536, reads)?;
+    }
     Ok(desk)
 }
 
@@ -167,8 +172,8 @@ fn answered<R: Threads + Sync>(
 ) -> Result<(Status, MemSink, MemSink), Fail> {
     let (words, archive, fails, _) = *row;
     let mut desk = desk_with(alloc, archive, fails)?;
-    let mut out = MemSink::new(alloc, 4096, 1, Calls::of(alloc, fails.3)?)?;
-    let mut err = MemSink::new(alloc, 4096, 1, Calls::of(alloc, fails.4)?)?;
+    let mut out = sink_with(alloc, 1, fails.3)?;
+    let mut err = sink_with(alloc, 1, fails.4)?;
     let texts = job_of(alloc, words, workers)?;
     let texts = texts.as_slice();
     let status = status_of(rt, alloc, texts, &mut desk, &mut out, &mut err, &OpenGate);

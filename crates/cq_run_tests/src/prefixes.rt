@@ -1,6 +1,6 @@
 //! Calls of the outside that fail at each place in turn: the status is that of the cause, and each sink has taken all of its text, what
 //! the full batches before a failed read give, or a prefix.
-use crate::calls::{status_of, texts_of};
+use crate::calls::{sink_with, status_of, texts_of};
 use cq_outside::{Bytes, Calls, MemDesk, MemSink, NoMemory, OpenGate};
 use cq_run::Status;
 use std::alloc::Global;
@@ -83,8 +83,8 @@ fn answered<R: Threads + Sync + Abort>(
     assert!(rt; taken >= 1);
     let mut desk = MemDesk::new(alloc, Calls::none(alloc));
     desk.add(b"-", archive, given, &[read])?;
-    let mut out = MemSink::new(alloc, 1024, taken, Calls::of(alloc, &[at_out])?)?;
-    let mut err = MemSink::new(alloc, 1024, taken, Calls::of(alloc, &[at_err])?)?;
+    let mut out = sink_with(alloc, taken, &[at_out])?;
+    let mut err = sink_with(alloc, taken, &[at_err])?;
     let texts = texts_of(alloc, words)?;
     let words = texts.as_slice();
     let status = status_of(rt, alloc, words, &mut desk, &mut out, &mut err, &OpenGate);

@@ -135,7 +135,6 @@ static THEN_READ: [Option<usize>; 4] = [Some(2), None, Some(1), Some(0)];
 // A desk with a file whose second read fails, and whose second opening does.
 fn failing_desk(alloc: Global) -> Result<MemDesk, NoMemory> {
     let mut desk = MemDesk::new(alloc, Calls::of(alloc, &[2])?);
-    desk.add(b"a.pgn", b"none", 1, &[])?;
     desk.add(b"a.pgn", b"abc", 2, &[2])?;
     Ok(desk)
 }
