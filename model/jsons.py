@@ -36,6 +36,43 @@ TEXTS = [
     b"\xef\xbb\xbf",
     b"</script><!-- {",
 ]
+# A position, a move, and the position after it. The first three are examples of the PGN standard, 16.1.4; then both castle, a pawn is taken
+# in passing, a pawn takes a rook at home and becomes a knight, a rook leaves its home, and a king that steps keeps no right.
+PLAYED = [
+    ("rnbqkbnr/pppppppp/8/8/8/8/PPPPPPPP/RNBQKBNR w KQkq - 0 1", "e4", "rnbqkbnr/pppppppp/8/8/4P3/8/PPPP1PPP/RNBQKBNR b KQkq e3 0 1"),
+    (
+        "rnbqkbnr/pppppppp/8/8/4P3/8/PPPP1PPP/RNBQKBNR b KQkq e3 0 1",
+        "c5",
+        "rnbqkbnr/pp1ppppp/8/2p5/4P3/8/PPPP1PPP/RNBQKBNR w KQkq c6 0 2",
+    ),
+    (
+        "rnbqkbnr/pp1ppppp/8/2p5/4P3/8/PPPP1PPP/RNBQKBNR w KQkq c6 0 2",
+        "Nf3",
+        "rnbqkbnr/pp1ppppp/8/2p5/4P3/5N2/PPPP1PPP/RNBQKB1R b KQkq - 0 2",
+    ),
+    ("r3k2r/8/8/8/8/8/8/R3K2R w KQkq - 0 1", "O-O", "r3k2r/8/8/8/8/8/8/R4RK1 b kq - 0 1"),
+    ("r3k2r/8/8/8/8/8/8/R4RK1 b kq - 0 1", "O-O-O", "2kr3r/8/8/8/8/8/8/R4RK1 w - - 0 2"),
+    ("4k3/8/8/2ppP3/8/8/8/4K3 w - d6 0 2", "exd6", "4k3/8/3P4/2p5/8/8/8/4K3 b - - 0 2"),
+    ("r3k2r/6P1/8/8/8/8/8/4K3 w kq - 0 1", "gxh8=N", "r3k2N/8/8/8/8/8/8/4K3 b q - 0 1"),
+    ("r3k2r/8/8/8/8/8/8/4K3 b kq - 0 7", "Ra1", "4k2r/8/8/8/8/8/8/r3K3 w k - 0 8"),
+    ("4k3/8/8/8/8/8/8/R3K2R w KQ - 0 7", "Ke2", "4k3/8/8/8/8/8/4K3/R6R b - - 0 7"),
+    ("rnbqkbnr/pppppppp/8/8/4P3/8/PPPP1PPP/RNBQKBNR b KQkq e3 0 1", "--", "rnbqkbnr/pppppppp/8/8/4P3/8/PPPP1PPP/RNBQKBNR w KQkq - 0 2"),
+    ("8/8/8/8/8/8/8/K1k5 b - - 0 999999999", "Kd2", "8/8/8/8/8/8/3k4/K7 w - - 0 1000000000"),
+    ("r3k2r/1p6/8/2pP3p/8/P1P1P1P1/8/R3K2R w Kq c6 0 12", "dxc6", "r3k2r/1p6/2P5/7p/8/P1P1P1P1/8/R3K2R b Kq - 0 12"),
+]
+# A game with a tag that has to be escaped and is no UTF-8, comments, glyphs, a variation and a null move, behind another one; and its line.
+WORKED = (
+    b'* [White "a\\"b\xe9"] {at the start} 1. e4 $1 $3 {CQL} {x\xc3\xa9} (1. -- e5) 1... c5 1-0',
+    '{"game":2,"byte":2,"tags":[["White","a\\"b\u00e9"]],'
+    '"start":"rnbqkbnr/pppppppp/8/8/8/8/PPPPPPPP/RNBQKBNR w KQkq - 0 1",'
+    '"result":"1-0","comments":["at the start"],"nodes":['
+    '{"parent":0,"ply":1,"uci":"e2e4","san":"e4","nags":[1,3],'
+    '"comments":["CQL","x\u00e9"],'
+    '"fen":"rnbqkbnr/pppppppp/8/8/4P3/8/PPPP1PPP/RNBQKBNR b KQkq e3 0 1"},'
+    '{"parent":1,"ply":2,"uci":"c7c5","san":"c5"},'
+    '{"parent":0,"ply":1,"uci":"0000","san":"--"},'
+    '{"parent":3,"ply":2,"uci":"e7e5","san":"e5"}]}\n',
+)
 passed, failed = 0, 0
 
 
@@ -93,6 +130,18 @@ def lines():
             compare_lines(repr(archive), archive, mark)
 
 
+def played():
+    """a worked line, and the position after a move, at a node that is marked"""
+    archive, line = WORKED
+    compare("the model's worked line", b"".join(json_lines.answer(archive)[1].splitlines(True)[1:]), line.encode())
+    compare("a worked line", b"".join(asked(data=archive)[1].splitlines(True)[1:]), line.encode())
+    for before, move, after in PLAYED:
+        archive = b'[FEN "%s"]\n%s {CQL} *\n' % (before.encode(), move.encode())
+        compare_lines(f"{move} at {before}", archive)
+        game = json.loads(asked(data=archive)[1])
+        compare(f"{move} leads to", (game["start"], game["nodes"][0]["fen"]), (before, after))
+
+
 def drawn():
     fuzz.RANDOM.seed(SEED)
     for number in range(COUNT):
@@ -131,6 +180,7 @@ def long_games():
 
 
 lines()
+played()
 drawn()
 statuses()
 long_games()

@@ -52,6 +52,90 @@ def compare_table(name, archive, least):
     compare(f"{name} by {least}", asked("-", str(least), data=archive), (0, table(archive, least), b""))
 
 
+# Archives, and where each of their games begins and ends.
+CUTS = [
+    (b"", []),
+    (b" \r\n\t ", []),
+    (b"\xef\xbb\xbf", []),
+    (b'\xef\xbb\xbf[A "b"] *\n', [(3, 12)]),
+    (b"\xef\xbb*", [(0, 3)]),
+    (b"* * *", [(0, 1), (2, 3), (4, 5)]),
+    (b"*\n*", [(0, 1), (2, 3)]),
+    (b"1. e4 *1. d4 *", [(0, 7), (7, 14)]),
+    (b'1. e4\n\n[A "b"]\n1. d4 *', [(0, 7), (7, 22)]),
+    (b'1. e4\n [A "b"]\n*', [(0, 16)]),
+    (b'e4 {\n[A "b"]\n} *', [(0, 16)]),
+    (b'e4 "a\n[A "b"]\n*', [(0, 6), (6, 15)]),
+    (b'{c}\n[A "b"]\n[C "d"]\n*', [(0, 21)]),
+    (b']\n[A "b"]\n*', [(0, 11)]),
+    (b"e4 (d4 1-0 (*)) e5 0-1 x", [(0, 22), (23, 24)]),
+    (b'[1-0 "x"]', [(0, 4), (5, 9)]),
+    (b"e4 {*} ;1-0\n1/2-1/2", [(0, 19)]),
+    (b"1-0x 1-0", [(0, 8)]),
+    (b"* {a} ;b\n%c", [(0, 1)]),
+    (b"{a} *", [(0, 5)]),
+    (b"* {a", [(0, 1), (2, 4)]),
+    (b")) e4 * (e5 *) *", [(0, 7), (8, 16)]),
+    (b"1. e4 (1. d4\n ", [(0, 14)]),
+    (b'e4 [A\n[B "c"]\n*', [(0, 6), (6, 15)]),
+    (b"[( * ) *", [(0, 8)]),
+    (b'e4 ([1-0 "x"]) *', [(0, 16)]),
+    (b"%x\n*", [(0, 4)]),
+    (b"1.\n[a", [(0, 3), (3, 5)]),
+    (b"$1\n[a", [(0, 3), (3, 5)]),
+    (b"--\n[a", [(0, 3), (3, 5)]),
+    (b'"a"\n[b', [(0, 6)]),
+    (b"\xef*", [(0, 2)]),
+    (b"\xef", [(0, 1)]),
+    (b"\xef\xbb", [(0, 2)]),
+    (b"1/2-1/2*0-1", [(0, 7), (7, 8), (8, 11)]),
+    (b'"\\"*" $1!?--*', [(0, 13)]),
+    (b"1. e4 1-0x *", [(0, 12)]),
+]
+
+# An archive, the least number of bytes, and the table.
+WORKED = [
+    (b"", "1", b""),
+    (b"{ no game }\n", "1", b"1 0 12 1 0\n"),
+    (b"*", "1", b"1 0 1 1 1\n"),
+    (b"1. e4 *\n", "7", b"1 0 7 1 1\n2 7 1 2 0\n"),
+    (b"1. e4 *\n", "8", b"1 0 8 1 1\n"),
+    (b"1. e4 *\n1. d4 *\n1. c4 *", "8", b"1 0 15 1 2\n2 15 8 3 1\n"),
+    (b"1. e4 *1. d4 *", "7", b"1 0 7 1 1\n2 7 7 2 1\n"),
+    (b"* 1. d4 d5 2. c4 * *", "3", b"1 0 18 1 2\n2 18 2 3 1\n"),
+    (b"*\n*\n; the end\n% and no more", "2", b"1 0 3 1 2\n2 3 24 3 0\n"),
+    (b"* 1. e4", "1", b"1 0 1 1 1\n2 1 6 2 1\n"),
+]
+
+# Texts, how often each is repeated to give some 16 MiB, and how many games that has.
+LONG = [
+    (b"{", 16_777_216, 1),
+    (b"(", 16_777_216, 1),
+    (b'"x\n', 5_592_405, 1),
+    (b"1-", 8_388_608, 1),
+    (b'[Event "x"]\n\n1. e4 e5 2. Nf3 {the move} Nc6 $1 3. Bb5 a6!? 1-0\n\n', 262_144, 262_144),
+]
+
+
+def cuts():
+    """each game with what stands before it is a piece, and what comes after the last one is one too"""
+    for archive, games in CUTS:
+        compare(f"the model's cut of {archive}", [span[:2] for span in pgn.cut(archive)], games)
+        ends = [0, *(end for _, end in games)]
+        lines = [(begin, end - begin, first, 1) for first, (begin, end) in enumerate(zip(ends, ends[1:]), 1)]
+        if ends[-1] < len(archive):
+            lines.append((ends[-1], len(archive) - ends[-1], len(games) + 1, 0))
+        want = b"".join(b"%d %d %d %d %d\n" % (n, *line) for n, line in enumerate(lines, 1))
+        compare(f"{archive} game by game", asked("-", "1", data=archive), (0, want, b""))
+    for archive, least, want in WORKED:
+        compare(f"the model's table of {archive}", table(archive, int(least)), want)
+        compare(f"{archive} by {least}", asked("-", least, data=archive), (0, want, b""))
+    for text, times, games in LONG:
+        archive = text * times
+        want = b"1 0 %d 1 %d\n" % (len(archive), games)
+        compare(f"{times} times {text}", asked("-", str(1 << 40), data=archive), (0, want, b""))
+
+
 def tables():
     for name in sorted(os.listdir(os.path.join(TOP, "examples"))):
         if name.endswith(".pgn"):
@@ -85,6 +169,7 @@ def statuses():
     compare("a full device", (done.returncode, done.stderr), (6, b""))
 
 
+cuts()
 tables()
 statuses()
 print(f"{passed} passed, {failed} failed")

@@ -131,6 +131,9 @@ def failures(folder):
         compare("a full device takes no ok", process(["check", "q.cql"], folder=folder, stdout=full), (6, b"", b""))
         compare("a full device takes no refusal", process(["eval", "cql() echo"], stderr=full), (6, b"", b""))
         compare("a full device takes no usage line", process([], stderr=full), (6, b"", b""))
+    with open(os.path.join(folder, "a.pgn"), "rb") as unwritable:
+        took = process(["check", "q.cql"], folder=folder, stdout=unwritable)
+    compare("a file that is open for reading alone", took, (6, b"", b""))
     read_end, write_end = os.pipe()
     os.close(read_end)
     compare("a closed pipe", process(["eval", QUERY, "a.pgn"], folder=folder, stdout=write_end), (6, b"", b""))
@@ -303,6 +306,8 @@ def many_ends(folder):
         f.write(two)
     compare("a faulty game", many(folder, two, "faulty.pgn"), program.run_many(two, FAULTY))
     compare("an archive from a pipe", process(["many", "two.cql"], ARCHIVE, folder), whole)
+    ordered = process(["--limit", str(len(ARCHIVE)), "many", "two.cql", "--workers=64", "a.pgn"], folder=folder)
+    compare("words of many in another order", ordered, whole)
     compare("queries from a pipe", process(["many", "-", "a.pgn"], two, folder), whole)
     compare("no such file of queries", process(["many", "none.cql", "a.pgn"], folder=folder), (4, b"", b""))
     compare("no such archive", many(folder, two, "none.pgn"), (4, b"", b""))
@@ -323,6 +328,15 @@ def many_ends(folder):
         compare("two batches by %s workers" % workers, met, program.run_many(two, archive))
     for words in ([], ["a.pgn", "b.pgn", "c.pgn"], ["a.pgn", "--first"], ["a.pgn", "--seed", "1"], ["a.pgn", "--games", "1"]):
         compare("refused words of many %r" % words, process(["many", *words], folder=folder), (3, b"", program.USAGE))
+
+
+def most_places():
+    """a line of 64 parts, each of which may stand any number of times, over as many positions as a game may have: the longest row has 64"""
+    line = "(line" + " --> wtm* --> btm*" * 32 + ")"
+    knights = b"Nf3 Nf6 Ng1 Ng8 " * 16383 + b"Nf3 Nf6 Ng1 *"
+    for query, matched in (("cql() initial %s == 64", 1), ("cql() %s > 64", 0)):
+        status, out, err = process(["eval", query % line], knights)
+        compare("64 parts: " + query, (status, bool(out), err), (0, bool(matched), b"games 1 matched %d refused 0\n" % matched))
 
 
 def many_runs():
@@ -349,6 +363,7 @@ batches()
 as_it_is_read()
 first_matches()
 ends_before_its_writer()
+most_places()
 many_runs()
 print("%d passed, %d failed" % (passed, failed))
 sys.exit(1 if failed else 0)

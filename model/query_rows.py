@@ -74,6 +74,17 @@ SAID = [
     (b"cql(echo)", b"4: outside profile echo"),
     (b"cql() check or echo", b"15: outside profile echo"),
     (b"cql() line --> check{999999999}", b"6: line too long"),
+    # names that begin as designators do, and words that others begin with
+    (b"cql() bishop", b"6: unknown name bishop"),
+    (b"cql() a1b2", b"6: unknown name a1b2"),
+    (b"cql() Ra", b"6: unknown name Ra"),
+    (b"cql() Kab1", b"6: unknown name Kab1"),
+    (b"cql() moves", b"6: unknown name moves"),
+    (b"cql(input a//b.pgn) Ka1", b""),
+    (b'cql(output "x y") Ka1', b""),
+    (b"cql ( ) wtm", b""),
+    (b"//", b"2: unexpected end"),
+    (b"// a\r b", b"7: unexpected end"),
 ]
 
 # Texts of tokens that only begin a query: their fault, an unexpected end, is at their length.
@@ -245,6 +256,17 @@ FLAT = [
     (b"[Kk_][a-b1,d1,f1,h1]", b"[Kk_]:00000000000000ab"),
     (b"Aa1-8", b"[KQRBNP]:0101010101010101"),
     (b"070", b"70"),
+    # each designator is the longest of its form
+    (b"c3-6 a-h2 aa1", b"[KQRBNPkqrbnp_]:0000040404040000\n[KQRBNPkqrbnp_]:000000000000ff00\n[kqrbnp]:0000000000000001"),
+    (b"[KQ]a1 [a1,b2-3] K[a1,h8]", b"[KQ]:0000000000000001\n[KQRBNPkqrbnp_]:0000000000020201\n[K]:8000000000000001"),
+    (b"b _a2 .", b"[b]:ffffffffffffffff\n[_]:0000000000000100\n[KQRBNPkqrbnp_]:ffffffffffffffff"),
+    (b"ab1", b"[kqrbnp]:0000000000000002"),
+    (b"#c3-6-7", b"(- (# [KQRBNPkqrbnp_]:0000040404040000) 7)"),
+    (b"h-a8-1", b"[KQRBNPkqrbnp_]:ffffffffffffffff"),
+    (b"#a-b5", b"(# [KQRBNPkqrbnp_]:0000000300000000)"),
+    (b"line --> Pe4* --> Pe4+", b"(line --> (* [P]:0000000010000000) (+ [P]:0000000010000000))"),
+    (b"result 1-00", b"(result 1-0)\n0"),
+    (b"result // c\n *", b"(result *)"),
     (b"hascomment", b"hascomment"),
     (b'player "x"', b'(player "x")'),
     (b'player white "x"', b'(player white "x")'),

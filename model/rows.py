@@ -79,6 +79,134 @@ FOUND = [
     ("cql() up 2 P & n or K attackedby r", '[FEN "4k3/8/8/8/n7/8/P7/4K3 w - - 0 1"]\n*\n', "{CQL} *", "4k3/8/8/8/n7/8/P7/4K3 w - - 0 1"),
     ("cql() result 1-0 terminal", ITALIAN, "1. e4 e5 2. Bc4 Nc6 3. Qh5 Nf6 4. Qxf7# {CQL} 1-0"),
     ('cql(matchstring " ") mate', ITALIAN, "1. e4 e5 2. Bc4 Nc6 3. Qh5 Nf6 4. Qxf7# 1-0"),
+    # what a rook, a knight, a pawn, a king and an empty square attack, and which men attack squares
+    (
+        "cql() #(. attackedby Ra1) == 7 #([b-e1,a2-4] attackedby Ra1) == 7 #(. attackedby Nc2) == 6"
+        " #([a1,a3,b4,d-e1-3] attackedby Nc2) == 5 #([a1,a3,b4,d4,e1,e3] attackedby Nc2) == 6"
+        " #(. attackedby Pa4) == 1 b5 attackedby Pa4 #(. attackedby ke8) == 5 #([d8,f8,d-f7] attackedby ke8) == 5 #(. attackedby _b1) == 0",
+        '[FEN "4k3/8/8/8/P7/8/2N5/R3K3 b - - 0 1"]\n*\n',
+        "{CQL} *",
+        "4k3/8/8/8/P7/8/2N5/R3K3 b - - 0 1",
+    ),
+    (
+        "cql() #(. attacks e5) == 2 Pd4 attacks e5 Qe2 attacks e5 #(. attacks [d-e5]) == 3 Nc3 attacks d5 #(. attacks h8) == 0",
+        '[FEN "4k3/8/8/8/3P4/2N5/4Q3/4R1K1 b - - 0 1"]\n*\n',
+        "{CQL} *",
+        "4k3/8/8/8/3P4/2N5/4Q3/4R1K1 b - - 0 1",
+    ),
+    ("cql() check", '[FEN "4k3/8/8/8/8/8/8/4RK2 b - - 0 1"]\n*\n', "{CQL} *", "4k3/8/8/8/8/8/8/4RK2 b - - 0 1"),
+    # squares between others, on files, ranks and diagonals, and where there is none
+    (
+        "cql() #between(a1 h8) == 6 #between(h1 a8) == 6 #between(e1 e8) == 6 #between(e8 e1) == 6"
+        " #between(b1 c3) == 0 #between(b2 b2) == 0"
+        " #between([a1,h1] [a8,c1]) == 17",
+        OPENED,
+        "{CQL} 1. e4 {CQL} 1... e5 {CQL} 2. Nf3 {CQL} *",
+    ),
+    # steps in a direction, and off the board; light squares and dark ones
+    (
+        "cql() #(e8 & up 4 e4) == 1 #up 5 e4 == 0 #(h8 & northeast 7 a1) == 1 #(a8 & left 7 h8) == 1 #(e4 & down 0 e4) == 1",
+        OPENED,
+        "{CQL} 1. e4 {CQL} 1... e5 {CQL} 2. Nf3 {CQL} *",
+    ),
+    ("cql() #light [a1,h1,d1,e1,h8] == 2 light h1 light d1", OPENED, "{CQL} 1. e4 {CQL} 1... e5 {CQL} 2. Nf3 {CQL} *"),
+]
+
+# Positions, and whether they are a mate and a stalemate: check without mate, the shortest mate, a smothered mate, a stalemate in a corner,
+# and one with a pinned man.
+ENDS = [
+    ("4k3/8/8/8/8/8/8/4R1K1 b - - 0 1", False, False),
+    ("rnb1kbnr/pppp1ppp/8/4p3/6Pq/5P2/PPPPP2P/RNBQKBNR w KQkq - 1 3", True, False),
+    ("6rk/5Npp/8/8/8/8/8/6K1 b - - 0 1", True, False),
+    ("7k/5Q2/6K1/8/8/8/8/8 b - - 0 1", False, True),
+    ("kb5R/8/1K6/8/8/8/8/8 b - - 0 1", False, True),
+]
+
+# A game, its tags but the roster, of which each has its default, and its movetext, as they are written.
+EXPORTS = [
+    (
+        "1. e4 (1. d4 d5 (1... Nf6 2. c4 (2. Nf3)) 2. c4) (1. c4) e5 2. Nf3 *",
+        "",
+        "1. e4 (1. d4 d5 (1... Nf6 2. c4 (2. Nf3)) 2. c4) (1. c4) 1... e5 2. Nf3 *",
+    ),
+    ("1. e4 e5 (1... c5) 1/2-1/2", "", "1. e4 e5 (1... c5) 1/2-1/2"),
+    (
+        "{of the\n game} 1. e4 ({before} 1. d4 {own}) {after} e5 *",
+        "",
+        "{of the game} 1. e4 {after} (1. d4 {before} {own}) 1... e5 *",
+    ),
+    (
+        "1. e4! e5? 2. Nf3!! Nc6?? 3. Bb5!? a6?! 0-1",
+        "",
+        "1. e4 $1 1... e5 $2 2. Nf3 $3 2... Nc6 $4 3. Bb5 $5 3... a6 $6 0-1",
+    ),
+    ("1. e4 ; a } b\ne5 *", "", "1. e4 {a ) b} 1... e5 *"),
+    ("1. e4 (1. --) e5 2. Z0 *", "", "1. e4 (1. --) 1... e5 2. -- *"),
+    (
+        '[FEN "4k3/8/8/8/8/8/8/4K3 b - - 0 7"]\nKd8 8. Kd1 *',
+        '[FEN "4k3/8/8/8/8/8/8/4K3 b - - 0 7"]\n[SetUp "1"]\n',
+        "7... Kd8 8. Kd1 *",
+    ),
+    (
+        r'[SetUp "0"][Annotator "a \"b\" \\ c \d"] *',
+        '[Annotator "a \\"b\\" \\\\ c \\\\d"]\n[SetUp "0"]\n',
+        "*",
+    ),
+    ("1. e4 {" + "1234567890" * 20 + "} e5 *", "", "1. e4\n{" + "1234567890" * 20 + "}\n1... e5 *"),
+    ("{ } $3 1. f3 e5 2. g4 Qh4 0-1", "", "1. f3 e5 2. g4 Qh4# 0-1"),
+    ('[Event "?"] [Event "b"] {one  two\t} {\r\n} $14 *', "", "{one two} *"),
+]
+
+# A composite game with usual tags and clock comments, and how it is written.
+CLOCKS = (
+    '[Event "Rated blitz game"]\r\n[Site "https://lichess.org/abcd1234"]\r\n[Date "2023.05.14"]\r\n'
+    '[Round "-"]\r\n[White "M\u00fcller"]\r\n[Black "anna"]\r\n[Result "1-0"]\r\n[WhiteElo "1850"]\r\n'
+    '[BlackElo "1799"]\r\n[TimeControl "180+2"]\r\n\r\n'
+    "1. e4 { [%clk 0:03:00] } 1... e5 { [%clk 0:03:00] } 2. Qh5!? { [%clk 0:02:58] } 2... Nc6 "
+    "{ [%clk 0:02:57] } 3. Bc4 $1 { [%clk 0:02:55] } 3... Nf6?? { [%clk 0:02:51] } 4. Qxf7# "
+    "{ [%clk 0:02:54] } 1-0",
+    '[Event "Rated blitz game"]\n[Site "https://lichess.org/abcd1234"]\n[Date "2023.05.14"]\n'
+    '[Round "-"]\n[White "M\u00fcller"]\n[Black "anna"]\n[Result "1-0"]\n[BlackElo "1799"]\n'
+    '[TimeControl "180+2"]\n[WhiteElo "1850"]\n\n'
+    "1. e4 {[%clk 0:03:00]} 1... e5 {[%clk 0:03:00]} 2. Qh5 $5 {[%clk 0:02:58]} 2...\n"
+    "Nc6 {[%clk 0:02:57]} 3. Bc4 $1 {[%clk 0:02:55]} 3... Nf6 $4 {[%clk 0:02:51]} 4.\n"
+    "Qxf7# {[%clk 0:02:54]} 1-0\n\n",
+)
+
+# Positions with texts, and how the moves that these mean are written, or why they are refused: at the start, one piece of several, a pinned
+# man, castling, pawns, and a side in check, which can't pass.
+ILLEGAL, AMBIGUOUS, NO_MOVE = "illegal move", "ambiguous move", "not a move"
+START = "rnbqkbnr/pppppppp/8/8/8/8/PPPPPPPP/RNBQKBNR w KQkq - 0 1"
+MOVES = [
+    (
+        START,
+        [("e4", "e4"), ("Pe4", "e4"), ("e2e4", "e4"), ("Pe2xe4", "e4"), ("e4+#++", "e4"), ("b3", "b3"), ("Nf3", "Nf3"), ("Nxf3", "Nf3")]
+        + [("Ng1-f3", "Nf3"), ("--", "--"), ("Z0", "--"), ("0-0", ILLEGAL), ("1e4", ILLEGAL), ("Bb3", ILLEGAL), ("e4=Q", ILLEGAL)]
+        + [("x", NO_MOVE), ("e9", NO_MOVE), ("nf3", NO_MOVE), ("Z0#", NO_MOVE), ("O-O-O-O", NO_MOVE), ("O-0", NO_MOVE), ("ex4", NO_MOVE)],
+    ),
+    ("rnbqkb1r/ppp1pppp/5n2/3p4/3P4/5N2/PPP1PPPP/RNBQKB1R w KQkq - 2 3", [("Nd2", AMBIGUOUS), ("Nbd2", "Nbd2"), ("N3d2", "Nfd2")]),
+    ("4r2k/8/8/8/4N3/8/8/1N2K3 w - - 0 1", [("Nd2", "Nd2"), ("Nf2", ILLEGAL)]),
+    (
+        "6k1/8/8/8/Q6Q/8/8/Q3K3 w - - 0 1",
+        [("Qd4", AMBIGUOUS), ("Qad4", AMBIGUOUS), ("Q4d4", AMBIGUOUS), ("Qhd4", "Qhd4"), ("Q1d4", "Q1d4"), ("Qa4d4", "Qa4d4")],
+    ),
+    (
+        "r3k2r/8/8/8/8/8/8/R3K2R w KQkq - 0 1",
+        [("O-O", "O-O"), ("0-0+", "O-O"), ("O-O-O", "O-O-O"), ("0-0-0#", "O-O-O"), ("Kg1", ILLEGAL), ("Kf1", "Kf1")],
+    ),
+    ("r3k2r/8/8/8/8/8/8/R3K2R b KQkq - 0 1", [("0-0", "O-O"), ("O-O-O", "O-O-O")]),
+    (
+        "1r5k/P7/8/8/8/8/8/4K3 w - - 0 1",
+        [("a8=Q", "a8=Q"), ("a8N", "a8=N"), ("axb8=R+", "axb8=R+"), ("b8B", "axb8=B"), ("a8", ILLEGAL), ("a8=", NO_MOVE)]
+        + [("a8q", NO_MOVE), ("a8=K", NO_MOVE)],
+    ),
+    ("7k/P7/8/8/8/8/8/K7 w - - 0 1", [("a8Q", "a8=Q+")]),
+    ("4k3/8/8/2ppP3/8/8/8/4K3 w - d6 0 2", [("exd6", "exd6"), ("d6", "exd6"), ("exc6", ILLEGAL)]),
+    ("4k3/8/8/8/8/8/8/4R1K1 b - - 0 1", [("--", ILLEGAL), ("Z0", ILLEGAL), ("Kd7", "Kd7")]),
+    (
+        "r3k2r/8/8/3pP3/8/8/8/R3K2R w KQkq d6 0 1",
+        [("0-0", "O-O"), ("0-0-0", "O-O-O"), ("ed6", "exd6"), ("e6", "e6"), ("Rh1xh8", "Rxh8+"), ("Rf1", "Rf1")],
+    ),
 ]
 
 # The same with an archive of two games.
@@ -106,6 +234,8 @@ MISSED = [
     ("cql() line --> check{0}", OPENED),
     ("cql() line 3 2 --> wtm", OPENED),
     ("cql() move promote q", '[FEN "7k/P7/8/8/8/8/8/K7 w - - 0 1"]\n1. a8Q *'),
+    # each of 64 parts may stand any number of times, and each position needs the next one: the longest row from the start has 64
+    ("cql() initial not (line" + " --> wtm* --> btm*" * 32 + ") == 64", "Nf3 Nf6 Ng1 Ng8 " * 60 + "*"),
     ("cql() stalemate", ITALIAN),
     ("cql() result 1/2-1/2", ITALIAN),
     ("cql() initial parent initial", OPENED),
@@ -137,6 +267,22 @@ REPORTS = [
     ('[Event "x"]\n', 0, "games 1 matched 0 refused 0\n"),
     ("1. e4 Z0 2. d4 1/2-1/2", 0, "games 1 matched 0 refused 0\n"),
     ("\ufeff*", 0, "games 1 matched 0 refused 0\n"),
+    ('[FEN "8/8/8/8/8/8/8/K1k5 w - - 0 1"][FEN "x"] *', 0, "games 1 matched 0 refused 0\n"),
+    ("1. e4 -- 2. e5", 0, "games 1 matched 0 refused 0\n"),
+    ("[1-0", 1, "game 1 byte 4: bad tag\ngames 1 matched 0 refused 1\n"),
+    ('[a "b" $300', 1, "game 1 byte 7: bad tag\ngames 1 matched 0 refused 1\n"),
+    ("1. e4 e5 2. Bc5 zz (((", 1, "game 1 byte 12: illegal move\ngames 1 matched 0 refused 1\n"),
+    ("1. xyz", 1, "game 1 byte 3: not a move\ngames 1 matched 0 refused 1\n"),
+    ('[FEN "x"] *', 1, "game 1 byte 5: bad FEN\ngames 1 matched 0 refused 1\n"),
+    ("1. e4 ~", 1, "game 1 byte 6: bad byte\ngames 1 matched 0 refused 1\n"),
+    ('[FEN "4k3/8/8/8/8/8/4K3/R6R w - - 0 1"] 1. Rd1 *', 1, "game 1 byte 43: ambiguous move\ngames 1 matched 0 refused 1\n"),
+    # 100 levels of variations and one more, 65,536 positions and one more, 2^24 bytes and one more
+    ("1. e4 " + "(1. d4 " * 100 + ") " * 100 + "*", 0, "games 1 matched 0 refused 0\n"),
+    ("1. e4 " + "(1. d4 " * 101 + ") " * 101 + "*", 1, "game 1 byte 706: too deep\ngames 1 matched 0 refused 1\n"),
+    ("Nf3 Nf6 Ng1 Ng8 " * 16383 + "Nf3 Nf6 Ng1 *", 0, "games 1 matched 0 refused 0\n"),
+    ("Nf3 Nf6 Ng1 Ng8 " * 16384 + "*", 1, "game 1 byte 262140: too many positions\ngames 1 matched 0 refused 1\n"),
+    ("1. e4 {" + "x" * 16777206 + "} *", 0, "games 1 matched 0 refused 0\n"),
+    ("1. e4 {" + "x" * 16777207 + "} *", 1, "game 1 byte 16777216: game too long\ngames 1 matched 0 refused 1\n"),
 ]
 
 # A mode and a query over the archive `*`, and the status and the line that turn them away.
@@ -146,6 +292,9 @@ TURNED_AWAY = [
     ("explain", "-", 2, "query byte 0: unexpected token\n"),
     ("play", "cql() Ka1", 3, USAGE),
 ]
+
+# The greatest numbers that words may have, which are read before the query.
+GREATEST = ["--seed", "4294967295", "--games", "100000", "--workers", "64"]
 
 # Words that ask for a made archive, and the line that is written.
 MADE = [
@@ -157,6 +306,7 @@ MADE = [
     (["selfrun", "cql() check", "--games", "5", "--seed", "7"], "bytes 2211 games 5 matched 3 refused 0 written 1352\n"),
     (["selfrun", "cql(variations) variation check", "--games", "20"], "bytes 7518 games 20 matched 1 refused 0 written 314\n"),
     (["selfrun", "cql() mate"], "bytes 39477 games 100 matched 1 refused 0 written 545\n"),
+    (["selfrun", "cql() check", "--seed", "4294967295", "--games", "5"], "bytes 2799 games 5 matched 3 refused 0 written 1805\n"),
 ]
 
 # Words that are refused.
@@ -181,6 +331,32 @@ REFUSED = [
     ["selfrun", "cql() mate", "--seed", "4294967296"],
     ["selfrun", "cql() mate", "--games", "100001"],
     ["selfrun", "cql() mate", "-"],
+    ["-h"],
+    ["--version"],
+    ["many"],
+    ["many", "q", "a.pgn", "b"],
+    ["many", "q", "--first"],
+    ["many", "q", "--seed", "1"],
+    ["many", "q", "--games", "1"],
+    ["many", "q", "--workers", "65"],
+    ["eval", "q", "--workers"],
+    ["eval", "q", "--workers", "1", "--workers", "1"],
+    ["eval", "q", "--first=true"],
+    ["check", "q", "--limit", "2"],
+    ["run", "q", "--games", "1"],
+    ["selfrun", "q", "--limit", "3"],
+]
+
+# Words in other orders and forms, over the game `1. e4 *` as a.pgn and as standard input; of files q.cql and two.cql.
+ORDERED = [
+    ["run", "q.cql"],
+    ["run", "q.cql", "a.pgn"],
+    ["run", "q.cql", "--workers", "64", "a.pgn", "--limit", "8"],
+    ["run", "q.cql", "--limit", "8"],
+    ["--workers=1", "run", "q.cql", "--limit=1099511627776"],
+    ["run", "q.cql", "--first"],
+    ["--first", "run", "q.cql", "--workers", "2", "a.pgn", "--limit", "9"],
+    ["eval", "cql() initial"],
 ]
 
 # Three places, of a pawn, a rook and a pawn; and ten places of white men, of which some have as many of each man.
@@ -236,13 +412,16 @@ FIRST = [
 ]
 
 
+def written(tags, movetext):
+    """the export text of a game whose roster has its defaults, with the lines of its other tags"""
+    roster = ['Event "?"', 'Site "?"', 'Date "????.??.??"', 'Round "?"', 'White "?"', 'Black "?"']
+    roster.append('Result "%s"' % movetext.split()[-1])
+    return "".join("[%s]\n" % tag for tag in roster) + tags + "\n" + movetext + "\n\n"
+
+
 def exported(movetext, fen=None):
     """the export text of a game with no tags but its FEN"""
-    tags = ['Event "?"', 'Site "?"', 'Date "????.??.??"', 'Round "?"', 'White "?"', 'Black "?"']
-    tags.append('Result "%s"' % movetext.split()[-1])
-    if fen:
-        tags += ['FEN "%s"' % fen, 'SetUp "1"']
-    return "".join("[%s]\n" % tag for tag in tags) + "\n" + movetext + "\n\n"
+    return written('[FEN "%s"]\n[SetUp "1"]\n' % fen if fen else "", movetext)
 
 
 # ---- words, files by their names (`-` is standard input), and the status and both streams that are wanted
@@ -255,6 +434,10 @@ def archives():
             yield ["eval", query], {"-": archive}, want
     for query, archive in MISSED:
         yield ["eval", query], {"-": archive}, (0, "", "games 1 matched 0 refused 0\n")
+    for fen, *ends in ENDS:
+        for query, is_so in zip(("cql() mate", "cql() stalemate"), ends):
+            want = (0, exported("{CQL} *", fen) if is_so else "", "games 1 matched %d refused 0\n" % is_so)
+            yield ["eval", query], {"-": '[FEN "%s"]\n*\n' % fen}, want
     for archive, status, report in REPORTS:
         yield ["eval", "cql() Kb4"], {"-": archive}, (status, "", report)
     for query, fens, order in ORDERS:
@@ -263,9 +446,32 @@ def archives():
         yield ["eval", query], {"-": archive}, (0, "".join(exported("{CQL} *", fens[k]) for k in order), report)
 
 
+def exports():
+    """games as they are written without a mark, and what is written once more"""
+    rows = [(archive, written(tags, movetext)) for archive, tags, movetext in EXPORTS]
+    for archive, text in [*rows, CLOCKS]:
+        for given in (archive, text):
+            yield ["eval", 'cql(matchstring " ") initial'], {"-": given}, (0, text, "games 1 matched 1 refused 0\n")
+
+
+def moves():
+    """a move by its text at a position"""
+    for fen, texts in MOVES:
+        _, side, _, _, _, number = fen.split()
+        begin = '[FEN "%s"]\n' % fen
+        for text, move in texts:
+            if move in (ILLEGAL, AMBIGUOUS, NO_MOVE):
+                want = (1, "", "game 1 byte %d: %s\ngames 1 matched 0 refused 1\n" % (len(begin), move))
+            else:
+                movetext = "%s%s %s *" % (number, "." if side == "w" else "...", move)
+                want = (0, exported(movetext, fen), "games 1 matched 1 refused 0\n")
+            yield ["eval", 'cql(matchstring " ") initial'], {"-": begin + text + " *"}, want
+
+
 def words_and_files():
     for mode, query, status, line in TURNED_AWAY:
         yield [mode, query], {"-": "*"}, (status, "", line)
+    yield ["selfrun", "cql() echo", *GREATEST], {}, (2, "", "query byte 6: outside profile echo\n")
     for words, line in MADE:
         yield words, {"-": "*"}, (0, line, "")
     for words in REFUSED:
@@ -278,6 +484,9 @@ def words_and_files():
     yield ["run", "q.cql", "a.pgn"], files, found
     yield ["eval", "cql() Nf3", "a.pgn"], files, found
     yield ["run", "echo.cql", "a.pgn"], files, (2, "", "query byte 6: outside profile echo\n")
+    files = {"q.cql": "cql() initial", "a.pgn": "1. e4 *\n", "-": "1. e4 *\n"}
+    for words in ORDERED:
+        yield words, files, (0, exported("{CQL} 1. e4 *"), "games 1 matched 1 refused 0\n")
 
 
 def malicious(workers):
@@ -315,6 +524,8 @@ def queries():
 
 def rows():
     yield from archives()
+    yield from exports()
+    yield from moves()
     yield from words_and_files()
     for workers in ("1", "4"):
         yield from found_by(workers)
@@ -324,6 +535,8 @@ def rows():
 
 
 # ---- the answers
+
+OPTIONS = ("--workers", "--limit", "--seed", "--games")
 
 
 def by_program(binary, words, files):
@@ -338,15 +551,18 @@ def by_program(binary, words, files):
 
 def by_model(words, files):
     """the answer of the model, which reads neither words that are refused nor limits"""
-    mode, query, *more = words
+    asked, given = [], []
+    for before, word in zip(["", *words], words):
+        (given if word.startswith("--") or before in OPTIONS else asked).append(word)
+    mode, query, *names = asked
     text = query.encode() if mode in ("eval", "selfrun") else files.get(query, b"-")
-    options = {more[k]: more[k + 1] for k in range(len(more) - 1) if more[k].startswith("--")}
+    options = dict(zip(given, given[1:]))
     if mode == "selfrun":
         return program.run_selfrun(text, int(options.get("--seed", 1)), int(options.get("--games", 100)))
     if mode in ("check", "explain"):
         return (program.run_check if mode == "check" else program.run_explain)(text)
-    archive = files[more[0] if more and more[0] in files else "-"]
-    return program.run_eval(text, archive, first="--first" in more)
+    archive = files[names[0] if names else "-"]
+    return program.run_eval(text, archive, first="--first" in given)
 
 
 def as_bytes(text):

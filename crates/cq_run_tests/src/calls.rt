@@ -1,30 +1,10 @@
 //! The top call, and what the tests give it.
-use cq_outside::{Bytes, Desk, Gate, NoMemory, Sink, SureDesk};
+ghost use Rattle.std.specs.Prelude.{◌≤◌};
+
+use cq_outside::{Calls, Desk, Gate, MemSink, NoMemory, Sink, SureDesk};
 use cq_run::{Status, run};
 use std::alloc::{AllocError, Global};
 use std::thread::Threads;
-
-/// A game as it is written: its FEN text or none, its result and its movetext.
-pub(crate) type Written<'a> = (&'a str, &'a str, &'a str);
-
-/// The text of a game in export format, whose tags have their defaults.
-pub(crate) fn written(alloc: Global, game: Written<'_>) -> Result<Bytes, NoMemory> {
-    let (fen, result, movetext) = game;
-    let mut text = Bytes::new(alloc);
-    text.push_all(b"[Event \"?\"]\n[Site \"?\"]\n[Date \"????.??.??\"]\n[Round \"?\"]\n")?;
-    text.push_all(b"[White \"?\"]\n[Black \"?\"]\n[Result \"")?;
-    text.push_all(result.as_bytes())?;
-    text.push_all(b"\"]\n")?;
-    if !fen.is_empty() {
-        text.push_all(b"[FEN \"")?;
-        text.push_all(fen.as_bytes())?;
-        text.push_all(b"\"]\n[SetUp \"1\"]\n")?;
-    }
-    text.push_all(b"\n")?;
-    text.push_all(movetext.as_bytes())?;
-    text.push_all(b"\n\n")?;
-    Ok(text)
-}
 
 /// The words as a command has them.
 pub(crate) fn texts_of(alloc: Global, words: &[&str]) -> Result<Vec<String>, AllocError> {
@@ -54,6 +34,13 @@ pub(crate) fn desk_of(alloc: Global, files: &[(&str, &str)]) -> Result<SureDesk,
         desk.add(name.as_bytes(), bytes.as_bytes())?;
     }
     Ok(desk)
+}
+
+/// A sink that takes so many bytes a write, of which some fail.
+pub(crate) fn sink_with(alloc: Global, piece: usize, fails: &[u64]) -> Result<MemSink, NoMemory>
+    requires { 1 ≤ piece }
+{
+    MemSink::new(alloc, 4096, piece, Calls::of(alloc, fails)?)
 }
 
 /// How words are answered. The contract of the top call is a large one, so that all tests make this call alone.

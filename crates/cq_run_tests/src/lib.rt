@@ -1,4 +1,4 @@
-//! Tests of the top call: each mode once, workers at the gate, and failures of the outside.
+//! Tests of the top call: each mode once, workers at the gate, failures of the outside at each place, and what is left in a source.
 #![tactic(auto)]
 
 #[cfg(test)]
@@ -8,10 +8,10 @@ mod failing;
 #[cfg(test)]
 mod faults;
 #[cfg(test)]
-mod first_rows;
+mod modes;
 #[cfg(test)]
 mod prefixes;
 #[cfg(test)]
-mod rows;
+mod rest;
 #[cfg(test)]
 mod workers;

@@ -1,6 +1,6 @@
 //! Calls of the outside that fail at each place in turn: the status is that of the cause, and each sink has taken all of its text, what
 //! the full batches before a failed read give, or a prefix.
-use crate::calls::{status_of, texts_of, written};
+use crate::calls::{sink_with, status_of, texts_of};
 use cq_outside::{Bytes, Calls, MemDesk, MemSink, NoMemory, OpenGate};
 use cq_run::Status;
 use std::alloc::Global;
@@ -15,22 +15,170 @@ const MOST_CALLS: u64 = 8192;
 const PIECE: usize = 65_536;
 
 /// How many bytes of an archive fill its batches, and how many are due on the two sinks then.
-pub(crate) type Full = (usize, usize, usize);
+type Full = (usize, usize, usize);
 
-/// An archive that a query is asked over, and what it writes where nothing fails.
-#[derive(Drop)]
-pub(crate) struct Case {
-    pub(crate) words: Vec<String>,
-    pub(crate) archive: Bytes,
-    pub(crate) out: Bytes,
-    pub(crate) err: Bytes,
-    pub(crate) full: Vec<Full>,
+/// Words, and their answer over an archive where nothing fails: the status and the texts of both sinks; then its full batches.
+type Case<'a> = (&'a [&'a str], Status, &'a str, &'a str, &'a [Full]);
+
+/// How many bytes a read gives and a write takes at most, and the numbers of the calls that fail: of a read, and of a write to the first
+/// sink and to the second. No call has the number 0.
+type Run = (usize, usize, u64, u64, u64);
+
+// ---- one run
+
+// What is due on the two sinks once so many bytes were read, if the next read fails.
+fn due(full: &[Full], read: usize) -> (Option<usize>, Option<usize>) {
+    let mut due = (Some(0), Some(0));
+    for (bytes, out, err) in full {
+        if *bytes <= read {
+            due = (Some(*out), Some(*err));
+        }
+    }
+    due
 }
 
-/// The numbers of the calls that fail: of a read, and of a write to the first sink and to the second. No call has the number 0.
-pub(crate) type Failing = (u64, u64, u64);
+// How many bytes a sink has taken before the write that fails, where each write before took one. After it there is none.
+fn taken_before(number: u64, piece: usize) -> Option<usize> {
+    if piece == 1 && number > 0 {
+        Some((number - 1) as usize)
+    } else {
+        None
+    }
+}
 
-// ---- the archives
+// How many bytes the two sinks should have taken, None where any number may be; nothing where this status should not be.
+fn counts(case: &Case<'_>, run: &Run, status: Status) -> Option<(Option<usize>, Option<usize>)> {
+    let (_, whole, out, err, full) = *case;
+    let (given, taken, read, at_out, at_err) = *run;
+    if status == whole {
+        return Some((Some(out.len()), Some(err.len())));
+    }
+    if status == Status::ReadFault && read > 0 {
+        return Some(due(full, given.saturating_mul((read - 1) as usize)));
+    }
+    if status == Status::WriteFault && (at_out > 0 || at_err > 0) {
+        return Some((taken_before(at_out, taken), taken_before(at_err, taken)));
+    }
+    None
+}
+
+// Whether a sink has taken so many bytes of a text; where no number is asked for, any.
+fn is_part(taken: Option<&[u8]>, text: &str, count: Option<usize>) -> bool {
+    let Some(taken) = taken else {
+        return false;
+    };
+    text.as_bytes().starts_with(taken) && taken.len() == count.unwrap_or(taken.len())
+}
+
+// The status of a case in a run, and its sinks.
+fn answered<R: Threads + Sync + Abort>(
+    rt: &R,
+    alloc: Global,
+    words: &[&str],
+    archive: &[u8],
+    run: &Run,
+) -> Result<(Status, MemSink, MemSink), Fail> {
+    let (given, taken, read, at_out, at_err) = *run;
+    assert!(rt; given >= 1);
+    assert!(rt; taken >= 1);
+    let mut desk = MemDesk::new(alloc, Calls::none(alloc));
+    desk.add(b"-", archive, given, &[read])?;
+    let mut out = sink_with(alloc, taken, &[at_out])?;
+    let mut err = sink_with(alloc, taken, &[at_err])?;
+    let texts = texts_of(alloc, words)?;
+    let words = texts.as_slice();
+    let status = status_of(rt, alloc, words, &mut desk, &mut out, &mut err, &OpenGate);
+    Ok((status, out, err))
+}
+
+// Whether a case is answered as it should be in a run.
+fn is_right(
+    case: &Case<'_>,
+    run: &Run,
+    status: Status,
+    out: Option<&[u8]>,
+    err: Option<&[u8]>,
+) -> bool {
+    match counts(case, run, status) {
+        Some((outs, errs)) => is_part(out, case.2, outs) && is_part(err, case.3, errs),
+        None => false,
+    }
+}
+
+// Asks for this, and says whether a call failed.
+fn expect<R: Threads + Sync + Abort>(
+    rt: &R,
+    alloc: Global,
+    case: &Case<'_>,
+    archive: &[u8],
+    run: &Run,
+) -> Result<bool, Fail> {
+    let (status, out, err) = answered(rt, alloc, case.0, archive, run)?;
+    let right = is_right(case, run, status, out.taken(), err.taken());
+    assert!(rt; right, "{status:?} in {run:?}");
+    Ok(status != case.1)
+}
+
+// ---- one call after the other
+
+/// The calls that fail in turn.
+#[derive(Clone, Copy)]
+enum Failing {
+    Reads,
+    Outs,
+    Errs,
+}
+
+fn run_of(failing: Failing, piece: usize, number: u64) -> Run {
+    match failing {
+        Failing::Reads => (piece, PIECE, number, 0, 0),
+        Failing::Outs => (PIECE, piece, 0, number, 0),
+        Failing::Errs => (PIECE, piece, 0, 0, number),
+    }
+}
+
+/// Which calls fail, how many bytes one gives or takes at most, and the bits that the number of a call that fails hasn't: a read costs as
+/// much however little it gives, and a run over three batches answers some thousand games, so of many calls a part fails.
+type Turns = (Failing, usize, u64);
+
+// Lets calls fail in turn until none does; how many did.
+fn failed_in_turn<R: Threads + Sync + Abort>(
+    rt: &R,
+    alloc: Global,
+    case: &Case<'_>,
+    archive: &[u8],
+    turns: &Turns,
+) -> Result<u64, Fail> {
+    let (failing, piece, passed) = *turns;
+    let mut count = 0u64;
+    for number in 1..MOST_CALLS {
+        if number & passed == 0 {
+            let run = run_of(failing, piece, number);
+            if !expect(rt, alloc, case, archive, &run)? {
+                return Ok(count);
+            }
+            count = count.saturating_add(1);
+        }
+    }
+    Ok(0)
+}
+
+// Asks that calls fail in turn, up to a run in which none does.
+fn expect_turns<R: Threads + Sync + Abort>(
+    rt: &R,
+    alloc: Global,
+    case: &Case<'_>,
+    archive: &[u8],
+    turns: &[Turns],
+) -> Result<(), Fail> {
+    for turn in turns {
+        let count = failed_in_turn(rt, alloc, case, archive, turn)?;
+        assert!(rt; count > 0, "in pieces of {} bytes", turn.1);
+    }
+    Ok(())
+}
+
+// ---- one game
 
 /// A game as a server writes it.
 const SERVED: &str = "\u{feff}[Event \"Rated blitz game\"]\r\n\
@@ -64,282 +212,184 @@ const SERVED_EXPORT: &str = "[Event \"Rated blitz game\"]\n\
     Qxf7# {[%clk 0:02:54]} {mate} 1-0\n\
     \n";
 
-fn one_game(alloc: Global) -> Result<Case, NoMemory> {
-    let query = "cql(matchstring \"mate\") mate year == 2023 elo white > 1800";
-    Ok(Case {
-        words: texts_of(alloc, &["eval", query, "--workers", "1"])?,
-        archive: Bytes::from_slice(alloc, SERVED.as_bytes())?,
-        out: Bytes::from_slice(alloc, SERVED_EXPORT.as_bytes())?,
-        err: Bytes::from_slice(alloc, b"games 1 matched 1 refused 0\n")?,
-        full: Vec::new(alloc),
-    })
+const SERVED_QUERY: &str = "cql(matchstring \"mate\") mate year == 2023 elo white > 1800";
+
+static ONE_GAME: Case<'static> = (
+    &["eval", SERVED_QUERY, "--workers", "1"],
+    Status::Done,
+    SERVED_EXPORT,
+    "games 1 matched 1 refused 0\n",
+    &[],
+);
+
+static TURNS_OF_ONE: [Turns; 9] = [
+    (Failing::Outs, 1, 0),
+    (Failing::Errs, 1, 0),
+    (Failing::Outs, 7, 0),
+    (Failing::Errs, 7, 0),
+    (Failing::Outs, 4096, 0),
+    (Failing::Errs, 4096, 0),
+    (Failing::Reads, 1, 31),
+    (Failing::Reads, 7, 3),
+    (Failing::Reads, 4096, 0),
+];
+
+#[test]
+fn each_call_over_one_game_fails(rt: HostRuntime) -> Result<(), Fail> {
+    let archive = SERVED.as_bytes();
+    expect_turns(&rt, rt.alloc(), &ONE_GAME, archive, &TURNS_OF_ONE)
 }
 
-/// A place of two kings, and the game that begins there.
-const KINGS: &str = "8/8/8/8/8/8/8/K1k5 w - - 0 1";
-
-const KINGS_GAME: &[u8] = b"[FEN \"8/8/8/8/8/8/8/K1k5 w - - 0 1\"]\n*\n";
+// ---- three batches
 
 // Of two full batches of games and one game more, four match and two are refused.
 fn game_at(number: u32) -> &'static [u8] {
     match number {
-        0 | 1023 | 1024 | 2048 => KINGS_GAME,
+        0 | 1023 | 1024 | 2048 => b"[FEN \"8/8/8/8/8/8/8/K1k5 w - - 0 1\"]\n*\n",
         700 | 1500 => b"Ke3 *\n",
         _ => b"*\n",
     }
 }
 
-fn three_batches(alloc: Global) -> Result<Case, NoMemory> {
+fn three_batches(alloc: Global) -> Result<Bytes, NoMemory> {
     let mut archive = Bytes::new(alloc);
     for number in 0..2049 {
         archive.push_all(game_at(number))?;
     }
-    let export = written(alloc, (KINGS, "*", "{CQL} *"))?;
-    let mut out = Bytes::new(alloc);
-    for _ in 0..4 {
-        out.push_all(export.as_slice())?;
-    }
-    let mut err = Bytes::from_slice(alloc, b"game 701 byte 1437: illegal move\n")?;
-    err.push_all(b"game 1501 byte 3115: illegal move\n")?;
-    err.push_all(b"games 2049 matched 4 refused 2\n")?;
-    Ok(Case {
-        words: texts_of(alloc, &["eval", "cql() Ka1", "--workers", "1"])?,
-        archive,
-        out,
-        err,
-        full: Vec::from_slice(alloc, &[(2125, 302, 33), (4214, 453, 67)])?,
-    })
+    Ok(archive)
 }
 
-// ---- one run
+const FOUR_EXPORTS: &str = "\
+    [Event \"?\"]\n[Site \"?\"]\n[Date \"????.??.??\"]\n[Round \"?\"]\n[White \"?\"]\n[Black \"?\"]\n\
+    [Result \"*\"]\n[FEN \"8/8/8/8/8/8/8/K1k5 w - - 0 1\"]\n[SetUp \"1\"]\n\n{CQL} *\n\n\
+    [Event \"?\"]\n[Site \"?\"]\n[Date \"????.??.??\"]\n[Round \"?\"]\n[White \"?\"]\n[Black \"?\"]\n\
+    [Result \"*\"]\n[FEN \"8/8/8/8/8/8/8/K1k5 w - - 0 1\"]\n[SetUp \"1\"]\n\n{CQL} *\n\n\
+    [Event \"?\"]\n[Site \"?\"]\n[Date \"????.??.??\"]\n[Round \"?\"]\n[White \"?\"]\n[Black \"?\"]\n\
+    [Result \"*\"]\n[FEN \"8/8/8/8/8/8/8/K1k5 w - - 0 1\"]\n[SetUp \"1\"]\n\n{CQL} *\n\n\
+    [Event \"?\"]\n[Site \"?\"]\n[Date \"????.??.??\"]\n[Round \"?\"]\n[White \"?\"]\n[Black \"?\"]\n\
+    [Result \"*\"]\n[FEN \"8/8/8/8/8/8/8/K1k5 w - - 0 1\"]\n[SetUp \"1\"]\n\n{CQL} *\n\n";
 
-/// The status of a case where these calls fail, and its sinks. A read gives and a write takes at most so many bytes.
-pub(crate) fn answered<R: Threads + Sync + Abort>(
+static THREE_BATCHES: Case<'static> = (
+    &["eval", "cql() Ka1", "--workers", "1"],
+    Status::DoneWithRefusals,
+    FOUR_EXPORTS,
+    "game 701 byte 1437: illegal move\ngame 1501 byte 3115: illegal move\ngames 2049 matched 4 refused 2\n",
+    &[(2125, 302, 33), (4214, 453, 67)],
+);
+
+static TURNS_OF_THREE: [Turns; 9] = [
+    (Failing::Outs, 1, 15),
+    (Failing::Errs, 1, 15),
+    (Failing::Outs, 7, 3),
+    (Failing::Errs, 7, 3),
+    (Failing::Outs, 4096, 0),
+    (Failing::Errs, 4096, 0),
+    (Failing::Reads, 1, 2047),
+    (Failing::Reads, 7, 31),
+    (Failing::Reads, 4096, 0),
+];
+
+/// The first read gives so many bytes, after which a batch is just not full yet, or is; the second fails.
+static AT_FULL: [Run; 4] = [
+    (2124, PIECE, 2, 0, 0),
+    (2125, PIECE, 2, 0, 0),
+    (4213, PIECE, 2, 0, 0),
+    (4214, PIECE, 2, 0, 0),
+];
+
+#[test]
+fn calls_over_three_batches_fail(rt: HostRuntime) -> Result<(), Fail> {
+    let archive = three_batches(rt.alloc())?;
+    let archive = archive.as_slice();
+    expect_turns(&rt, rt.alloc(), &THREE_BATCHES, archive, &TURNS_OF_THREE)?;
+    for run in AT_FULL.iter() {
+        assert!(rt; expect(&rt, rt.alloc(), &THREE_BATCHES, archive, run)?);
+    }
+    Ok(())
+}
+
+// ---- up to the first match
+
+/// How many games there are, which of them matches, counted from 1, whether the read that fails is made, and the case.
+type First<'a> = (u64, u64, bool, Case<'a>);
+
+const FAULT: &str = "game 2 byte 11: illegal move\n";
+
+const FOUND: &str = "game 2 byte 11: illegal move\ngames 1024 matched 1 refused 1\n";
+
+const EXPORT: &str = "\
+    [Event \"?\"]\n[Site \"?\"]\n[Date \"????.??.??\"]\n[Round \"?\"]\n[White \"?\"]\n[Black \"?\"]\n\
+    [Result \"*\"]\n\n1. d4 {CQL} *\n\n";
+
+const ONE: &[&str] = &["eval", "cql() Pd4", "--first", "--workers", "1"];
+
+const FOUR: &[&str] = &["eval", "cql() Pd4", "--first", "--workers", "4"];
+
+/// The first read gives a full batch of 1,024 games, and the second fails.
+const SECOND: Run = (8192, 8192, 2, 0, 0);
+
+/// Where the first batch has no match, its fault is due.
+const DUE: &[Full] = &[(8192, 0, 29)];
+
+static FIRSTS: [First<'static>; 4] = [
+    (
+        1025,
+        1024,
+        false,
+        (ONE, Status::DoneWithRefusals, EXPORT, FOUND, DUE),
+    ),
+    (
+        1025,
+        1024,
+        false,
+        (FOUR, Status::DoneWithRefusals, EXPORT, FOUND, DUE),
+    ),
+    (
+        2048,
+        1025,
+        true,
+        (ONE, Status::DoneWithRefusals, EXPORT, FAULT, DUE),
+    ),
+    (
+        2048,
+        1025,
+        true,
+        (FOUR, Status::DoneWithRefusals, EXPORT, FAULT, DUE),
+    ),
+];
+
+// An archive of so many games of eight bytes, of which the second is faulty, and one matches.
+fn archive_of(alloc: Global, games: u64, first: u64) -> Result<Bytes, NoMemory> {
+    let mut archive = Bytes::new(alloc);
+    for number in 1..games.saturating_add(1) {
+        let game = if number == 2 {
+            b"1. e5 *\n"
+        } else if number == first {
+            b"1. d4 *\n"
+        } else {
+            b"1. e4 *\n"
+        };
+        archive.push_all(game)?;
+    }
+    Ok(archive)
+}
+
+fn expect_first<R: Threads + Sync + Abort>(
     rt: &R,
     alloc: Global,
-    case: &Case,
-    pieces: (usize, usize),
-    fails: Failing,
-) -> Result<(Status, MemSink, MemSink), Fail> {
-    let (given, taken) = pieces;
-    assert!(rt; given >= 1);
-    assert!(rt; taken >= 1);
-    let (reads, outs, errs) = fails;
-    let mut desk = MemDesk::new(alloc, Calls::none(alloc));
-    desk.add(b"-", case.archive.as_slice(), given, &[reads])?;
-    let mut out = MemSink::new(alloc, 1024, taken, Calls::of(alloc, &[outs])?)?;
-    let mut err = MemSink::new(alloc, 1024, taken, Calls::of(alloc, &[errs])?)?;
-    let words = case.words.as_slice();
-    let status = status_of(rt, alloc, words, &mut desk, &mut out, &mut err, &OpenGate);
-    Ok((status, out, err))
-}
-
-// The status of a case where nothing fails.
-fn whole_status(case: &Case) -> Status {
-    if case.full.is_empty() {
-        Status::Done
-    } else {
-        Status::DoneWithRefusals
-    }
-}
-
-// Whether a sink has taken so many bytes of a text; where no number is asked for, any.
-fn is_part(sink: &MemSink, text: &Bytes, count: Option<usize>) -> bool {
-    let Some(taken) = sink.taken() else {
-        return false;
-    };
-    let right = match count {
-        Some(count) => taken.len() == count,
-        None => true,
-    };
-    right && text.as_slice().starts_with(taken)
-}
-
-/// Asks that a run has this status, and that so many bytes are taken.
-pub(crate) fn expect<R: Threads + Sync + Abort>(
-    rt: &R,
-    case: &Case,
-    ran: &(Status, MemSink, MemSink),
-    status: Status,
-    counts: (Option<usize>, Option<usize>),
+    row: &First<'_>,
 ) -> Result<(), Fail> {
-    let (found, out, err) = ran;
-    let right = (
-        is_part(out, &case.out, counts.0),
-        is_part(err, &case.err, counts.1),
-    );
-    assert_eq!(rt;
-        (*found, right),
-        (status, (true, true)),
-        "with {counts:?} bytes"
-    );
-    Ok(())
-}
-
-// How many bytes a sink has taken before the write that fails, where each write before took one. After it there is none.
-fn taken_before(number: u64, piece: usize) -> Option<usize> {
-    if piece == 1 && number > 0 {
-        Some((number - 1) as usize)
-    } else {
-        None
-    }
-}
-
-// Asks that a run is right in which a write may fail, and says whether one did.
-fn expect_prefixes<R: Threads + Sync + Abort>(
-    rt: &R,
-    alloc: Global,
-    case: &Case,
-    piece: usize,
-    fails: Failing,
-) -> Result<bool, Fail> {
-    let ran = answered(rt, alloc, case, (PIECE, piece), fails)?;
-    let failed = ran.0 == Status::WriteFault;
-    if failed {
-        let counts = (taken_before(fails.1, piece), taken_before(fails.2, piece));
-        expect(rt, case, &ran, Status::WriteFault, counts)?;
-    } else {
-        let all = (Some(case.out.len()), Some(case.err.len()));
-        expect(rt, case, &ran, whole_status(case), all)?;
-    }
-    Ok(failed)
-}
-
-// What is due on the two sinks once so many bytes were read, if the next read fails.
-fn due(full: &[Full], read: usize) -> (Option<usize>, Option<usize>) {
-    let mut due = (Some(0), Some(0));
-    for (bytes, out, err) in full {
-        if *bytes <= read {
-            due = (Some(*out), Some(*err));
-        }
-    }
-    due
-}
-
-// Asks that a run is right in which a read may fail after so many bytes, and says whether one did.
-fn expect_batches<R: Threads + Sync + Abort>(
-    rt: &R,
-    alloc: Global,
-    case: &Case,
-    piece: usize,
-    number: u64,
-    read: usize,
-) -> Result<bool, Fail> {
-    let ran = answered(rt, alloc, case, (piece, PIECE), (number, 0, 0))?;
-    let failed = ran.0 == Status::ReadFault;
-    if failed {
-        let counts = due(case.full.as_slice(), read);
-        expect(rt, case, &ran, Status::ReadFault, counts)?;
-    } else {
-        let all = (Some(case.out.len()), Some(case.err.len()));
-        expect(rt, case, &ran, whole_status(case), all)?;
-    }
-    Ok(failed)
-}
-
-// ---- one call after the other
-
-// The calls that fail where a write with this number does.
-fn failing_write(number: u64, at_err: bool) -> Failing {
-    if at_err {
-        (0, 0, number)
-    } else {
-        (0, number, 0)
-    }
-}
-
-// Lets each write to a sink fail in turn whose number has none of the bits of `passed`.
-fn fail_writes<R: Threads + Sync + Abort>(
-    rt: &R,
-    alloc: Global,
-    case: &Case,
-    piece: usize,
-    passed: u64,
-    at_err: bool,
-) -> Result<(), Fail> {
-    for number in 1..MOST_CALLS {
-        let fails = failing_write(number, at_err);
-        if number & passed == 0 && !expect_prefixes(rt, alloc, case, piece, fails)? {
-            return Ok(());
-        }
-    }
-    assert!(rt; false, "a write fails in each run");
-    Ok(())
-}
-
-// Lets each read fail in turn whose number has none of the bits of `passed`.
-fn fail_reads<R: Threads + Sync + Abort>(
-    rt: &R,
-    alloc: Global,
-    case: &Case,
-    piece: usize,
-    passed: u64,
-) -> Result<(), Fail> {
-    let mut read = 0;
-    for number in 1..MOST_CALLS {
-        if number & passed == 0 && !expect_batches(rt, alloc, case, piece, number, read)? {
-            return Ok(());
-        }
-        read = case.archive.len().min(read.saturating_add(piece));
-    }
-    assert!(rt; false, "a read fails in each run");
+    let (games, first, fails, case) = *row;
+    let archive = archive_of(alloc, games, first)?;
+    let failed = expect(rt, alloc, &case, archive.as_slice(), &SECOND)?;
+    assert_eq!(rt; failed, fails, "of {games} games");
     Ok(())
 }
 
 #[test]
-fn each_write_of_one_game_fails(rt: HostRuntime) -> Result<(), Fail> {
-    let alloc = rt.alloc();
-    let case = one_game(alloc)?;
-    for piece in [1, 7, 4096] {
-        fail_writes(&rt, alloc, &case, piece, 0, false)?;
-        fail_writes(&rt, alloc, &case, piece, 0, true)?;
-    }
-    Ok(())
-}
-
-/// How many bytes a call gives or takes at most, and the bits that the number of a call that fails hasn't: a read costs as much however
-/// little it gives, and a run over three batches answers some thousand games, so of many calls a part fails.
-type Part = (usize, u64);
-
-const READS_OF_ONE: [Part; 3] = [(1, 31), (7, 3), (4096, 0)];
-
-#[test]
-fn reads_of_one_game_fail(rt: HostRuntime) -> Result<(), Fail> {
-    let alloc = rt.alloc();
-    let case = one_game(alloc)?;
-    for (piece, passed) in READS_OF_ONE {
-        fail_reads(&rt, alloc, &case, piece, passed)?;
-    }
-    Ok(())
-}
-
-const WRITES_OF_THREE: [Part; 3] = [(1, 15), (7, 3), (4096, 0)];
-
-#[test]
-fn writes_of_three_batches_fail(rt: HostRuntime) -> Result<(), Fail> {
-    let alloc = rt.alloc();
-    let case = three_batches(alloc)?;
-    for (piece, passed) in WRITES_OF_THREE {
-        fail_writes(&rt, alloc, &case, piece, passed, false)?;
-        fail_writes(&rt, alloc, &case, piece, passed, true)?;
-    }
-    Ok(())
-}
-
-const READS_OF_THREE: [Part; 3] = [(1, 2047), (7, 31), (4096, 0)];
-
-/// How many bytes the first read gives, after which a batch is just not full yet, or is.
-const AT_FULL: [usize; 4] = [2124, 2125, 4213, 4214];
-
-#[test]
-fn reads_of_three_batches_fail(rt: HostRuntime) -> Result<(), Fail> {
-    let alloc = rt.alloc();
-    let case = three_batches(alloc)?;
-    for (piece, passed) in READS_OF_THREE {
-        fail_reads(&rt, alloc, &case, piece, passed)?;
-    }
-    for piece in AT_FULL {
-        expect_batches(&rt, alloc, &case, piece, 2, piece)?;
+fn no_read_is_made_behind_the_first_match(rt: HostRuntime) -> Result<(), Fail> {
+    for row in FIRSTS.iter() {
+        expect_first(&rt, rt.alloc(), row)?;
     }
     Ok(())
 }

@@ -136,17 +136,10 @@ fn expect<R: Threads + Sync + Abort>(
 }
 
 #[test]
-fn two_workers_enter_games_of_each_job(rt: HostRuntime) -> Result<(), Fail> {
-    for job in JOBS.iter() {
-        expect(&rt, rt.alloc(), job, "2", 2)?;
-    }
-    Ok(())
-}
-
-#[test]
-fn one_worker_enters_all_games_of_each_job(rt: HostRuntime) -> Result<(), Fail> {
+fn all_workers_enter_games_of_each_job(rt: HostRuntime) -> Result<(), Fail> {
     for job in JOBS.iter() {
         expect(&rt, rt.alloc(), job, "1", 1)?;
+        expect(&rt, rt.alloc(), job, "2", 2)?;
     }
     Ok(())
 }

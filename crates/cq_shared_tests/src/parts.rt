@@ -145,12 +145,13 @@ fn expect<R: Abort>(rt: &R, alloc: Global, row: &Row<'_>) -> Result<(), Fail> {
     let verdicts = found(alloc, &plan, &game)?;
     let count = plan.len();
     assert!(rt; count >= 1);
-    let said = (count as usize, plan.parts());
-    assert_eq!(rt; said, (texts.len(), *parts), "of {texts:?}");
-    let said = (verdicts.nodes(0), verdicts.keys(0));
-    assert_eq!(rt; said, *first, "the first of {texts:?}");
-    let said = (verdicts.nodes(count - 1), verdicts.keys(count - 1));
-    assert_eq!(rt; said, *last, "the last of {texts:?}");
+    let found_first = (verdicts.nodes(0), verdicts.keys(0));
+    let found_last = (verdicts.nodes(count - 1), verdicts.keys(count - 1));
+    assert_eq!(rt;
+        (count as usize, plan.parts(), found_first, found_last),
+        (texts.len(), *parts, *first, *last),
+        "of {texts:?}"
+    );
     Ok(())
 }
 
@@ -159,15 +160,5 @@ fn several_queries_have_their_parts_hits_and_keys(rt: HostRuntime) -> Result<(),
     for row in ROWS.iter() {
         expect(&rt, rt.alloc(), row)?;
     }
-    Ok(())
-}
-
-#[test]
-fn a_plan_has_its_queries(rt: HostRuntime) -> Result<(), Fail> {
-    let plan = plan_of(&rt, rt.alloc(), &[WTM, COMMENTS])?;
-    assert!(rt; plan.len() == 2);
-    let first = plan.query(0).query.items.len();
-    let second = plan.query(1).query.items.len();
-    assert_eq!(rt; (first, second), (1, 2));
     Ok(())
 }

@@ -1,11 +1,11 @@
-//! Several queries by one and by several workers.
+//! Several queries by two workers at a gate.
 ghost use Rattle.std.specs.Prelude.{◌≡◌, ◌≤◌, length, IfOk};
 ghost use Rattle.cq_shared.specs.Plans.{queries_of};
 ghost use Rattle.cq_shards.specs.Many.{answers_in};
 
 use crate::parts::plan_of;
-use cq_outside::{Bytes, Gate, NoMemory, OpenGate};
-use cq_shards::{Answer, Batch, GameAnswer, ManyAnswers, in_order, run_many};
+use cq_outside::{Bytes, Gate, NoMemory};
+use cq_shards::{Batch, ManyAnswers, run_many};
 use cq_shared::SharedPlan;
 use pgn_cut::cut_whole;
 use std::alloc::Global;
@@ -14,18 +14,9 @@ use std::sync::atomic::{AtomicU32, Ordering};
 use std::test::Fail;
 use std::thread::Threads;
 
-/// A query, and one that has another mark and sorts the games.
-const QUERIES: [&[u8]; 2] = [b"cql() Pd4", b"cql(matchstring \"X\") wtm sort \"p\" ply"];
-
-/// A faulty game among three others.
-const ARCHIVE: &[u8] = b"1. d4 *\n1. e5 *\n1. e4 *\n1. d4 d5 *\n";
-
-// The text of a game in export format whose tags have their defaults; nothing where it has no movetext.
+// The text of a game in export format whose tags have their defaults.
 fn export_of(alloc: Global, movetext: &[u8]) -> Result<Bytes, NoMemory> {
     let mut text = Bytes::new(alloc);
-    if movetext.is_empty() {
-        return Ok(text);
-    }
     text.push_all(b"[Event \"?\"]\n[Site \"?\"]\n[Date \"????.??.??\"]\n[Round \"?\"]\n")?;
     text.push_all(b"[White \"?\"]\n[Black \"?\"]\n[Result \"*\"]\n\n")?;
     text.push_all(movetext)?;
@@ -54,72 +45,6 @@ fn answered<R: Threads + Sync, G: Gate + Sync>(
 {
     run_many(rt, alloc, plan, batch, workers, gate)
 }
-
-/// An answer: the byte of a fault, the movetext that is written, and the keys.
-type Told<'a> = (Option<u64>, &'a [u8], &'a [i64]);
-
-static TOLD: [[Told<'static>; 4]; 2] = [
-    [
-        (None, b"1. d4 {CQL} *", &[]),
-        (Some(11), b"", &[]),
-        (None, b"", &[]),
-        (None, b"1. d4 {CQL} 1... d5 {CQL} *", &[]),
-    ],
-    [
-        (None, b"{X} 1. d4 *", &[0]),
-        (Some(11), b"", &[]),
-        (None, b"{X} 1. e4 *", &[0]),
-        (None, b"{X} 1. d4 d5 {X} *", &[2]),
-    ],
-];
-
-// Asks that the answer of a game is told so.
-fn expect_told<R: Abort>(
-    rt: &R,
-    alloc: Global,
-    answer: &GameAnswer,
-    want: &(u64, &Told<'_>),
-) -> Result<(), Fail> {
-    let (fault, keys): (Option<u64>, &[i64]) = match &answer.what {
-        Answer::Refused(fault) => (Some(fault.byte), &[]),
-        Answer::Miss => (None, &[]),
-        Answer::Match { keys, .. } => (None, keys.as_slice()),
-    };
-    let (index, told) = want;
-    let text = export_of(alloc, told.1)?;
-    assert_eq!(rt;
-        (answer.index, fault, answer.text(), keys),
-        (*index, told.0, text.as_slice(), told.2)
-    );
-    Ok(())
-}
-
-fn expect<R: Threads + Sync + Abort>(rt: &R, alloc: Global, workers: u32) -> Result<(), Fail> {
-    assert!(rt; (1..=64).contains(&workers));
-    let plan = plan_of(rt, alloc, &QUERIES)?;
-    assert!(rt; plan.len() == 2);
-    let batch = batch_of(rt, alloc, ARCHIVE)?;
-    let mut many = answered(rt, alloc, &plan, &batch, workers, &OpenGate)?;
-    let lists = [many.take(0), many.take(1)];
-    assert_eq!(rt; (many.take(0).len(), many.take(1).len()), (0, 0));
-    for (answers, wanted) in lists.into_iter().zip(TOLD.iter()) {
-        let answers = in_order(alloc, answers)?;
-        assert_eq!(rt; answers.len(), 4);
-        for (index, told) in wanted.iter().enumerate() {
-            let answer = answers.get(index).expect(rt, "an answer");
-            expect_told(rt, alloc, answer, &(index as u64, told))?;
-        }
-    }
-    Ok(())
-}
-
-#[test]
-fn each_query_has_its_answers_once(rt: HostRuntime) -> Result<(), Fail> {
-    expect(&rt, rt.alloc(), 1)?;
-    expect(&rt, rt.alloc(), 4)
-}
-
-// ---- two workers at a gate
 
 /// How many games the batch has at which two workers are watched.
 const WATCHED: u32 = 64;
@@ -212,7 +137,11 @@ fn the_first_querys_export_is_told(rt: HostRuntime) -> Result<(), Fail> {
     let enters = watch.enters.load(Ordering::Relaxed);
     let leaves = watch.leaves.load(Ordering::Relaxed);
     let wrong = watch.wrong.load(Ordering::Relaxed);
-    assert_eq!(rt; (many.take(0).len(), many.take(1).len()), (64, 64));
-    assert_eq!(rt; (enters, leaves, wrong), (64, 64, 0));
+    let taken = (many.take(0).len(), many.take(1).len());
+    let again = (many.take(0).len(), many.take(1).len());
+    assert_eq!(rt;
+        (taken, again, enters, leaves, wrong),
+        ((64, 64), (0, 0), 64, 64, 0)
+    );
     Ok(())
 }

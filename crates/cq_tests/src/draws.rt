@@ -1,29 +1,35 @@
 //! Draws in turn, and by many threads.
-ghost use Rattle.std.specs.Prelude.{◌≡◌, All, length};
+ghost use Rattle.std.specs.Prelude.{◌≡◌, All, IfSome, length};
 ghost use Rattle.cq_board.specs.Seats.{IsSeatOf, HasEnded};
 
 use cq_board::{Board, ClaimSeat};
 use cq_outside::NoMemory;
+use std::process::Abort;
 use std::sync::atomic::{AtomicU32, Ordering};
 use std::thread;
 use std::thread::Threads;
 
-fn is_shared<T: Send + Sync>() {}
-
-fn is_sent<T: Send>() {}
+// Asks that a seat draws this.
+fn expect<R: Abort>(rt: &R, board: &Board, seat: &mut ClaimSeat, want: Option<u64>)
+    requires seat { IsSeatOf board.now seat.old }
+    requires open { HasEnded seat.old → ⊥ }
+    ensures seat { IsSeatOf board.now seat.new }
+    ensures open { IfSome want (λ _. HasEnded seat.new → ⊥) }
+{
+    let drawn = board.claim(seat);
+    assert!(rt; drawn == want);
+}
 
 #[test]
 fn two_seats_draw_in_turn(rt: HostRuntime) -> Result<(), NoMemory> {
-    is_shared::<Board>();
-    is_sent::<ClaimSeat>();
     let (board, mut seats) = Board::make(rt.alloc(), 3, 2)?;
     let mut second = seats.pop().unwrap();
     let mut first = seats.pop().unwrap();
-    assert_eq!(rt; board.claim(&mut first), Some(0));
-    assert_eq!(rt; board.claim(&mut second), Some(1));
-    assert_eq!(rt; board.claim(&mut first), Some(2));
-    assert_eq!(rt; board.claim(&mut first), None);
-    assert_eq!(rt; board.claim(&mut second), None);
+    expect(&rt, &board, &mut first, Some(0));
+    expect(&rt, &board, &mut second, Some(1));
+    expect(&rt, &board, &mut first, Some(2));
+    expect(&rt, &board, &mut first, None);
+    expect(&rt, &board, &mut second, None);
     seats.push(first)?;
     seats.push(second)?;
     assert_eq!(rt; board.close(seats), Ok(5));
@@ -34,7 +40,7 @@ fn two_seats_draw_in_turn(rt: HostRuntime) -> Result<(), NoMemory> {
 fn a_board_of_no_numbers(rt: HostRuntime) -> Result<(), NoMemory> {
     let (board, mut seats) = Board::make(rt.alloc(), 0, 1)?;
     let mut seat = seats.pop().unwrap();
-    assert_eq!(rt; board.claim(&mut seat), None);
+    expect(&rt, &board, &mut seat, None);
     seats.push(seat)?;
     assert_eq!(rt; board.close(seats), Ok(1));
     Ok(())

@@ -12,36 +12,19 @@ const NUMBERS: u64 = 40_000;
 
 const EACH: u64 = 10_000;
 
-fn is_shared<T: Send + Sync>() {}
-
-fn is_sent<T: Send>() {}
-
 #[test]
 fn two_seats_look_and_lower_in_turn(rt: HostRuntime) -> Result<(), NoMemory> {
-    is_shared::<FirstBoard>();
-    is_sent::<FirstSeat>();
     let (board, mut seats) = FirstBoard::make(rt.alloc(), 5, 2)?;
     let mut second = seats.pop().unwrap();
     let mut first = seats.pop().unwrap();
-    assert_eq!(rt; board.look(&mut first, 4), false);
+    let before = board.look(&mut first, 4);
     board.lower(&mut second, 3);
-    assert_eq!(rt; board.look(&mut first, 3), false);
-    assert_eq!(rt; board.look(&mut first, 4), true);
+    let after = board.look(&mut first, 4);
     board.lower(&mut first, 1);
     board.lower(&mut second, 2);
     seats.push(first)?;
     seats.push(second)?;
-    assert_eq!(rt; board.close(seats), Ok(1));
-    Ok(())
-}
-
-#[test]
-fn nothing_is_found(rt: HostRuntime) -> Result<(), NoMemory> {
-    let (board, mut seats) = FirstBoard::make(rt.alloc(), 1, 1)?;
-    let mut seat = seats.pop().unwrap();
-    assert_eq!(rt; board.look(&mut seat, 0), false);
-    seats.push(seat)?;
-    assert_eq!(rt; board.close(seats), Ok(1));
+    assert_eq!(rt; (before, after, board.close(seats)), (false, true, Ok(1)));
     Ok(())
 }
 

@@ -1,15 +1,9 @@
-//! Tokens of texts from outside, and calls that find memory.
-use cq_outside::is_white;
+//! Tokens of texts from outside.
 use pgn_lexer::TokenKind::{
     BadByte, Close, Comment, LeftParen, LineComment, Nag, Null, Open, Period, RightParen, Star,
     Symbol, Text, UnclosedComment, UnclosedText,
 };
-use pgn_lexer::{
-    LexemeKind, Reading, Token, TokenKind, fronts_settle, lexemes_are_local, lexemes_are_spelled,
-    lexemes_follow, lexemes_move, lexemes_stand_apart, longest_reading, next_lexeme,
-    readings_are_longest, readings_grow, tokens, tokens_stand_apart, white_space_is_passed,
-    whole_lexemes_stay,
-};
+use pgn_lexer::{TokenKind, tokens};
 use std::alloc::Global;
 use std::process::Abort;
 use std::test::Fail;
@@ -139,76 +133,5 @@ fn texts_have_their_tokens(rt: HostRuntime) -> Result<(), Fail> {
     for (text, want) in ROWS.iter() {
         has_tokens(&rt, rt.alloc(), text, want)?;
     }
-    Ok(())
-}
-
-// What a byte alone is: how many tokens, and whether it begins a symbol or no token.
-fn alone(alloc: Global, b: u8) -> Result<(usize, bool, bool), Fail> {
-    let found = tokens(alloc, &[b], 0, false)?;
-    let token = found.first().filter(|token| token.len == 1);
-    let kind = token.map(|token| token.kind);
-    Ok((found.len(), kind == Some(Symbol), kind == Some(BadByte)))
-}
-
-#[test]
-fn each_byte_alone_is_one_token_or_white_space(rt: HostRuntime) -> Result<(), Fail> {
-    let known = b"[]().*\"{;!?";
-    for b in 0..=255u8 {
-        let white = matches!(b, 9 | 10 | 11 | 12 | 13 | 32);
-        let symbol = matches!(b, b'0'..=b'9' | b'A'..=b'Z' | b'a'..=b'z');
-        let bad = !white && !symbol && !known.contains(&b);
-        let count = if white { 0 } else { 1 };
-        let told = (is_white(b), alone(rt.alloc(), b)?);
-        assert_eq!(rt; told, (white, (count, symbol, bad)), "at {b}");
-    }
-    Ok(())
-}
-
-#[test]
-fn laws_of_lexemes_are_called() {
-    lexemes_stand_apart();
-    lexemes_are_local();
-    readings_are_longest();
-    readings_grow();
-    lexemes_follow();
-    fronts_settle();
-    lexemes_are_spelled();
-    tokens_stand_apart();
-    white_space_is_passed();
-    lexemes_move();
-    whole_lexemes_stay();
-}
-
-/// A place, and the place, the kind and the text of the first lexeme from there on in `  %a\n%b c`.
-static LEXEMES: [(usize, (usize, LexemeKind, &[u8])); 2] = [
-    (0, (2, LexemeKind::Token(BadByte), b"%")),
-    (4, (5, LexemeKind::EscapeLine, b"%b c")),
-];
-
-#[test]
-fn readings_and_lexemes_are_found(rt: HostRuntime) {
-    let escape = Reading {
-        kind: LexemeKind::EscapeLine,
-        len: 3,
-    };
-    assert_eq!(rt; longest_reading(b'%', b"ab\nc", true), escape);
-    assert_eq!(rt; longest_reading(b'%', b"ab\nc", false).len, 1);
-    for (start, want) in LEXEMES.iter() {
-        let lexeme = next_lexeme(b"  %a\n%b c", *start, true).expect(&rt, "a lexeme");
-        assert_eq!(rt; (lexeme.at, lexeme.kind, lexeme.text), *want);
-    }
-    assert!(rt; next_lexeme(b"e4  ", 2, true).is_none());
-}
-
-// What workers share may be sent to them and read by them.
-fn may_be_shared<T: Send + Sync + Drop>(_value: T) {}
-
-#[test]
-fn tokens_may_be_shared(rt: HostRuntime) -> Result<(), Fail> {
-    let found = tokens(rt.alloc(), b"e4", 0, true)?;
-    for token in found.iter() {
-        may_be_shared(*token);
-    }
-    may_be_shared(longest_reading(b'*', b"", true));
     Ok(())
 }

@@ -1,22 +1,17 @@
-//! Tests of the crates of chess and of PGN, and of those that know neither: worked rows, vectors from outside, and each public call once.
+//! Tests of the crates of chess and of PGN, and of those that know neither: vectors from outside, what no process shows, calls of the outside
+//! that fail, and threads beside each other.
 #![tactic(auto)]
 
 #[cfg(test)]
-mod attacks;
-#[cfg(test)]
-mod bits;
+mod calls;
 #[cfg(test)]
 mod cuts;
 #[cfg(test)]
 mod draws;
 #[cfg(test)]
-mod export;
-#[cfg(test)]
 mod fen;
 #[cfg(test)]
 mod finds;
-#[cfg(test)]
-mod geometry;
 #[cfg(test)]
 mod lexer;
 #[cfg(test)]
@@ -26,14 +21,10 @@ mod men;
 #[cfg(test)]
 mod moves;
 #[cfg(test)]
-mod next_position;
-#[cfg(test)]
 mod outside;
-#[cfg(test)]
-mod reader;
 #[cfg(test)]
 mod san;
 #[cfg(test)]
-mod tree;
+mod sent;
 #[cfg(test)]
-mod words;
+mod trees;

@@ -1,5 +1,6 @@
-use cq_geometry::square_at;
-use cq_moves::{is_legal, is_mate, is_stalemate, legal_moves, pass, play};
+//! Lines of legal moves, counted, and the first move at the start.
+use cq_geometry::Square;
+use cq_moves::{is_legal, legal_moves, play};
 use cq_position::{Move, Position, Promotion, read_fen};
 use std::test::Fail;
 
@@ -58,47 +59,15 @@ fn lines_are_as_many_as_published(rt: HostRuntime) -> Result<(), Fail> {
     Ok(())
 }
 
+// From b1 to a3.
 #[test]
-fn the_first_move_at_the_start(rt: HostRuntime) -> Result<(), Fail> {
+fn the_first_move_at_the_start(rt: HostRuntime) {
     let moves = legal_moves(&Position::start());
     let first = Move {
-        from: square_at(1, 0),
-        to: square_at(0, 2),
+        from: Square::new(1),
+        to: Square::new(16),
         promotion: Promotion::None,
         null: false,
     };
     assert_eq!(rt; moves.as_slice().first(), Some(&first));
-    Ok(())
-}
-
-#[test]
-fn a_side_passes_where_it_is_not_in_check(rt: HostRuntime) -> Result<(), Fail> {
-    let played = read_fen(b"rnbqkbnr/pppppppp/8/8/4P3/8/PPPP1PPP/RNBQKBNR b KQkq e3 0 1")?;
-    let passed = read_fen(b"rnbqkbnr/pppppppp/8/8/4P3/8/PPPP1PPP/RNBQKBNR w KQkq - 0 2")?;
-    assert_eq!(rt; pass(&played), Some(passed));
-    assert_eq!(rt; pass(&read_fen(b"4k3/8/8/8/8/8/8/4R1K1 b - - 0 1")?), None);
-    Ok(())
-}
-
-// Check without mate, the shortest mate, a smothered mate, a stalemate in the corner, and one with a pinned man.
-static ENDS: [(&[u8], bool, bool); 5] = [
-    (b"4k3/8/8/8/8/8/8/4R1K1 b - - 0 1", false, false),
-    (
-        b"rnb1kbnr/pppp1ppp/8/4p3/6Pq/5P2/PPPPP2P/RNBQKBNR w KQkq - 1 3",
-        true,
-        false,
-    ),
-    (b"6rk/5Npp/8/8/8/8/8/6K1 b - - 0 1", true, false),
-    (b"7k/5Q2/6K1/8/8/8/8/8 b - - 0 1", false, true),
-    (b"kb5R/8/1K6/8/8/8/8/8 b - - 0 1", false, true),
-];
-
-#[test]
-fn mate_and_stalemate(rt: HostRuntime) -> Result<(), Fail> {
-    for (fen, mate, stalemate) in ENDS.iter() {
-        let position = read_fen(fen)?;
-        let ends = (is_mate(&position), is_stalemate(&position));
-        assert_eq!(rt; ends, (*mate, *stalemate), "in {fen:?}");
-    }
-    Ok(())
 }

@@ -1,14 +1,105 @@
-use arrayvec::ArrayString;
+//! Texts that are read as moves, and why a text is no move.
 use cq_geometry::{file, rank};
-use cq_position::{Move, Position, Promotion, read_fen};
-use cq_san::{SanFault, read_san, san_text};
+use cq_position::{Move, Promotion, read_fen};
+use cq_san::{SanFault, read_san};
 use std::process::Abort;
 use std::test::Fail;
 
-/// A text, and the move that it means or its fault.
-type Text<'a> = (&'a [u8], Result<[u8; 5], SanFault>);
+/// A position, a text, and the move that it means there, by its squares and the letter of its promotion, or its fault.
+type Row<'a> = (&'a [u8], &'a [u8], Result<[u8; 5], SanFault>);
+
+const NO_MOVE: Result<[u8; 5], SanFault> = Err(SanFault::NotAMove);
+
+const ILLEGAL: Result<[u8; 5], SanFault> = Err(SanFault::IllegalMove);
+
+const AMBIGUOUS: Result<[u8; 5], SanFault> = Err(SanFault::AmbiguousMove);
 
 const START: &[u8] = b"rnbqkbnr/pppppppp/8/8/8/8/PPPPPPPP/RNBQKBNR w KQkq - 0 1";
+
+/// After 1. d4 d5 2. Nf3 Nf6, and where one of two knights is pinned.
+const KNIGHTS: &[u8] = b"rnbqkb1r/ppp1pppp/5n2/3p4/3P4/5N2/PPP1PPPP/RNBQKB1R w KQkq - 2 3";
+
+const PINNED: &[u8] = b"4r2k/8/8/8/4N3/8/8/1N2K3 w - - 0 1";
+
+const QUEENS: &[u8] = b"6k1/8/8/8/Q6Q/8/8/Q3K3 w - - 0 1";
+
+const CASTLING: &[u8] = b"r3k2r/8/8/8/8/8/8/R3K2R w KQkq - 0 1";
+
+const PROMOTING: &[u8] = b"1r5k/P7/8/8/8/8/8/4K3 w - - 0 1";
+
+const PASSANT: &[u8] = b"4k3/8/8/2ppP3/8/8/8/4K3 w - d6 0 2";
+
+const CHECKED: &[u8] = b"4k3/8/8/8/8/8/8/4R1K1 b - - 0 1";
+
+static ROWS: [Row<'static>; 59] = [
+    (START, b"e4", Ok(*b"e2e4 ")),
+    (START, b"Pe4", Ok(*b"e2e4 ")),
+    (START, b"e2e4", Ok(*b"e2e4 ")),
+    (START, b"Pe2xe4", Ok(*b"e2e4 ")),
+    (START, b"e4+#++", Ok(*b"e2e4 ")),
+    (START, b"b3", Ok(*b"b2b3 ")),
+    (START, b"Nf3", Ok(*b"g1f3 ")),
+    (START, b"Nxf3", Ok(*b"g1f3 ")),
+    (START, b"Ng1-f3", Ok(*b"g1f3 ")),
+    (START, b"--", Ok(*b"null ")),
+    (START, b"Z0", Ok(*b"null ")),
+    (START, b"0-0", ILLEGAL),
+    (START, b"1e4", ILLEGAL),
+    (START, b"Bb3", ILLEGAL),
+    (START, b"e4=Q", ILLEGAL),
+    (START, b"x", NO_MOVE),
+    (START, b"", NO_MOVE),
+    (START, b"+", NO_MOVE),
+    (START, b"e4 ", NO_MOVE),
+    (START, b"e9", NO_MOVE),
+    (START, b"nf3", NO_MOVE),
+    (START, b"--+", NO_MOVE),
+    (START, b"Z0#", NO_MOVE),
+    (START, b"O-O-O-O", NO_MOVE),
+    (START, b"O-0", NO_MOVE),
+    (START, b"ex4", NO_MOVE),
+    (KNIGHTS, b"Nd2", AMBIGUOUS),
+    (KNIGHTS, b"Nbd2", Ok(*b"b1d2 ")),
+    (KNIGHTS, b"N3d2", Ok(*b"f3d2 ")),
+    (PINNED, b"Nd2", Ok(*b"b1d2 ")),
+    (PINNED, b"Nf2", ILLEGAL),
+    (QUEENS, b"Qd4", AMBIGUOUS),
+    (QUEENS, b"Qad4", AMBIGUOUS),
+    (QUEENS, b"Q4d4", AMBIGUOUS),
+    (QUEENS, b"Qhd4", Ok(*b"h4d4 ")),
+    (QUEENS, b"Q1d4", Ok(*b"a1d4 ")),
+    (QUEENS, b"Qa4d4", Ok(*b"a4d4 ")),
+    (CASTLING, b"O-O", Ok(*b"e1g1 ")),
+    (CASTLING, b"0-0+", Ok(*b"e1g1 ")),
+    (CASTLING, b"O-O-O", Ok(*b"e1c1 ")),
+    (CASTLING, b"0-0-0#", Ok(*b"e1c1 ")),
+    (CASTLING, b"Kg1", ILLEGAL),
+    (CASTLING, b"Kf1", Ok(*b"e1f1 ")),
+    (
+        b"r3k2r/8/8/8/8/8/8/R3K2R b KQkq - 0 1",
+        b"0-0",
+        Ok(*b"e8g8 "),
+    ),
+    (
+        b"r3k2r/8/8/8/8/8/8/R3K2R b KQkq - 0 1",
+        b"O-O-O",
+        Ok(*b"e8c8 "),
+    ),
+    (PROMOTING, b"a8=Q", Ok(*b"a7a8Q")),
+    (PROMOTING, b"a8N", Ok(*b"a7a8N")),
+    (PROMOTING, b"axb8=R+", Ok(*b"a7b8R")),
+    (PROMOTING, b"b8B", Ok(*b"a7b8B")),
+    (PROMOTING, b"a8", ILLEGAL),
+    (PROMOTING, b"a8=", NO_MOVE),
+    (PROMOTING, b"a8q", NO_MOVE),
+    (PROMOTING, b"a8=K", NO_MOVE),
+    (PASSANT, b"exd6", Ok(*b"e5d6 ")),
+    (PASSANT, b"d6", Ok(*b"e5d6 ")),
+    (PASSANT, b"exc6", ILLEGAL),
+    (CHECKED, b"--", ILLEGAL),
+    (CHECKED, b"Z0", ILLEGAL),
+    (CHECKED, b"Kd7", Ok(*b"e8d7 ")),
+];
 
 // The move by its squares and the letter of its promotion.
 fn coordinates(m: Move) -> [u8; 5] {
@@ -31,170 +122,18 @@ fn coordinates(m: Move) -> [u8; 5] {
     ]
 }
 
-/// Positions with texts: those at the start, one piece of several, castling, pawns, and a side in check, which can't pass.
-static READ: [(&[u8], &[Text<'static>]); 9] = [
-    (
-        START,
-        &[
-            (b"e4", Ok(*b"e2e4 ")),
-            (b"Pe4", Ok(*b"e2e4 ")),
-            (b"e2e4", Ok(*b"e2e4 ")),
-            (b"Pe2xe4", Ok(*b"e2e4 ")),
-            (b"e4+#++", Ok(*b"e2e4 ")),
-            (b"b3", Ok(*b"b2b3 ")),
-            (b"Nf3", Ok(*b"g1f3 ")),
-            (b"Nxf3", Ok(*b"g1f3 ")),
-            (b"Ng1-f3", Ok(*b"g1f3 ")),
-            (b"--", Ok(*b"null ")),
-            (b"Z0", Ok(*b"null ")),
-            (b"0-0", Err(SanFault::IllegalMove)),
-            (b"1e4", Err(SanFault::IllegalMove)),
-            (b"Bb3", Err(SanFault::IllegalMove)),
-            (b"e4=Q", Err(SanFault::IllegalMove)),
-            (b"x", Err(SanFault::NotAMove)),
-            (b"", Err(SanFault::NotAMove)),
-            (b"+", Err(SanFault::NotAMove)),
-            (b"e9", Err(SanFault::NotAMove)),
-            (b"nf3", Err(SanFault::NotAMove)),
-            (b"--+", Err(SanFault::NotAMove)),
-            (b"Z0#", Err(SanFault::NotAMove)),
-            (b"O-O-O-O", Err(SanFault::NotAMove)),
-            (b"O-0", Err(SanFault::NotAMove)),
-            (b"ex4", Err(SanFault::NotAMove)),
-        ],
-    ),
-    // After 1. d4 d5 2. Nf3 Nf6.
-    (
-        b"rnbqkb1r/ppp1pppp/5n2/3p4/3P4/5N2/PPP1PPPP/RNBQKB1R w KQkq - 2 3",
-        &[
-            (b"Nd2", Err(SanFault::AmbiguousMove)),
-            (b"Nbd2", Ok(*b"b1d2 ")),
-            (b"N3d2", Ok(*b"f3d2 ")),
-        ],
-    ),
-    // The knight on e4 is pinned.
-    (
-        b"4r2k/8/8/8/4N3/8/8/1N2K3 w - - 0 1",
-        &[
-            (b"Nd2", Ok(*b"b1d2 ")),
-            (b"Nf2", Err(SanFault::IllegalMove)),
-        ],
-    ),
-    (
-        b"6k1/8/8/8/Q6Q/8/8/Q3K3 w - - 0 1",
-        &[
-            (b"Qd4", Err(SanFault::AmbiguousMove)),
-            (b"Qad4", Err(SanFault::AmbiguousMove)),
-            (b"Q4d4", Err(SanFault::AmbiguousMove)),
-            (b"Qhd4", Ok(*b"h4d4 ")),
-            (b"Q1d4", Ok(*b"a1d4 ")),
-            (b"Qa4d4", Ok(*b"a4d4 ")),
-        ],
-    ),
-    (
-        b"r3k2r/8/8/8/8/8/8/R3K2R w KQkq - 0 1",
-        &[
-            (b"O-O", Ok(*b"e1g1 ")),
-            (b"0-0+", Ok(*b"e1g1 ")),
-            (b"O-O-O", Ok(*b"e1c1 ")),
-            (b"0-0-0#", Ok(*b"e1c1 ")),
-            (b"Kg1", Err(SanFault::IllegalMove)),
-            (b"Kf1", Ok(*b"e1f1 ")),
-        ],
-    ),
-    (
-        b"r3k2r/8/8/8/8/8/8/R3K2R b KQkq - 0 1",
-        &[(b"0-0", Ok(*b"e8g8 ")), (b"O-O-O", Ok(*b"e8c8 "))],
-    ),
-    (
-        b"1r5k/P7/8/8/8/8/8/4K3 w - - 0 1",
-        &[
-            (b"a8=Q", Ok(*b"a7a8Q")),
-            (b"a8N", Ok(*b"a7a8N")),
-            (b"axb8=R+", Ok(*b"a7b8R")),
-            (b"b8B", Ok(*b"a7b8B")),
-            (b"a8", Err(SanFault::IllegalMove)),
-            (b"a8=", Err(SanFault::NotAMove)),
-            (b"a8q", Err(SanFault::NotAMove)),
-            (b"a8=K", Err(SanFault::NotAMove)),
-        ],
-    ),
-    (
-        b"4k3/8/8/2ppP3/8/8/8/4K3 w - d6 0 2",
-        &[
-            (b"exd6", Ok(*b"e5d6 ")),
-            (b"d6", Ok(*b"e5d6 ")),
-            (b"exc6", Err(SanFault::IllegalMove)),
-        ],
-    ),
-    (
-        b"4k3/8/8/8/8/8/8/4R1K1 b - - 0 1",
-        &[
-            (b"--", Err(SanFault::IllegalMove)),
-            (b"Z0", Err(SanFault::IllegalMove)),
-            (b"Kd7", Ok(*b"e8d7 ")),
-        ],
-    ),
-];
-
-// Asks that texts mean these moves at a position, or have these faults.
-fn check<R: Abort>(rt: &R, fen: &[u8], rows: &[Text<'_>]) -> Result<(), Fail> {
-    let position = read_fen(fen)?;
-    for (text, wanted) in rows {
-        let read = read_san(&position, text).map(coordinates);
-        assert_eq!(rt; read, *wanted, "at {text:?}");
-    }
+// Asks that a text means a move at a position, or has this fault.
+fn expect<R: Abort>(rt: &R, row: &Row<'_>) -> Result<(), Fail> {
+    let (fen, text, want) = *row;
+    let read = read_san(&read_fen(fen)?, text).map(coordinates);
+    assert_eq!(rt; read, want, "{text:?} at {fen:?}");
     Ok(())
 }
 
 #[test]
 fn texts_mean_their_moves(rt: HostRuntime) -> Result<(), Fail> {
-    for (fen, rows) in READ.iter() {
-        check(&rt, fen, rows)?;
-    }
-    Ok(())
-}
-
-// The move that a text means, written.
-fn rewritten(position: &Position, text: &[u8]) -> Result<ArrayString<8>, SanFault> {
-    match read_san(position, text) {
-        Ok(m) => Ok(san_text(position, m)),
-        Err(fault) => Err(fault),
-    }
-}
-
-/// Positions with texts, and how the moves that these mean are written.
-static WRITTEN: [(&[u8], &[(&[u8], &str)]); 4] = [
-    (START, &[(b"e2e4", "e4"), (b"Ng1-f3", "Nf3"), (b"--", "--")]),
-    (b"4r2k/8/8/8/4N3/8/8/1N2K3 w - - 0 1", &[(b"Nd2", "Nd2")]),
-    (b"7k/P7/8/8/8/8/8/K7 w - - 0 1", &[(b"a8Q", "a8=Q+")]),
-    (
-        b"r3k2r/8/8/3pP3/8/8/8/R3K2R w KQkq d6 0 1",
-        &[
-            (b"0-0", "O-O"),
-            (b"0-0-0", "O-O-O"),
-            (b"ed6", "exd6"),
-            (b"e6", "e6"),
-            (b"Rh1xh8", "Rxh8+"),
-            (b"Rf1", "Rf1"),
-        ],
-    ),
-];
-
-// Each text is read, and the move that it means is written.
-fn check_written<R: Abort>(rt: &R, fen: &[u8], rows: &[(&[u8], &str)]) -> Result<(), Fail> {
-    let position = read_fen(fen)?;
-    for (text, wanted) in rows {
-        let written = rewritten(&position, text)?;
-        assert_eq!(rt; written.as_str(), *wanted, "at {text:?}");
-    }
-    Ok(())
-}
-
-#[test]
-fn moves_are_written(rt: HostRuntime) -> Result<(), Fail> {
-    for (fen, rows) in WRITTEN.iter() {
-        check_written(&rt, fen, rows)?;
+    for row in ROWS.iter() {
+        expect(&rt, row)?;
     }
     Ok(())
 }

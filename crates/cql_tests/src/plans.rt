@@ -1,4 +1,4 @@
-//! Plans of small queries over small games.
+//! Plans of small queries over small games, and the form in which queries are asked.
 ghost use Rattle.std.specs.Prelude.{◌≡◌, ◌<◌};
 
 use cq_outside::{NoMemory, Refusal, Steps};
@@ -7,7 +7,7 @@ use cql_lexer::query_tokens;
 use cql_parser::{parse, spelled_queries_have_no_any, tokens_of_a_text_are_ended};
 use cql_plan::{Plan, Verdict, join, match_game, may_hold};
 use cql_rewrite::expand;
-use cql_syntax::{Chain, FlatQuery, Form, QueryFault};
+use cql_syntax::{Chain, FlatQuery, Form, QueryFault, TypedQuery};
 use pgn_reader::read_game;
 use pgn_tree::Game;
 use std::alloc::Global;
@@ -16,13 +16,19 @@ use std::process::Abort;
 use std::sync::ledger::{Blank, Ledger};
 use std::test::Fail;
 
-/// The plan of the query that a text is.
-pub(crate) fn plan_of(alloc: Global, text: &[u8]) -> Result<Plan, Refusal<QueryFault>> {
+// The query that a text is.
+fn read_query(alloc: Global, text: &[u8]) -> Result<TypedQuery, Refusal<QueryFault>> {
     tokens_of_a_text_are_ended();
     spelled_queries_have_no_any();
     let tokens = query_tokens(alloc, text)?;
     let query = parse(alloc, tokens.as_slice())?;
-    Ok(Plan::make(alloc, &check(&query)?)?)
+    check(&query)
+}
+
+/// The plan of the query that a text is.
+pub(crate) fn plan_of(alloc: Global, text: &[u8]) -> Result<Plan, Refusal<QueryFault>> {
+    let query = read_query(alloc, text)?;
+    Ok(Plan::make(alloc, &query)?)
 }
 
 fn counted<L: Ledger>(
@@ -64,12 +70,12 @@ static ROWS: [Row<'static>; 5] = [
 
 // Asks what the plan of a query says of a game.
 fn expect<R: Abort>(rt: &R, alloc: Global, row: &Row<'_>) -> Result<(), Fail> {
-    let (query, game, may, nodes, keys) = row;
+    let (query, game, may, nodes, keys) = *row;
     let plan = plan_of(alloc, query)?;
     let game = read_game(alloc, game, 0, true)?;
     let verdict = found(alloc, &plan, &game)?;
     let said = (may_hold(&plan, &game), verdict.nodes(), verdict.keys());
-    assert_eq!(rt; said, (*may, *nodes, *keys), "of {query:?}");
+    assert_eq!(rt; said, (may, nodes, keys), "of {query:?}");
     Ok(())
 }
 
@@ -81,20 +87,10 @@ fn plans_turn_games_away_and_find_hits_and_keys(rt: HostRuntime) -> Result<(), F
     Ok(())
 }
 
-#[test]
-fn a_plan_has_its_query(rt: HostRuntime) -> Result<(), Fail> {
-    let plan = plan_of(rt.alloc(), b"cql() Qa8")?;
-    assert_eq!(rt; plan.query().query.items.len(), 1);
-    Ok(())
-}
-
 // The form in which the query that a text is is asked.
 fn joined(alloc: Global, text: &[u8]) -> Result<FlatQuery, Refusal<QueryFault>> {
-    tokens_of_a_text_are_ended();
-    spelled_queries_have_no_any();
-    let tokens = query_tokens(alloc, text)?;
-    let query = parse(alloc, tokens.as_slice())?;
-    let flat = expand(alloc, &check(&query)?)?;
+    let query = read_query(alloc, text)?;
+    let flat = expand(alloc, &query)?;
     Ok(join(alloc, &flat)?)
 }
 

@@ -1,54 +1,61 @@
-//! Trees of queries: their kinds, weights and copies, and which are the same.
-use crate::parser::query_of;
-use cq_outside::{Bytes, NoMemory};
+//! Trees of queries: their copies and kinds, and which are the same.
+use cq_outside::{NoMemory, Refusal};
+use cq_symmetry::{Family, Mapping, SquarePart};
+use cql_lexer::{query_tokens, tokens_are_read};
+use cql_parser::{parse, tokens_of_a_text_are_ended};
 use cql_rewrite::{same_filter, same_unplaced};
 use cql_syntax::{
-    Body, Constituent, Constituents, Filter, Filters, Form, Kind, Mark, Plain, Query, Term, Terms,
-    kind_of, weight,
+    Constituents, Filter, Filters, Form, Kind, Plain, Query, QueryFault, Terms, kind_of, weight,
 };
 use std::alloc::Global;
 use std::process::Abort;
 use std::test::Fail;
 
-/// Items, how many there are, their weight, and the kind of the first.
-type Row<'a> = (&'a [u8], usize, u64, Kind);
+// The query that a text is, before its kinds are looked at.
+fn parsed(alloc: Global, text: &[u8]) -> Result<Query, Refusal<QueryFault>> {
+    let tokens = query_tokens(alloc, text)?;
+    tokens_of_a_text_are_ended();
+    parse(alloc, tokens.as_slice())
+}
 
-static QUERIES: [Row<'static>; 35] = [
-    (b"check", 1, 1, Kind::Position),
-    (b"year", 1, 1, Kind::Number),
-    (b"parent check", 1, 2, Kind::Position),
-    (b"dark check", 1, 2, Kind::Set),
-    (b"power check", 1, 2, Kind::Number),
-    (b"{check check check}", 1, 4, Kind::Position),
-    (b"check & check & check", 1, 4, Kind::Set),
-    (b"min(check check check)", 1, 4, Kind::Number),
-    (b"between(check check)", 1, 3, Kind::Set),
-    (b"check == check", 1, 3, Kind::Position),
-    (b"1 - check", 1, 3, Kind::Number),
-    (b"comment \"text\"", 1, 1, Kind::Position),
-    (b"shift check", 1, 226, Kind::Position),
-    (b"line --> (check){2}", 1, 2, Kind::Number),
-    (b"Ka1", 1, 1, Kind::Set),
-    (b"7", 1, 1, Kind::Number),
-    (b"text", 1, 1, Kind::Set),
-    (b"event \"text\"", 1, 1, Kind::Position),
-    (b"result 1/2-1/2", 1, 1, Kind::Position),
-    (b"elo white", 1, 1, Kind::Number),
-    (b"up 1 7 check", 1, 2, Kind::Set),
-    (b"if check then check else check", 1, 4, Kind::Position),
-    (b"square all x in check check", 1, 3, Kind::Position),
-    (b"sort \"text\" check", 1, 2, Kind::Position),
-    (b"move from check", 1, 2, Kind::Position),
-    (b"not check", 1, 2, Kind::Position),
-    (b"check or check", 1, 3, Kind::Position),
-    (b"find <-- check", 1, 2, Kind::Position),
-    (b"# check", 1, 2, Kind::Number),
-    (b"~ check", 1, 2, Kind::Set),
-    (b"check attacks check", 1, 3, Kind::Set),
-    (b"7 x", 2, 2, Kind::Number),
-    (b"shift Ka1", 1, 226, Kind::Set),
-    (b"~ # power light dark A", 1, 6, Kind::Set),
-    (b"1 + up 2 A", 1, 4, Kind::Number),
+/// A query of each form, its weight, and the kind of its first item.
+type Row<'a> = (&'a [u8], u64, Kind);
+
+static FORMS: [Row<'static>; 34] = [
+    (b"cql() check", 1, Kind::Position),
+    (b"cql() year", 1, Kind::Number),
+    (b"cql() parent check", 2, Kind::Position),
+    (b"cql() dark check", 2, Kind::Set),
+    (b"cql() power check", 2, Kind::Number),
+    (b"cql() {check check check}", 4, Kind::Position),
+    (b"cql() check & check & check", 4, Kind::Set),
+    (b"cql() min(check check check)", 4, Kind::Number),
+    (b"cql() between(check check)", 3, Kind::Set),
+    (b"cql() check == check", 3, Kind::Position),
+    (b"cql() 1 - check", 3, Kind::Number),
+    (b"cql() comment \"text\"", 1, Kind::Position),
+    (b"cql() shift check", 226, Kind::Position),
+    (b"cql() line --> (check){2}", 2, Kind::Number),
+    (b"cql() Ka1", 1, Kind::Set),
+    (b"cql() 7", 1, Kind::Number),
+    (b"cql() text", 1, Kind::Set),
+    (b"cql() event \"text\"", 1, Kind::Position),
+    (b"cql() result 1/2-1/2", 1, Kind::Position),
+    (b"cql() elo white", 1, Kind::Number),
+    (b"cql() up 1 7 check", 2, Kind::Set),
+    (b"cql() if check then check else check", 4, Kind::Position),
+    (b"cql() square all x in check check", 3, Kind::Position),
+    (b"cql() sort \"text\" check", 2, Kind::Position),
+    (b"cql() move from check", 2, Kind::Position),
+    (b"cql() not check", 2, Kind::Position),
+    (b"cql() check or check", 3, Kind::Position),
+    (b"cql() find <-- check", 2, Kind::Position),
+    (b"cql() # check", 2, Kind::Number),
+    (b"cql() ~ check", 2, Kind::Set),
+    (b"cql() check attacks check", 3, Kind::Set),
+    (b"cql() shift Ka1", 226, Kind::Set),
+    (b"cql() ~ # power light dark A", 6, Kind::Set),
+    (b"cql() 1 + up 2 A", 4, Kind::Number),
 ];
 
 // The kind of a copy of the first item, and whether this is the same; nothing where there is no item.
@@ -60,64 +67,38 @@ fn copied(alloc: Global, query: &Query) -> Result<Option<(Kind, bool)>, NoMemory
     Ok(Some((kind_of(&copy), same_filter(&copy, first))))
 }
 
-// Asks that a copy of a query has its items, its weight and its kind.
+// Asks that a copy of a query has its weight and its kind.
 fn expect<R: Abort>(rt: &R, alloc: Global, row: &Row<'_>) -> Result<(), Fail> {
-    let (items, count, heavy, kind) = row;
-    let query = query_of(alloc, items)?.copy()?;
-    let first = copied(alloc, &query)?;
-    assert_eq!(rt;
-        (query.items.len(), weight(&query), first),
-        (*count, *heavy, Some((*kind, true))),
-        "in {items:?}"
-    );
+    let (text, heavy, kind) = *row;
+    let query = parsed(alloc, text)?.copy()?;
+    let told = (weight(&query), copied(alloc, &query)?);
+    assert_eq!(rt; told, (heavy, Some((kind, true))), "of {text:?}");
     Ok(())
 }
 
 #[test]
-fn queries_have_their_weights_and_kinds(rt: HostRuntime) -> Result<(), Fail> {
-    for row in QUERIES.iter() {
+fn copies_of_each_form_are_the_same(rt: HostRuntime) -> Result<(), Fail> {
+    for row in FORMS.iter() {
         expect(&rt, rt.alloc(), row)?;
     }
     Ok(())
 }
 
-fn push_times(text: &mut Bytes, piece: &[u8], times: u32) -> Result<(), NoMemory> {
-    for _turn in 0..times {
-        text.push_all(piece)?;
-    }
-    Ok(())
-}
-
-// The weight of a line of so many groups, each of which stands in the next some hundred million times.
-fn weight_of_groups(alloc: Global, depth: u32) -> Result<u64, Fail> {
-    let mut items = Bytes::from_slice(alloc, b"line --> ")?;
-    push_times(&mut items, b"(", depth)?;
-    items.push_all(b"check --> wtm")?;
-    push_times(&mut items, b"){999999999}", depth)?;
-    let query = query_of(alloc, items.as_slice())?;
-    Ok(weight(&query))
-}
-
-#[test]
-fn groups_weigh_nothing(rt: HostRuntime) -> Result<(), Fail> {
-    for depth in 3..60 {
-        assert_eq!(rt; weight_of_groups(rt.alloc(), depth)?, 3, "{depth} groups");
-    }
-    Ok(())
-}
-
-/// The items of two queries, whether their first ones are the same, and whether they are but for their places.
+/// Two queries, whether their first items are the same, and whether they are but for their places.
 type Pair<'a> = (&'a [u8], &'a [u8], bool, bool);
 
-static PAIRS: [Pair<'static>; 6] = [
-    (b"{check check}", b"{check check}", true, true),
-    (b"{check check}", b"{check check check}", false, false),
-    (b"{check check}", b" {check check}", false, true),
-    (b"flip flip check", b"flip check", false, false),
-    (b"flipcolor check", b"rotate90  check", false, false),
+static PAIRS: [Pair<'static>; 4] = [
+    (b"cql() {check check}", b"cql() {check check}", true, true),
     (
-        b"line --> ((check){2}){2}",
-        b"line --> ((check){3}){3}",
+        b"cql() {check check}",
+        b"cql() {check check check}",
+        false,
+        false,
+    ),
+    (b"cql() {check check}", b"cql()  {check check}", false, true),
+    (
+        b"cql() line --> ((check){2}){2}",
+        b"cql() line --> ((check){3}){3}",
         false,
         false,
     ),
@@ -125,18 +106,14 @@ static PAIRS: [Pair<'static>; 6] = [
 
 // Asks that two queries begin with items that are as much the same.
 fn expect_pair<R: Abort>(rt: &R, alloc: Global, pair: &Pair<'_>) -> Result<(), Fail> {
-    let (items, others, same, but_for_places) = pair;
-    let one = query_of(alloc, items)?;
-    let other = query_of(alloc, others)?;
+    let (text, other_text, same, but_for_places) = *pair;
+    let one = parsed(alloc, text)?;
+    let other = parsed(alloc, other_text)?;
     let found = match (one.items.as_slice().first(), other.items.as_slice().first()) {
         (Some(f), Some(g)) => Some((same_filter(f, g), same_unplaced(f, g))),
         _ => None,
     };
-    assert_eq!(rt;
-        found,
-        Some((*same, *but_for_places)),
-        "{items:?} and {others:?}"
-    );
+    assert_eq!(rt; found, Some((same, but_for_places)), "{text:?}");
     Ok(())
 }
 
@@ -148,53 +125,31 @@ fn trees_that_differ_are_not_the_same(rt: HostRuntime) -> Result<(), Fail> {
     Ok(())
 }
 
-fn check() -> Filter {
-    Filter {
+// A family that is written out, which is in no text.
+#[test]
+fn a_family_that_is_written_out_has_its_kind(rt: HostRuntime) -> Result<(), Fail> {
+    let mut filters = Filters::new(rt.alloc());
+    filters.push(Filter {
         at: 6,
         form: Form::Plain(Plain::Check),
-    }
-}
-
-fn may_be_shared<T: Send + Sync>(_value: &T) {}
-
-// A row of several is made of families that are written out, and of nothing that is read.
-#[test]
-fn rows_of_filters_grow(rt: HostRuntime) -> Result<(), Fail> {
-    let mut filters = Filters::new(rt.alloc());
-    let was_empty = filters.is_empty();
-    filters.push(check())?;
-    may_be_shared(&filters);
-    let told = (was_empty, filters.as_slice().len());
+    })?;
     let any = Filter {
         at: 6,
         form: Form::Any(Kind::Set, filters),
     };
-    assert_eq!(rt; (told, kind_of(&any)), ((true, 1), Kind::Set));
+    assert_eq!(rt; kind_of(&any), Kind::Set);
     Ok(())
 }
 
-#[test]
-fn rows_of_terms_grow(rt: HostRuntime) -> Result<(), Fail> {
-    let mut terms = Terms::new(rt.alloc());
-    let was_empty = terms.is_empty();
-    terms.push(Term {
-        minus: true,
-        filter: check(),
-    })?;
-    may_be_shared(&terms);
-    assert_eq!(rt; (was_empty, terms.is_empty()), (true, false));
-    Ok(())
-}
+fn is_shared<T: Send + Sync>() {}
 
 #[test]
-fn rows_of_constituents_grow(rt: HostRuntime) -> Result<(), Fail> {
-    let mut parts = Constituents::new(rt.alloc());
-    let was_empty = parts.is_empty();
-    parts.push(Constituent {
-        body: Body::Atom(Box::new(rt.alloc(), check())?),
-        mark: Mark::Once,
-    })?;
-    may_be_shared(&parts);
-    assert_eq!(rt; (was_empty, parts.is_empty()), (true, false));
-    Ok(())
+fn threads_may_share_trees() {
+    tokens_are_read();
+    is_shared::<Filters>();
+    is_shared::<Terms>();
+    is_shared::<Constituents>();
+    is_shared::<SquarePart>();
+    is_shared::<Mapping>();
+    is_shared::<Family>();
 }

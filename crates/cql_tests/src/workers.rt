@@ -1,9 +1,9 @@
-//! Workers side by side at one batch, and how many games the batches of an archive have.
+//! Workers side by side at one batch.
 ghost use Rattle.std.specs.Prelude.{◌≤◌};
 
 use crate::plans::plan_of;
-use cq_outside::{Bytes, Gate, MemSource, NoMemory, OpenGate, Refusal};
-use cq_shards::{Batch, BatchFault, Batches, run_batch};
+use cq_outside::{Bytes, Gate, NoMemory, OpenGate};
+use cq_shards::{Batch, run_batch};
 use cql_plan::Plan;
 use pgn_cut::cut_whole;
 use std::alloc::Global;
@@ -33,16 +33,14 @@ fn push_export(text: &mut Bytes, number: u32) -> Result<(), NoMemory> {
     text.push_all(b"} {CQL} *\n\n")
 }
 
-// An archive of so many games.
-fn archive_of(alloc: Global, games: u32) -> Result<Bytes, NoMemory> {
+// An archive of the games.
+fn archive_of(alloc: Global) -> Result<Bytes, NoMemory> {
     let mut archive = Bytes::new(alloc);
-    for number in 0..games {
+    for number in 0..WATCHED {
         push_game(&mut archive, number)?;
     }
     Ok(archive)
 }
-
-// ---- two workers at a gate
 
 /// A gate that counts its calls, and at which the first call of one kind waits for calls of another worker.
 #[derive(Drop)]
@@ -166,6 +164,20 @@ pub(crate) fn batch_of<R: Abort>(
     Batch::of(alloc, archive, spans.as_slice(), first)
 }
 
+// How many answers a batch has. The contract of this call is a large one, so that it is made here alone.
+fn answered<R: Threads + Sync, G: Gate + Sync>(
+    rt: &R,
+    alloc: Global,
+    plan: &Plan,
+    batch: &Batch,
+    workers: u32,
+    gate: &G,
+) -> Result<usize, NoMemory>
+    requires { (1 ≤ workers) × (workers ≤ 64) }
+{
+    Ok(run_batch(rt, alloc, plan, batch, workers, gate)?.len())
+}
+
 // Asks that two workers enter and leave each game of a batch once.
 fn expect_both<R: Threads + Sync + Abort>(
     rt: &R,
@@ -173,11 +185,11 @@ fn expect_both<R: Threads + Sync + Abort>(
     plan: &Plan,
     at_enter: bool,
 ) -> Result<(), Fail> {
-    let archive = archive_of(alloc, WATCHED)?;
+    let archive = archive_of(alloc)?;
     let batch = batch_of(rt, alloc, archive.as_slice(), 0)?;
     let watch = Watch::new(alloc, at_enter)?;
-    let answers = run_batch(rt, alloc, plan, &batch, 2, &watch)?;
-    assert_eq!(rt; (answers.len(), watch.calls()), (64, (64, 64, 0)));
+    let count = answered(rt, alloc, plan, &batch, 2, &watch)?;
+    assert_eq!(rt; (count, watch.calls()), (64, (64, 64, 0)));
     Ok(())
 }
 
@@ -198,79 +210,7 @@ fn an_empty_batch_has_no_answers(rt: HostRuntime) -> Result<(), Fail> {
     let alloc = rt.alloc();
     let plan = plan_of(alloc, b"cql() initial")?;
     let batch = batch_of(&rt, alloc, b"", 0)?;
-    let answers = run_batch(&rt, alloc, &plan, &batch, 64, &OpenGate)?;
-    assert_eq!(rt; (batch.len(), answers.len()), (0, 0));
-    Ok(())
-}
-
-// ---- batch after batch
-
-/// How many games an archive has, how many bytes of it one read gives at most, and how many games its batches have. That their games are
-/// answered in order by any number of workers, the process's rows show.
-static ROWS: [(u32, usize, &[u32]); 5] = [
-    (1023, 65_536, &[1023]),
-    (1024, 4096, &[1024]),
-    (1025, 1, &[1024, 1]),
-    (2048, 7, &[1024, 1024]),
-    (2049, 65_536, &[1024, 1024, 1]),
-];
-
-// How many games the batches of a source have.
-fn sizes_of(alloc: Global, source: MemSource) -> Result<Vec<u32>, Refusal<BatchFault>> {
-    let mut source = source;
-    let mut batches = Batches::new(alloc, 1 << 40);
-    let mut sizes = Vec::new(alloc);
-    for _turn in 0..8 {
-        let batch = match batches.next(&mut source) {
-            Ok(Some(batch)) => batch,
-            Ok(None) => return Ok(sizes),
-            Err(refusal) => return Err(refusal),
-        };
-        sizes.push(batch.len())?;
-    }
-    Err(Refusal::Fault(BatchFault::ArchiveTooLong))
-}
-
-// Asks that an archive that comes in pieces of so many bytes has batches of these sizes.
-fn expect<R: Abort>(
-    rt: &R,
-    alloc: Global,
-    archive: &[u8],
-    piece: usize,
-    games: &[u32],
-) -> Result<(), Fail> {
-    assert!(rt; piece >= 1);
-    let source = MemSource::new(alloc, archive, piece, &[])?;
-    let sizes = sizes_of(alloc, source)?;
-    assert_eq!(rt; sizes.as_slice(), games, "in pieces of {piece} bytes");
-    Ok(())
-}
-
-#[test]
-fn batches_have_their_games(rt: HostRuntime) -> Result<(), Fail> {
-    for (count, piece, games) in ROWS.iter() {
-        let archive = archive_of(rt.alloc(), *count)?;
-        expect(&rt, rt.alloc(), archive.as_slice(), *piece, games)?;
-    }
-    Ok(())
-}
-
-// Five games, of which the second has more than 16 MiB.
-fn long_archive(alloc: Global) -> Result<Bytes, NoMemory> {
-    let mut archive = Bytes::from_slice(alloc, b"{0} *\n{")?;
-    for _ in 0..4096 {
-        archive.push_all(&[b'a'; 4096])?;
-    }
-    archive.push_all(b"} *\n{2} *\n{3} *\n{4} *\n")?;
-    Ok(archive)
-}
-
-// Of a game that is too long no more is kept than shows this, and that fills its batch.
-#[test]
-fn a_long_game_fills_its_batch(rt: HostRuntime) -> Result<(), Fail> {
-    let archive = long_archive(rt.alloc())?;
-    for piece in [4096, 65_536] {
-        expect(&rt, rt.alloc(), archive.as_slice(), piece, &[2, 3])?;
-    }
+    let count = answered(&rt, alloc, &plan, &batch, 64, &OpenGate)?;
+    assert_eq!(rt; (batch.len(), count), (0, 0));
     Ok(())
 }

@@ -1,4 +1,4 @@
-//! Tests of games as lines of JSON: a worked line, the top call over the forms in memory, and failures of the outside.
+//! Tests of games as lines of JSON: the top call over the forms in memory, failures of the outside, and what the laws of lines ask.
 #![tactic(auto)]
 
 #[cfg(test)]

@@ -1,4 +1,4 @@
-//! Tests of the table of pieces: worked rows over the forms in memory, and failures of the outside.
+//! Tests of the table of pieces: failures of the outside through the top call, and the exit status.
 #![tactic(auto)]
 
 #[cfg(test)]
