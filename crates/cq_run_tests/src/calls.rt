@@ -43,6 +43,14 @@ pub(crate) fn sink_with(alloc: Global, piece: usize, fails: &[u64]) -> Result<Me
     MemSink::new(alloc, 4096, piece, Calls::of(alloc, fails)?)
 }
 
+/// Whether a sink has taken so many bytes of a text; where no number is asked for, any.
+pub(crate) fn is_part(taken: Option<&[u8]>, text: &str, count: Option<usize>) -> bool {
+    let Some(taken) = taken else {
+        return false;
+    };
+    text.as_bytes().starts_with(taken) && taken.len() == count.unwrap_or(taken.len())
+}
+
 /// How words are answered. The contract of the top call is a large one, so that all tests make this call alone.
 pub(crate) fn status_of<R: Threads + Sync, D: Desk, O: Sink, E: Sink, G: Gate + Sync>(
     rt: &R,

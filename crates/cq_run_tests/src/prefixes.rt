@@ -1,6 +1,6 @@
 //! Calls of the outside that fail at each place in turn: the status is that of the cause, and each sink has taken all of its text, what
 //! the full batches before a failed read give, or a prefix.
-use crate::calls::{sink_with, status_of, texts_of};
+use crate::calls::{is_part, sink_with, status_of, texts_of};
 use cq_outside::{Bytes, Calls, MemDesk, MemSink, NoMemory, OpenGate};
 use cq_run::Status;
 use std::alloc::Global;
@@ -60,14 +60,6 @@ fn counts(case: &Case<'_>, run: &Run, status: Status) -> Option<(Option<usize>, 
         return Some((taken_before(at_out, taken), taken_before(at_err, taken)));
     }
     None
-}
-
-// Whether a sink has taken so many bytes of a text; where no number is asked for, any.
-fn is_part(taken: Option<&[u8]>, text: &str, count: Option<usize>) -> bool {
-    let Some(taken) = taken else {
-        return false;
-    };
-    text.as_bytes().starts_with(taken) && taken.len() == count.unwrap_or(taken.len())
 }
 
 // The status of a case in a run, and its sinks.
