@@ -1,6 +1,7 @@
 pub mod AttackLaw
 pub mod Chains
 pub mod ClassLaw
+pub mod ClassSets
 pub mod CostSums
 pub mod Costing
 pub mod Filling

@@ -33,6 +33,8 @@ pub(crate) struct Asking<'a> {
     pub(crate) want: bool,
     /// Where men stand that they ask for, as far as that is known.
     pub(crate) evers: &'a [Ever],
+    /// Of which classes there are filters: bit k is class k.
+    pub(crate) classes: u32,
 }
 
 // Of so many sets of men at most it is asked where they stand.
