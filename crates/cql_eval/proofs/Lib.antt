@@ -32,6 +32,7 @@ pub mod Parents
 pub mod Raising
 pub mod SortsLaw
 pub mod SpelledAlike
+mod ToldLaw
 pub mod UnaryLaws
 pub mod Wanting
 pub mod Widening

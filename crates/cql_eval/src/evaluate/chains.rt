@@ -19,6 +19,7 @@ use crate::narrow::narrow;
 use crate::nodes::same;
 use crate::order::{CLASSES, classes_of, is_of_class, may_have};
 use crate::scope::Scope;
+use crate::told::{conjuncts, told_column};
 use cq_outside::{NoMemory, Steps};
 use cql_syntax::{Filter, Filters, Terms};
 use std::alloc::Global;
@@ -161,6 +162,12 @@ fn ask_if<L: Ledger>(
         return Ok(());
     }
     if fails_anyway(asking, filter) {
+        return Ok(());
+    }
+    let parts = conjuncts(filter);
+    let told = told_column(alloc, asking, parts, left)?;
+    if let Some(column) = told {
+        narrow(left, &column, asking.want);
         return Ok(());
     }
     let column = evaluate(alloc, filter, scope, left, steps)?;

@@ -85,6 +85,9 @@ chains::ask_if-returns-then-not-is_of_class-clause-left = chains.chains::ask_if-
 pub chains::ask_if-returns-then-fails_anyway-clause-left : goal.chains::ask_if-returns-then-fails_anyway-clause-left
 chains::ask_if-returns-then-fails_anyway-clause-left = chains.chains::ask_if-returns-then-fails_anyway-clause-left
 
+pub chains::ask_if-returns-in-Some-clause-left : goal.chains::ask_if-returns-in-Some-clause-left
+chains::ask_if-returns-in-Some-clause-left = chains.chains::ask_if-returns-in-Some-clause-left
+
 pub chains::ask_if-returns-clause-left : goal.chains::ask_if-returns-clause-left
 chains::ask_if-returns-clause-left = chains.chains::ask_if-returns-clause-left
 

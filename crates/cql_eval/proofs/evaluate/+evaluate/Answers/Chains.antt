@@ -3,7 +3,7 @@ use Rattle.std.proofs.Common.{◌+◌, ◌∙◌, sym, subst, arith, rules, refl
 use Rattle.cql_syntax.specs.TreeOf.{filter_tree, filters_tree, filters_in, terms_tree}
 use Rattle.cql_syntax.proofs.Lists.{filters_tree_in}
 use Rattle.cql_eval.specs.Scopes.{tree_in}
-use Rattle.cql_eval.proofs.ClassLaw.{left_taken, left_passed, cost_taken, is_left_begun, is_left_then, is_left_same, so_begun, so_more, so_whole, so_none, so_all, so_no, class_left, class_end, truth_left, class_cost_more, class_cost_within, cost_next, cost_later, cost_all}
+use Rattle.cql_eval.proofs.ClassLaw.{left_taken, left_told, left_passed, cost_taken, is_left_begun, is_left_then, is_left_same, so_begun, so_more, so_whole, so_none, so_all, so_no, class_left, class_end, truth_left, class_cost_more, class_cost_within, cost_next, cost_later, cost_all}
 use Rattle.cql_eval.proofs.ClassSets.{so_other}
 use Rattle.cql_eval.specs.Classes.{is_of, is_before, is_so_if, are_so, AreAmong, IsLeft}
 use Rattle.cql_eval.specs.Columns.{AreAsked}
@@ -52,10 +52,16 @@ chains::left_by-loop-class-init g t c = record {
 pub chains::left_by-ask_class-requires : goal.chains::left_by-ask_class-requires
 chains::left_by-ask_class-requires g t c = (
   search rules,
-  (c.requires.tree,
-  (subst (AreAsked (tree_in c.args.scope.now)) (sym c.deref_mut.ensures.value) c.loop-class.invariant.left.asked,
-  (subst (λ l. AreEver (tree_in c.args.scope.now) l c.as_slice-evers.result.now) (sym c.deref_mut.ensures.value) c.loop-class.invariant.evers,
-  (subst (AreAmong c.classes_of-classes.result) c.as_slice-all.ensures.items c.classes_of-classes.ensures, c.requires.flat)))),
+  (
+    c.requires.tree,
+    (
+      subst (AreAsked (tree_in c.args.scope.now)) (sym c.deref_mut.ensures.value) c.loop-class.invariant.left.asked,
+      (
+        subst (λ l. AreEver (tree_in c.args.scope.now) l c.as_slice-evers.result.now) (sym c.deref_mut.ensures.value) c.loop-class.invariant.evers,
+        (subst (AreAmong c.classes_of-classes.result) c.as_slice-all.ensures.items c.classes_of-classes.ensures, c.requires.flat),
+      ),
+    ),
+  ),
 )
 
 pub chains::left_by-loop-class-preserved : goal.chains::left_by-loop-class-preserved
@@ -160,6 +166,14 @@ chains::ask_if-returns-then-fails_anyway-clause-left g t c =
     (sym (c.fails_anyway.ensures.want c.if-fails_anyway.true))
     (left_unasked (is_of c.args.class) (tree_in c.args.scope.now) c.args.scope.now.names.now (filter_tree c.args.filter.now) c.args.left.now c.requires.asked
     (c.fails_anyway.ensures.nowhere c.if-fails_anyway.true (tree_in c.args.scope.now) c.args.left.now c.args.scope.now.names.now c.requires.evers))
+
+pub chains::ask_if-returns-in-Some-clause-left : goal.chains::ask_if-returns-in-Some-clause-left
+chains::ask_if-returns-in-Some-clause-left g t c =
+    left_told (is_of c.args.class) (tree_in c.args.scope.now) c.args.scope.now.names.now c.args.asking.now.want
+    (filter_tree c.args.filter.now) c.args.left.now c.narrow.new.left c.in-Some.column
+    (sym c.is_of_class.ensures ∙ c.if-not-is_of_class.false) c.requires.asked
+    (λ n l. c.in-Some.ensures (tree_in c.args.scope.now) c.args.scope.now.names.now c.requires.evers n l
+    ∙ c.conjuncts-parts.ensures (tree_in c.args.scope.now) c.args.scope.now.names.now n) c.narrow.ensures.nodes
 
 pub chains::ask_if-returns-clause-left : goal.chains::ask_if-returns-clause-left
 chains::ask_if-returns-clause-left g t c =
