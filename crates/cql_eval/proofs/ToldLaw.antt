@@ -22,7 +22,7 @@ use Rattle.cql_values.proofs.Ranges.{same_any}
 use Rattle.cql_values.specs.Shown.{meant}
 use Rattle.cql_values.specs.declared.value.Value.TheVariants.{Set}
 use Rattle.cql_eval.specs.Columns.{is_live, AreKept, AreSets, Where}
-use Rattle.cql_eval.specs.Ever.{anywhere, AreEver}
+use Rattle.cql_eval.specs.Ever.{anywhere, IsEver, AreEver}
 use Rattle.cql_eval.specs.declared.ever.Ever.{Ever}
 use Rattle.cql_eval.proofs.Chains.{all_begun, all_more, take_whole}
 use Rattle.cql_eval.proofs.EverLaw.{ever_among}
@@ -54,6 +54,15 @@ on_squares men d set is = same_any (is_in (bit_and set d.part.squares)) (λ s. n
         let stands : is_in set s ≡ is_in d.men (man_number (man_at men s)) = ap (λ v. has v s) is ∙ ap₂ (λ a b. a && (b && is_in d.men (man_number (man_at men s)))) board whole in
         in_both set d.part.squares s ∙ ap (λ b. b && is_in d.part.squares s) stands ∙ and_swaps (is_in d.men (man_number (man_at men s))) (is_in d.part.squares s)
         ∙ sym (ap (λ a. a && (is_in d.part.squares s && is_in d.men (man_number (man_at men s)))) board)
+
+-- the sets of one of these, where it is told of just these men
+pub sets_told : (tree : SearchedTree) (live : List Bool) (evers : List Ever) (k : ℕ) (ever : Ever) (men : ℕ) (sets : List ℕ) → k < length evers → ever ≡ get_or evers k ever
+    → ever.men ≡ men → sets ≡ ever.sets.items → AreEver tree live evers → AreSets sets live (λ n. standing_of (position_at tree n).men (Some (anywhere men)))
+sets_told tree live evers k ever men sets low is same given are = λ n l.
+    ap (λ xs. meant (Set (get_or xs n 0))) given ∙ told.sets n l ∙ ap (λ m. standing_of (position_at tree n).men (Some (anywhere m))) same
+  where
+    told : IsEver tree live ever
+    told = subst (IsEver tree live) (sym is) (are k ever low)
 
 -- tests that agree at the nodes that are asked for
 pub kept_same : (s t : ℕ → Bool) (live left : List Bool) → Where live (λ n. s n ≡ t n) → AreKept s live left → AreKept t live left

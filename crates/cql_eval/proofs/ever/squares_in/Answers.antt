@@ -10,8 +10,8 @@ loop-n-init c = wanted_none (λ n. meant (Set (get_or c.args.sets.now n 0))) c.a
 
 pub loop-n-preserved : goal.loop-n-preserved
 loop-n-preserved c =
-    wanted_more (λ n. meant (Set (get_or c.args.sets.now n 0))) c.args.live.now c.loop-n.n c.loop-n.squares c.set_at.result
-    (λ asked. ap is_in (sym c.set_at.ensures)) c.loop-n.invariant
+    wanted_more (λ n. meant (Set (get_or c.args.sets.now n 0))) c.args.live.now c.loop-n.n c.loop-n.squares c.set_at-squares.result
+    (λ asked. ap is_in (sym c.set_at-squares.ensures)) c.loop-n.invariant
 
 pub returns : goal.returns
 returns c =

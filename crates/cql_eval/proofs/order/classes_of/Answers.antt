@@ -1,12 +1,15 @@
-use Rattle.std.proofs.Common.{refl, subst, arith}
+use Rattle.std.proofs.Common.{◌<◌, ℕ, subst, sym, arith}
 use Rattle.cql_syntax.specs.TreeOf.{filter_tree}
 use Rattle.cql_eval.specs.Classes.{AreAmong}
 use Rattle.cql_eval.proofs.Chains.{take_whole}
-use Rattle.cql_eval.proofs.ClassSets.{among_begun, among_more}
+use Rattle.cql_eval.proofs.ClassSets.{class_small, among_begun, among_more}
 use Rattle.cql_eval.proofs.order.classes_of.Goals as goal
 
 pub loop-filter-init : goal.loop-filter-init
 loop-filter-init c = among_begun 0 c.args.filters.now
+
+pub overflow_shl-classes : goal.overflow_shl-classes
+overflow_shl-classes c = subst (λ n. n < 32) (sym c.class_of.ensures) (class_small (filter_tree c.filter-item.result))
 
 pub loop-filter-preserved : goal.loop-filter-preserved
 loop-filter-preserved c =
