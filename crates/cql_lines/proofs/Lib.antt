@@ -12,7 +12,6 @@ pub mod Puts
 pub mod LinesLaw
 pub mod MasksLaw
 pub mod OwnLaw
-pub mod Parts
 pub mod PlacesLaw
 pub mod RowsLaw
 pub mod SetsLaw

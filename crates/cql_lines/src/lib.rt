@@ -22,6 +22,3 @@ pub use lines::line_values;
 pub use pattern::{Pattern, Patterns};
 pub use shape::Shape;
 pub use table::AtomTable;
-
-#[cfg(test)]
-mod tests;
