@@ -18,11 +18,11 @@ use Rattle.cql_eval.proofs.Chains.{take_whole}
 use Rattle.cql_eval.proofs.Costing.{more, within}
 use Rattle.cql_eval.proofs.Keeping.{written}
 
-and_true : (b : Bool) → b ≡ (b && true)
+pub and_true : (b : Bool) → b ≡ (b && true)
 and_true true = refl
 and_true false = refl
 
-and_assoc : (a b c : Bool) → ((a && b) && c) ≡ (a && (b && c))
+pub and_assoc : (a b c : Bool) → ((a && b) && c) ≡ (a && (b && c))
 and_assoc true b c = refl
 and_assoc false b c = refl
 

@@ -1,6 +1,6 @@
 -- Filters that are asked by where it is told that the men stand that they name.
 use Rattle.std.proofs.Common.{◌≡◌, ◌⊎◌, ⊎_elim, ℕ, ◌+◌, ◌-◌, ◌^◌, ◌<◌, ◌≤◌, ◌&&◌, Bool, true, false, nat_lt, List, [], ◌∷◌, Some, length, take, get_or, refl, sym, ap, ap₂, ◌∙◌, subst}
-use Rattle.std.specs.Prelude.{bit_and}
+use Rattle.std.specs.Prelude.{bit_and, Option, IfSome}
 use Rattle.std.specs.List.{list_all}
 use Rattle.std.proofs.lemmas.Bool.{lt-ltb}
 use Rattle.cq_position.specs.Board.{man_at}
@@ -21,10 +21,12 @@ use Rattle.cql_values.proofs.Masks.{in_both, is_in_bit, all_squares}
 use Rattle.cql_values.proofs.Ranges.{same_any}
 use Rattle.cql_values.specs.Shown.{meant}
 use Rattle.cql_values.specs.declared.value.Value.TheVariants.{Set}
-use Rattle.cql_eval.specs.Columns.{is_live, AreKept, AreSets, Where}
+use Rattle.cql_eval.specs.Columns.{is_live, shown, AreKept, AreSets, Where}
 use Rattle.cql_eval.specs.Ever.{anywhere, IsEver, AreEver}
 use Rattle.cql_eval.specs.declared.ever.Ever.{Ever}
+use Rattle.cql_eval.specs.declared.filter_column.FilterColumn.{FilterColumn}
 use Rattle.cql_eval.proofs.Chains.{all_begun, all_more, take_whole}
+use Rattle.cql_eval.proofs.ClassLaw.{and_true, and_assoc}
 use Rattle.cql_eval.proofs.EverLaw.{ever_among}
 use Rattle.cql_eval.proofs.Filling.{both_left}
 
@@ -33,14 +35,6 @@ and_swaps true true = refl
 and_swaps true false = refl
 and_swaps false true = refl
 and_swaps false false = refl
-
-and_true : (b : Bool) → b ≡ (b && true)
-and_true true = refl
-and_true false = refl
-
-and_assoc : (a b c : Bool) → ((a && b) && c) ≡ (a && (b && c))
-and_assoc true b c = refl
-and_assoc false b c = refl
 
 -- of the squares of these men those of a designator
 pub on_squares : (men : List Man) (d : Designator) (set : ℕ) → meant (Set set) ≡ standing_of men (Some (anywhere d.men))
@@ -129,6 +123,20 @@ brace_holds tree e n f i c fs gs is which same =
     ∙ sym (ap (λ g. holds (value tree [] e g n)) is
     ∙ ⊎_elim (λ own. ap (λ k. holds (chain_of k (values tree [] e fs n))) own) (λ own. ap (λ k. holds (chain_of k (values tree [] e fs n))) own) which)
 
-pub one_holds : (tree : SearchedTree) (e : Names) (n : ℕ) (f : Filter) (xs : List Filter) → xs ≡ f ∷ [] → list_all holds (values tree [] e (filter_trees xs) n) ≡ holds (value tree [] e (filter_tree f) n)
+pub one_holds : (tree : SearchedTree) (e : Names) (n : ℕ) (f : Filter) (xs : List Filter) → xs ≡ f ∷ []
+    → list_all holds (values tree [] e (filter_trees xs) n) ≡ holds (value tree [] e (filter_tree f) n)
 unfolding value
 one_holds tree e n f xs is = ap (λ ys. list_all holds (values tree [] e (filter_trees ys) n)) is ∙ sym (and_true (holds (value tree [] e (filter_tree f) n)))
+
+-- a column that is told shows where a filter holds that they stand for
+pub told_there : (tree : SearchedTree) (e : Names) (live : List Bool) (evers : List Ever) (xs : List Filter) (f : FilterTree) (told : Option FilterColumn) (c : FilterColumn)
+    → told ≡ Some c
+    → IfSome told (λ k. (t : SearchedTree) (names : Names) → AreEver t live evers
+    → Where live (λ n. holds (shown k n) ≡ list_all holds (values t [] names (filter_trees xs) n)))
+    → AreEver tree live evers → ((n : ℕ) → list_all holds (values tree [] e (filter_trees xs) n) ≡ holds (value tree [] e f n))
+    → Where live (λ n. holds (shown c n) ≡ holds (value tree [] e f n))
+told_there tree e live evers xs f told c is shows are same = λ n l. there tree e are n l ∙ same n
+  where
+    there : (t : SearchedTree) (names : Names) → AreEver t live evers → Where live (λ n. holds (shown c n) ≡ list_all holds (values t [] names (filter_trees xs) n))
+    there = subst (λ (o : Option FilterColumn). IfSome o (λ k. (t : SearchedTree) (names : Names) → AreEver t live evers
+        → Where live (λ n. holds (shown k n) ≡ list_all holds (values t [] names (filter_trees xs) n)))) is shows

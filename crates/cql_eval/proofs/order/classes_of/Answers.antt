@@ -1,4 +1,4 @@
-use Rattle.std.proofs.Common.{◌<◌, ℕ, subst, sym, arith}
+use Rattle.std.proofs.Common.{◌<◌, subst, sym, arith}
 use Rattle.cql_syntax.specs.TreeOf.{filter_tree}
 use Rattle.cql_eval.specs.Classes.{AreAmong}
 use Rattle.cql_eval.proofs.Chains.{take_whole}

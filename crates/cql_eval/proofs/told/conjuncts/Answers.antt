@@ -1,7 +1,7 @@
 use Rattle.std.proofs.Common.{ap}
 use Rattle.cql_syntax.specs.TreeOf.{filter_tree, filter_trees, filters_tree, form_tree}
 use Rattle.cql_syntax.specs.Trees.{filter_at}
-use Rattle.cql_eval.proofs.ToldLaw.{brace_holds, one_holds}
+use Rattle.cql_eval.proofs.ToldLaw.{brace_holds}
 use Rattle.cql_eval.proofs.told.conjuncts.Goals as goal
 
 pub returns-in-Chain : goal.returns-in-Chain

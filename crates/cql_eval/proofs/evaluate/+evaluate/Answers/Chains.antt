@@ -13,6 +13,7 @@ use Rattle.cql_eval.proofs.Costing.{cost_more, cost_within, terms_cost_more, ter
 use Rattle.cql_eval.proofs.EverLaw.{ever_begun, ever_fewer, ever_later, left_unasked}
 use Rattle.cql_eval.proofs.Gathering.{columns_begun, columns_more, columns_all, terms_begun, terms_more, terms_all}
 use Rattle.cql_eval.proofs.FlatLaw.{filter_flat, term_flat}
+use Rattle.cql_eval.proofs.ToldLaw.{told_there}
 use Rattle.cql_eval.proofs.evaluate.+evaluate.Goals as goal
 
 pub chains::all_hold-returns-clause-value : goal.chains::all_hold-returns-clause-value
@@ -172,14 +173,15 @@ chains::ask_if-returns-in-Some-clause-left g t c =
     left_told (is_of c.args.class) (tree_in c.args.scope.now) c.args.scope.now.names.now c.args.asking.now.want
     (filter_tree c.args.filter.now) c.args.left.now c.narrow.new.left c.in-Some.column
     (sym c.is_of_class.ensures ∙ c.if-not-is_of_class.false) c.requires.asked
-    (λ n l. c.in-Some.ensures (tree_in c.args.scope.now) c.args.scope.now.names.now c.requires.evers n l
-    ∙ c.conjuncts-parts.ensures (tree_in c.args.scope.now) c.args.scope.now.names.now n) c.narrow.ensures.nodes
+    (told_there (tree_in c.args.scope.now) c.args.scope.now.names.now c.args.left.now c.args.asking.now.evers.now c.conjuncts-parts.result.now
+    (filter_tree c.args.filter.now) c.in_ok-told.told c.in-Some.column c.in-Some.is c.in_ok-told.ensures c.requires.evers
+    (c.conjuncts-parts.ensures (tree_in c.args.scope.now) c.args.scope.now.names.now)) c.narrow.ensures.nodes
 
 pub chains::ask_if-returns-clause-left : goal.chains::ask_if-returns-clause-left
 chains::ask_if-returns-clause-left g t c =
     left_taken (is_of c.args.class) (tree_in c.args.scope.now) c.args.scope.now.names.now c.args.asking.now.want
-    (filter_tree c.args.filter.now) c.args.left.now c.narrow.new.left c.in_ok-column.column
-    (sym c.is_of_class.ensures ∙ c.if-not-is_of_class.false) c.requires.asked c.in_ok-column.ensures.value c.narrow.ensures.nodes
+    (filter_tree c.args.filter.now) c.args.left.now c.narrow-2.new.left c.in_ok-column.column
+    (sym c.is_of_class.ensures ∙ c.if-not-is_of_class.false) c.requires.asked c.in_ok-column.ensures.value c.narrow-2.ensures.nodes
 
 pub chains::ask_if-returns-clause-cost : goal.chains::ask_if-returns-clause-cost
 chains::ask_if-returns-clause-cost g t c =
