@@ -51,7 +51,7 @@ chains::left_by-loop-class-init g t c = record {
 }
 
 pub chains::left_by-ask_class-requires : goal.chains::left_by-ask_class-requires
-chains::left_by-ask_class-requires g t c = (
+chains::left_by-ask_class-requires g t c = λ κs low. (
   search rules,
   (
     c.requires.tree,
