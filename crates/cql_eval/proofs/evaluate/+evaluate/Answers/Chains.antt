@@ -54,12 +54,15 @@ pub chains::left_by-ask_class-requires : goal.chains::left_by-ask_class-requires
 chains::left_by-ask_class-requires g t c = λ κs low. (
   search rules,
   (
-    c.requires.tree,
+    low,
     (
-      subst (AreAsked (tree_in c.args.scope.now)) (sym c.deref_mut.ensures.value) c.loop-class.invariant.left.asked,
+      c.requires.tree,
       (
-        subst (λ l. AreEver (tree_in c.args.scope.now) l c.as_slice-evers.result.now) (sym c.deref_mut.ensures.value) c.loop-class.invariant.evers,
-        (subst (AreAmong c.classes_of-classes.result) c.as_slice-all.ensures.items c.classes_of-classes.ensures, c.requires.flat),
+        subst (AreAsked (tree_in c.args.scope.now)) (sym c.deref_mut.ensures.value) c.loop-class.invariant.left.asked,
+        (
+          subst (λ l. AreEver (tree_in c.args.scope.now) l c.as_slice-evers.result.now) (sym c.deref_mut.ensures.value) c.loop-class.invariant.evers,
+          (subst (AreAmong c.classes_of-classes.result) c.as_slice-all.ensures.items c.classes_of-classes.ensures, c.requires.flat),
+        ),
       ),
     ),
   ),
