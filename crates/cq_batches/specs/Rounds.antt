@@ -53,7 +53,8 @@ pub record Gives (limit : ℕ) (left left_after : Option (List ℕ)) (games batc
   pub needed : AreFirst (whole (take (length front - most_read) front)) games
 
 -- some bytes were read, so many, and the games of all their whole batches were taken
-pub record TakesWhole (limit : ℕ) (left left_after : Option (List ℕ)) (AreRead : ℕ → Type 0) (Taken : KeptGames → Type 0) : Type 0 where
+pub record TakesWhole (limit : ℕ) (left left_after : Option (List ℕ)) (AreRead : ℕ → Type 0)
+    (Taken : KeptGames → Type 0) : Type 0 where
   pub front : List ℕ
   pub reads : Reads limit left left_after front
   pub count : AreRead (length front)

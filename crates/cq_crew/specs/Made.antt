@@ -20,7 +20,8 @@ pub record Share (K X : Type 0) : Type 0 where
   pub made : List X
 
 -- the workers, which keep these, made these things of the games below n: each game was drawn once, by one of them
-pub record AreMadeOf {K X : Type 0} (HasMade : K → List ℕ → List X → Type 0) (n : ℕ) (kept : List K) (made : List X) : Type 0 where
+pub record AreMadeOf {K X : Type 0} (HasMade : K → List ℕ → List X → Type 0) (n : ℕ) (kept : List K)
+    (made : List X) : Type 0 where
   pub shares : List (Share K X)
   pub each : All (λ s. HasMade s.kept s.numbers s.made) shares
   pub once : (number : ℕ) → number < n → times_in number (map (λ s. s.numbers) shares) ≡ 1

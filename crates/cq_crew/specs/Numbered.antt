@@ -16,7 +16,8 @@ abbrev pub made_at : {X : Type 0} → (index : X → ℕ) → (first : ℕ) → 
 made_at index first number made = count_by (λ x. index x == first + number) made
 
 -- what was made is of these games, as often as their numbers stand here, as far as these are below n
-pub record HasMade {X : Type 0} (IsOf : ℕ → X → Type 0) (index : X → ℕ) (first n : ℕ) (numbers : List ℕ) (made : List X) : Type 0 where
+pub record HasMade {X : Type 0} (IsOf : ℕ → X → Type 0) (index : X → ℕ) (first n : ℕ) (numbers : List ℕ)
+    (made : List X) : Type 0 where
   pub each : All (IsOfSome IsOf) made
   pub drawn_ : (number : ℕ) → number < n → made_at index first number made ≡ times number numbers
 

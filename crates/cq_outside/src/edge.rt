@@ -91,7 +91,8 @@ impl<R: Folder, I: Reader> Source for FileDesk<R, I> {
         ensures bound { IfOk result (λ n. n ≤ length buf.old) }
         ensures bytes { ReadConsumes (left_of self.old) (left_of self.new) result buf.new }
         ensures cause { HasCause self.old.read_faults self.new.read_faults result }
-        ensures same { self.new ≡ with_stream (record self.old { read_faults = counted self.old.read_faults result }) (open_stream self.new) }
+        ensures same { self.new
+            ≡ with_stream (record self.old { read_faults = counted self.old.read_faults result }) (open_stream self.new) }
         ensures asked { IsOneMore (open_stream self.old).reads (open_stream self.new).reads }
         ensures gave { IsReadOf I.gave R.File.gave self.old result }
     {

@@ -14,4 +14,6 @@ begins game q n = nat_lt n (length game.nodes) && (query_passes q game && is_sea
 
 pub record HaveBegun (game : Game) (askers : List Asker) (began : List Nodes) : Type 0 where
   pub count : length began ≡ length askers
-  pub each : (q : ℕ) (a : Asker) → q < length askers → a ≡ get_or askers q a → (n : ℕ) → is_left began q n ≡ begins game (asked_query a) n
+  pub each :
+      (q : ℕ) (a : Asker) → q < length askers → a ≡ get_or askers q a →
+      (n : ℕ) → is_left began q n ≡ begins game (asked_query a) n

@@ -30,7 +30,9 @@ is_found game q n = begins game q n && is_hit (tree_of q game) (flat_query q).it
 -- to each query the nodes are left at which it is found
 pub record AreFound (game : Game) (askers : List Asker) (left : List Nodes) : Type 0 where
   pub count : length left ≡ length askers
-  pub each : (q : ℕ) (a : Asker) → q < length askers → a ≡ get_or askers q a → (n : ℕ) → is_left left q n ≡ is_found game (asked_query a) n
+  pub each :
+      (q : ℕ) (a : Asker) → q < length askers → a ≡ get_or askers q a →
+      (n : ℕ) → is_left left q n ≡ is_found game (asked_query a) n
 
 -- a sort item is one with `min`
 abbrev pub form_least : FormTree → Bool
