@@ -9,6 +9,7 @@ more, in pieces, by 1 to 64 workers: one text, which is written batch by batch a
 M failed'.
 """
 
+import concurrent.futures
 import os
 import re
 import resource
@@ -51,17 +52,23 @@ def process(words, data=b"", folder=None, limit_memory=None, **streams):
     return p.returncode, out or b"", err or b""
 
 
-def part(script):
-    """another script of the model with the program: its report is shown, and its last line counts"""
+def report(script):
+    """what another script of the model says of the program"""
+    return subprocess.run([sys.executable, os.path.join(HERE, script), BINARY], capture_output=True, text=True)
+
+
+def parts(*scripts):
+    """other scripts of the model with the program, beside each other: their reports are shown in turn, and the last line of each counts"""
     global passed, failed
-    p = subprocess.run([sys.executable, os.path.join(HERE, script), BINARY], capture_output=True, text=True)
-    print(p.stdout, p.stderr, sep="", end="")
-    counts = re.findall(r"(\d+) passed, (\d+) failed$", p.stdout.strip())
-    if not counts:
-        failed += 1
-    for number_passed, number_failed in counts:
-        passed += int(number_passed)
-        failed += int(number_failed)
+    with concurrent.futures.ThreadPoolExecutor() as pool:
+        for p in pool.map(report, scripts):
+            print(p.stdout, p.stderr, sep="", end="")
+            counts = re.findall(r"(\d+) passed, (\d+) failed$", p.stdout.strip())
+            if not counts:
+                failed += 1
+            for number_passed, number_failed in counts:
+                passed += int(number_passed)
+                failed += int(number_failed)
 
 
 def ways_in(folder):
@@ -347,8 +354,7 @@ def many_runs():
     compare("200 runs by 64 workers", {process(words + ["64"], archive) for _ in range(200)} == {want}, True)
 
 
-for script in ("rows.py", "worked.py", "cases.py", "pages.py"):
-    part(script)
+parts("rows.py", "worked.py", "cases.py", "pages.py")
 with tempfile.TemporaryDirectory() as room:
     files = {"a.pgn": ARCHIVE, "one.pgn": b"1. e4 *\n", "faulty.pgn": FAULTY, "q.cql": QUERY, "bad.cql": b"cql() echo"}
     for name, text in files.items():
