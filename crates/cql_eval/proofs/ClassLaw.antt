@@ -11,18 +11,18 @@ use Rattle.cql_syntax.specs.Values.{Value, holds, as_truth}
 use Rattle.cql_syntax.specs.declared.tree.Filter.{Filter}
 use Rattle.cql_syntax.proofs.Lists.{filter_trees_more}
 use Rattle.cql_eval.specs.Classes.{form_class, filter_class, is_of, is_before, is_so_if, are_so, cost_if, cost_of, IsLeft}
-use Rattle.cql_eval.specs.Columns.{is_live, is_so, shown, AreAsked, IsColumn, IsNarrowed}
+use Rattle.cql_eval.specs.Columns.{is_live, is_so, shown, AreAsked, IsColumn, IsNarrowed, Where}
 use Rattle.cql_eval.specs.Costs.{filter_cost, filters_cost}
 use Rattle.cql_eval.specs.declared.filter_column.FilterColumn.{FilterColumn}
 use Rattle.cql_eval.proofs.Chains.{take_whole}
 use Rattle.cql_eval.proofs.Costing.{more, within}
 use Rattle.cql_eval.proofs.Keeping.{written}
 
-and_true : (b : Bool) → b ≡ (b && true)
+pub and_true : (b : Bool) → b ≡ (b && true)
 and_true true = refl
 and_true false = refl
 
-and_assoc : (a b c : Bool) → ((a && b) && c) ≡ (a && (b && c))
+pub and_assoc : (a b c : Bool) → ((a && b) && c) ≡ (a && (b && c))
 and_assoc true b c = refl
 and_assoc false b c = refl
 
@@ -45,17 +45,22 @@ pub is_left_same : (tree : SearchedTree) (live left : List Bool) (s t : ℕ → 
 is_left_same tree live left s t same is = record { asked = is.asked; each = λ n. is.each n ∙ ap (λ b. is_live live n && b) (same n) }
 
 -- one filter, where it is taken and where it is not
-pub left_taken : (taken : FilterTree → Bool) (tree : SearchedTree) (e : Names) (want : Bool) (f : FilterTree) (live left : List Bool) (c : FilterColumn)
-    → taken f ≡ true → AreAsked tree live → IsColumn c live (value tree [] e f) → IsNarrowed live c want left → IsLeft tree live (is_so_if taken tree e want f) left
-left_taken taken tree e want f live left c is asked column narrowed = record {
+pub left_told : (taken : FilterTree → Bool) (tree : SearchedTree) (e : Names) (want : Bool) (f : FilterTree) (live left : List Bool) (c : FilterColumn)
+    → taken f ≡ true → AreAsked tree live → Where live (λ n. holds (shown c n) ≡ holds (value tree [] e f n)) → IsNarrowed live c want left
+    → IsLeft tree live (is_so_if taken tree e want f) left
+left_told taken tree e want f live left c is asked column narrowed = record {
   asked = narrowed.asked tree asked;
   each = λ n. narrowed.each n ∙ by (is_live live n) (is_so want (holds (shown c n))) (is_so want (holds (value tree [] e f n))) (taken f) is
-      (λ l. ap (λ x. is_so want (holds x)) (column n l));
+      (λ l. ap (is_so want) (column n l));
 }
   where
     by : (a x y t : Bool) → t ≡ true → (a ≡ true → x ≡ y) → (a && x) ≡ (a && (not t || y))
     by false x y t is e = refl
     by true x y t is e = e refl ∙ ap (λ b. not b || y) (sym is)
+
+pub left_taken : (taken : FilterTree → Bool) (tree : SearchedTree) (e : Names) (want : Bool) (f : FilterTree) (live left : List Bool) (c : FilterColumn)
+    → taken f ≡ true → AreAsked tree live → IsColumn c live (value tree [] e f) → IsNarrowed live c want left → IsLeft tree live (is_so_if taken tree e want f) left
+left_taken taken tree e want f live left c is asked column narrowed = left_told taken tree e want f live left c is asked (λ n l. ap holds (column n l)) narrowed
 
 pub left_passed : (taken : FilterTree → Bool) (tree : SearchedTree) (e : Names) (want : Bool) (f : FilterTree) (live : List Bool)
     → taken f ≡ false → AreAsked tree live → IsLeft tree live (is_so_if taken tree e want f) live

@@ -56,7 +56,7 @@ pub without : (tree : SearchedTree) (live : List Bool) (e : Ever) (d : Designato
     → IsEver tree live e → StandsNowhere tree live d
 without tree live e d same none is = λ n l.
     nowhere (position_at tree n).men d e.squares
-    (λ s h. is.each n s l (subst (λ men. has (standing_of (position_at tree n).men (Some (anywhere men))) s ≡ true) (sym same) h)) none
+    (λ s h. is.among.each n s l (subst (λ men. has (standing_of (position_at tree n).men (Some (anywhere men))) s ≡ true) (sym same) h)) none
 
 -- of a filter that is such a designator
 pub designator_nowhere : (tree : SearchedTree) (live : List Bool) (e : Names) (f : FilterTree) (i : ℕ) (d : Designator) → f ≡ filter_at i (designator d)
@@ -72,7 +72,7 @@ chain_nowhere tree live e f i c fs is which fails = λ n l.
     ap (λ g. holds (value tree [] e g n)) is
     ∙ ⊎_elim (λ same. ap (λ k. holds (chain_of k (values tree [] e fs n))) same) (λ same. ap (λ k. holds (chain_of k (values tree [] e fs n))) same) which ∙ fails n l
 
--- squares among which are those of these men on any square
+-- the squares of these men on any square at each node, and squares among which are all of those
 pub ever_is : (tree : SearchedTree) (live : List Bool) (d : Designator) (men squares : ℕ) (sets : List ℕ) → d ≡ anywhere men
     → AreSets sets live (λ n. standing_of (position_at tree n).men (Some d)) → AreWanted (λ n. meant (Set (get_or sets n 0))) live squares
     → AreWanted (λ n. standing_of (position_at tree n).men (Some (anywhere men))) live squares
@@ -81,9 +81,19 @@ ever_is tree live d men squares sets same are wanted = record {
       (subst (λ v. has v s ≡ true) (sym (are n l)) (subst (λ x. has (standing_of (position_at tree n).men (Some x)) s ≡ true) (sym same) h));
 }
 
+pub ever_sets : (tree : SearchedTree) (live : List Bool) (d : Designator) (men : ℕ) (sets : List ℕ) → d ≡ anywhere men
+    → AreSets sets live (λ n. standing_of (position_at tree n).men (Some d)) → AreSets sets live (λ n. standing_of (position_at tree n).men (Some (anywhere men)))
+ever_sets tree live d men sets same are = λ n l. are n l ∙ ap (λ x. standing_of (position_at tree n).men (Some x)) same
+
 -- at fewer nodes
+pub ever_among : (tree : SearchedTree) (live left : List Bool) (evers : List Ever) → ((n : ℕ) → is_live left n ≡ true → is_live live n ≡ true) → AreEver tree live evers → AreEver tree left evers
+ever_among tree live left evers some are = λ k d low. record {
+  among = record { each = λ n s l h. (are k d low).among.each n s (some n l) h };
+  sets = λ n l. (are k d low).sets n (some n l);
+}
+
 pub ever_fewer : (tree : SearchedTree) (live left : List Bool) (test : ℕ → Bool) (evers : List Ever) → IsLeft tree live test left → AreEver tree live evers → AreEver tree left evers
-ever_fewer tree live left test evers is are = λ k d low. record { each = λ n s l h. (are k d low).each n s (both_left (is_live live n) (test n) (sym (is.each n) ∙ l)) h }
+ever_fewer tree live left test evers is are = ever_among tree live left evers (λ n l. both_left (is_live live n) (test n) (sym (is.each n) ∙ l)) are
 
 pub ever_begun : (tree : SearchedTree) (live left : List Bool) (evers given : List Ever) → left ≡ live → given ≡ evers → AreEver tree live evers → AreEver tree left given
 ever_begun tree live left evers given same is are = subst (λ l. AreEver tree l given) (sym same) (subst (AreEver tree live) (sym is) are)

@@ -1,6 +1,7 @@
 pub mod AttackLaw
 pub mod Chains
 pub mod ClassLaw
+pub mod ClassSets
 pub mod CostSums
 pub mod Costing
 pub mod Filling
@@ -31,6 +32,7 @@ pub mod Parents
 pub mod Raising
 pub mod SortsLaw
 pub mod SpelledAlike
+mod ToldLaw
 pub mod UnaryLaws
 pub mod Wanting
 pub mod Widening

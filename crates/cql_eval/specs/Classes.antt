@@ -1,9 +1,13 @@
 -- In what order filters are asked: class by class, by their outermost form, a guess at what they cost.
-use Rattle.std.specs.Prelude.{◌≡◌, ℕ, ◌+◌, ◌&&◌, ◌||◌, ◌==◌, nat_lt, not, Bool, true, List, [], if◌then◌else◌}
+use Rattle.std.specs.Prelude.{◌≡◌, ℕ, ◌+◌, ◌&&◌, ◌||◌, ◌==◌, nat_lt, not, Bool, true, false, List, [], if◌then◌else◌}
+use Rattle.std.specs.List.{list_any}
 use Rattle.cq_position.specs.Search.{SearchedTree}
+use Rattle.cq_symmetry.specs.Images.{is_in}
 use Rattle.cql_syntax.specs.Meaning.{Names, value}
 use Rattle.cql_syntax.specs.Trees.{FilterTree, filter_at, FormTree, designator, number, name, plain, tagged, outcome, elo, unary, direction, chain, sum_of, pair, if_, square, line, played, transform, sort, comment, any, FilterTrees, no_filters, more_filters}
+use Rattle.cql_syntax.specs.TreeOf.{filter_tree}
 use Rattle.cql_syntax.specs.Values.{holds}
+use Rattle.cql_syntax.specs.declared.tree.Filter.{Filter}
 use Rattle.cql_eval.specs.Columns.{is_live, is_so, AreAsked}
 use Rattle.cql_eval.specs.Costs.{filter_cost}
 
@@ -39,6 +43,10 @@ is_of class f = filter_class f == class
 
 abbrev pub is_before : ℕ → FilterTree → Bool
 is_before class f = nat_lt (filter_class f) class
+
+-- bit k of a set is set where one of the filters is of class k
+abbrev pub AreAmong : ℕ → List Filter → Type 0
+AreAmong classes fs = (k : ℕ) → is_in classes k ≡ false → list_any (λ f. is_of k (filter_tree f)) fs ≡ false
 
 -- a filter that passes a test holds or, where `want` is false, doesn't; of others nothing is asked
 abbrev pub is_so_if : (FilterTree → Bool) → SearchedTree → Names → Bool → FilterTree → ℕ → Bool

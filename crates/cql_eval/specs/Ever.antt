@@ -6,16 +6,17 @@ use Rattle.cql_syntax.specs.Trees.{FilterTree}
 use Rattle.cql_syntax.specs.Values.{holds}
 use Rattle.cql_syntax.specs.declared.leaves.Designator.{Designator}
 use Rattle.cql_eval.specs.Asked.{AreWanted}
-use Rattle.cql_eval.specs.Columns.{Where}
+use Rattle.cql_eval.specs.Columns.{AreSets, Where}
 use Rattle.cql_eval.specs.declared.ever.Ever.{Ever}
 
 -- these men on any square
 abbrev pub anywhere : ℕ → Designator
 anywhere men = record { men = men; part = record { squares = 2 ^ 64 - 1; whole_ranks = false; whole_files = false } }
 
--- squares among which are all on which these men stand at the nodes that are asked for
-abbrev pub IsEver : SearchedTree → List Bool → Ever → Type 0
-IsEver tree live e = AreWanted (λ n. standing_of (position_at tree n).men (Some (anywhere e.men))) live e.squares
+-- squares among which are all on which these men stand at the nodes that are asked for, and those on which they stand at each
+pub record IsEver (tree : SearchedTree) (live : List Bool) (e : Ever) : Type 0 where
+  pub among : AreWanted (λ n. standing_of (position_at tree n).men (Some (anywhere e.men))) live e.squares
+  pub sets : AreSets e.sets.items live (λ n. standing_of (position_at tree n).men (Some (anywhere e.men)))
 
 abbrev pub AreEver : SearchedTree → List Bool → List Ever → Type 0
 AreEver tree live evers = All (IsEver tree live) evers

@@ -1,29 +1,34 @@
 //! Filters that hold nowhere in a game, since men that they ask for never stand on a square that they name.
-ghost use Rattle.std.specs.Prelude.{◌≡◌, Bool, List, [], false, true, IfOk, OnOk};
+ghost use Rattle.std.specs.Prelude.{◌≡◌, Bool, List, [], false, true, get_or, IfOk, OnOk};
 ghost use Rattle.cq_position.specs.Search.{SearchedTree};
 ghost use Rattle.cql_syntax.specs.Meaning.{Names, values};
 ghost use Rattle.cql_syntax.specs.TreeOf.{filter_tree, filters_tree};
 ghost use Rattle.cql_syntax.specs.Values.{all_hold, holds};
+ghost use Rattle.cql_values.specs.Shown.{meant};
+ghost use Rattle.cql_values.specs.declared.value.Value.TheVariants.{Set};
+ghost use Rattle.cql_eval.specs.Asked.{AreWanted};
 ghost use Rattle.cql_eval.specs.Columns.{AreAsked, Where};
 ghost use Rattle.cql_eval.specs.Ever.{AreEver, HoldsNowhere, IsEver, StandsNowhere, anywhere};
 ghost use Rattle.cql_eval.specs.Scopes.{tree_in};
 
-use crate::filter_column::FilterColumn;
+use crate::filter_column::set_at;
 use crate::free::is_all;
 use crate::leaves::standing_sets;
 use crate::scope::Scope;
-use crate::squares::wanted_squares;
 use cq_outside::NoMemory;
 use cq_symmetry::SquarePart;
 use cql_syntax::{Designator, Filter, Filters, Form};
 use std::alloc::Global;
 
-/// Squares among which are all on which some men stand at the nodes that are asked for.
-#[derive(Clone, Copy)]
+/// Where some men stand at the nodes that are asked for.
+#[derive(Drop)]
 pub(crate) struct Ever {
     /// Bit k is man k.
-    men: u16,
+    pub(crate) men: u16,
+    /// Squares among which are all on which they stand at one of the nodes.
     squares: u64,
+    /// Their squares at each node.
+    pub(crate) sets: Vec<u64>,
 }
 
 /// How filters are asked.
@@ -33,6 +38,8 @@ pub(crate) struct Asking<'a> {
     pub(crate) want: bool,
     /// Where men stand that they ask for, as far as that is known.
     pub(crate) evers: &'a [Ever],
+    /// Of which classes there are filters: bit k is class k.
+    pub(crate) classes: u32,
 }
 
 // Of so many sets of men at most it is asked where they stand.
@@ -41,8 +48,11 @@ const MOST_SETS_OF_MEN: usize = 8;
 // From so many filters on it pays to look where the men stand that they ask for.
 const MANY_FILTERS: usize = 8;
 
-/// Where the men stand that designators of some filters ask for, or of their parts. Nothing is told of few filters, and of such as must
-/// hold.
+// The men of at most so many filters are looked at: the others mostly ask for the same ones.
+const LOOKED_AT: usize = 16;
+
+/// Where the men stand that designators of some filters ask for, or of their parts, as far as a few of the filters name them. Nothing is
+/// told of few filters, and of such as must hold.
 pub(crate) fn evers_of(
     alloc: Global,
     want: bool,
@@ -57,8 +67,53 @@ pub(crate) fn evers_of(
     if want || filters.len() < MANY_FILTERS {
         return Ok(evers);
     }
-    add_filters(alloc, filters, scope, live, &mut evers)?;
+    add_some(alloc, filters.as_slice(), scope, live, &mut evers)?;
     Ok(evers)
+}
+
+// Of some of the filters, evenly from the first to the last.
+fn add_some(
+    alloc: Global,
+    filters: &[Filter],
+    scope: &Scope,
+    live: &[bool],
+    evers: &mut Vec<Ever>,
+) -> Result<(), NoMemory>
+    requires asked { AreAsked (tree_in scope.now) live.now }
+    requires evers { AreEver (tree_in scope.now) live.now evers.old.items }
+    ensures { OnOk result (AreEver (tree_in scope.now) live.now evers.new.items) }
+{
+    let step = filters.len() / LOOKED_AT + 1;
+    for turn in 0..LOOKED_AT {
+        add_at(
+            alloc,
+            filters,
+            turn.saturating_mul(step),
+            scope,
+            live,
+            evers,
+        )?;
+    }
+    Ok(())
+}
+
+// Of the filter with a number, if there is one.
+fn add_at(
+    alloc: Global,
+    filters: &[Filter],
+    number: usize,
+    scope: &Scope,
+    live: &[bool],
+    evers: &mut Vec<Ever>,
+) -> Result<(), NoMemory>
+    requires asked { AreAsked (tree_in scope.now) live.now }
+    requires evers { AreEver (tree_in scope.now) live.now evers.old.items }
+    ensures { OnOk result (AreEver (tree_in scope.now) live.now evers.new.items) }
+{
+    match filters.get(number) {
+        Some(filter) => add_filter(alloc, filter, scope, live, evers),
+        None => Ok(()),
+    }
 }
 
 #[cycle(add_filters)]
@@ -130,8 +185,19 @@ fn ever_of(alloc: Global, men: u16, scope: &Scope, live: &[bool]) -> Result<Ever
 {
     let everywhere = on_any_square(men);
     let sets = standing_sets(alloc, &everywhere, scope, live)?;
-    let squares = wanted_squares(live, &FilterColumn::Sets(sets));
-    Ok(Ever { men, squares })
+    let squares = squares_in(live, &sets);
+    Ok(Ever { men, squares, sets })
+}
+
+// Squares among which are those of the sets at the nodes that are asked for.
+fn squares_in(live: &[bool], sets: &[u64]) -> u64
+    ensures { AreWanted (λ n. meant (Set (get_or sets.now n 0))) live.now result }
+{
+    let mut squares = 0;
+    for n in 0..live.len() {
+        squares |= set_at(sets, n);
+    }
+    squares
 }
 
 fn on_any_square(men: u16) -> Designator
@@ -188,7 +254,7 @@ fn stands_nowhere(evers: &[Ever], d: &Designator) -> bool
     ensures { result ≡ true → (tree : SearchedTree) (live : List Bool) → AreEver tree live evers.now → StandsNowhere tree live d.now }
 {
     for ever in evers {
-        if is_without(*ever, d) {
+        if is_without(ever, d) {
             return true;
         }
     }
@@ -196,8 +262,8 @@ fn stands_nowhere(evers: &[Ever], d: &Designator) -> bool
 }
 
 // Whether it is told where just these men stand, and none of the squares is among those.
-fn is_without(ever: Ever, d: &Designator) -> bool
-    ensures { result ≡ true → (tree : SearchedTree) (live : List Bool) → IsEver tree live ever → StandsNowhere tree live d.now }
+fn is_without(ever: &Ever, d: &Designator) -> bool
+    ensures { result ≡ true → (tree : SearchedTree) (live : List Bool) → IsEver tree live ever.now → StandsNowhere tree live d.now }
 {
     ever.men == d.men && ever.squares & d.part.squares == 0
 }

@@ -28,6 +28,7 @@ mod query;
 mod scope;
 mod spans;
 mod squares;
+mod told;
 mod tree;
 
 pub use column::Column;

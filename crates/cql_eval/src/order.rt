@@ -1,7 +1,8 @@
 //! In what order filters are asked.
-ghost use Rattle.std.specs.Prelude.{◌≡◌};
+ghost use Rattle.std.specs.Prelude.{◌≡◌, false};
+ghost use Rattle.cq_symmetry.specs.Images.{is_in};
 ghost use Rattle.cql_syntax.specs.TreeOf.{filter_tree};
-ghost use Rattle.cql_eval.specs.Classes.{filter_class, is_of};
+ghost use Rattle.cql_eval.specs.Classes.{filter_class, is_of, AreAmong};
 
 use cql_syntax::{Filter, Form};
 
@@ -34,4 +35,22 @@ pub(crate) fn is_of_class(filter: &Filter, class: u32) -> bool
     ensures { result ≡ is_of class (filter_tree filter.now) }
 {
     class_of(filter) == class
+}
+
+/// The classes of some filters: bit k is set where one of them is of class k.
+pub(crate) fn classes_of(filters: &[Filter]) -> u32
+    ensures { AreAmong result filters.now }
+{
+    let mut classes = 0;
+    for filter in filters {
+        classes |= 1 << class_of(filter);
+    }
+    classes
+}
+
+/// False only where none of the classes is this one.
+pub(crate) fn may_have(classes: u32, class: u32) -> bool
+    ensures { result ≡ false → is_in classes class ≡ false }
+{
+    class >= 32 || classes >> class & 1 == 1
 }

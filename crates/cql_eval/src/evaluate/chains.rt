@@ -3,9 +3,9 @@ ghost use Rattle.std.specs.Prelude.{◌≡◌, ℕ, ◌≤◌, ◌+◌, [], leng
 ghost use Rattle.std.specs.List.{list_any};
 ghost use Rattle.cq_position.specs.Games.{IsTree};
 ghost use Rattle.cql_syntax.specs.Meaning as meaning;
-ghost use Rattle.cql_syntax.specs.TreeOf.{filter_tree, filters_tree, terms_tree};
+ghost use Rattle.cql_syntax.specs.TreeOf.{filter_tree, filters_tree, filters_in, terms_tree};
 ghost use Rattle.cql_syntax.specs.Values as spec;
-ghost use Rattle.cql_eval.specs.Classes.{is_of, is_before, is_so_if, are_so, cost_if, cost_of, IsLeft};
+ghost use Rattle.cql_eval.specs.Classes.{is_of, is_before, is_so_if, are_so, cost_if, cost_of, AreAmong, IsLeft};
 ghost use Rattle.cql_eval.specs.Columns.{AreAsked, AreTruths, Where, all_shown, terms_shown};
 ghost use Rattle.cql_eval.specs.Costs.{filters_cost, terms_cost, searched_len};
 ghost use Rattle.cql_eval.specs.Ever.{AreEver};
@@ -17,8 +17,9 @@ use crate::ever::{Asking, evers_of, fails_anyway};
 use crate::filter_column::FilterColumn;
 use crate::narrow::narrow;
 use crate::nodes::same;
-use crate::order::{CLASSES, is_of_class};
+use crate::order::{CLASSES, classes_of, is_of_class, may_have};
 use crate::scope::Scope;
+use crate::told::{conjuncts, told_column};
 use cq_outside::{NoMemory, Steps};
 use cql_syntax::{Filter, Filters, Terms};
 use std::alloc::Global;
@@ -89,7 +90,13 @@ pub(crate) fn left_by<L: Ledger>(
 {
     let evers = evers_of(alloc, want, filters, scope, live)?;
     let evers = evers.as_slice();
-    let asking = Asking { want, evers };
+    let all = filters.as_slice();
+    let classes = classes_of(all);
+    let asking = Asking {
+        want,
+        evers,
+        classes,
+    };
     let mut left = same(alloc, live)?;
     for class in 0..past {
         ask_class(alloc, class, &asking, filters, scope, &mut left, steps)?;
@@ -111,6 +118,7 @@ fn ask_class<L: Ledger>(
     requires tree { IsTree scope.now.game.now.nodes }
     requires asked { AreAsked (tree_in scope.now) left.old }
     requires evers { AreEver (tree_in scope.now) left.old asking.now.evers.now }
+    requires classes { AreAmong asking.now.classes (filters_in filters.now) }
     requires flat { AreFlat (filters_tree filters.now) }
     ensures len { length left.new ≡ length left.old }
     ensures left { OnOk result (IsLeft (tree_in scope.now) left.old
@@ -119,6 +127,9 @@ fn ask_class<L: Ledger>(
         + cost_of (is_of class) (searched_len (tree_in scope.now)) (filters_tree filters.now) }
     ensures rises { steps.old ≤ steps.new }
 {
+    if !may_have(asking.classes, class) {
+        return Ok(());
+    }
     for filter in filters.as_slice() {
         ask_if(alloc, class, asking, filter, scope, left, steps)?;
     }
@@ -151,6 +162,12 @@ fn ask_if<L: Ledger>(
         return Ok(());
     }
     if fails_anyway(asking, filter) {
+        return Ok(());
+    }
+    let parts = conjuncts(filter);
+    let told = told_column(alloc, asking, parts, left)?;
+    if let Some(column) = told {
+        narrow(left, &column, asking.want);
         return Ok(());
     }
     let column = evaluate(alloc, filter, scope, left, steps)?;

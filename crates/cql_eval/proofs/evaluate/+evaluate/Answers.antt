@@ -49,6 +49,9 @@ chains::none_holds-returns-in_err-left-clause-cost = chains.chains::none_holds-r
 pub chains::left_by-loop-class-init : goal.chains::left_by-loop-class-init
 chains::left_by-loop-class-init = chains.chains::left_by-loop-class-init
 
+pub chains::left_by-ask_class-requires : goal.chains::left_by-ask_class-requires
+chains::left_by-ask_class-requires = chains.chains::left_by-ask_class-requires
+
 pub chains::left_by-loop-class-preserved : goal.chains::left_by-loop-class-preserved
 chains::left_by-loop-class-preserved = chains.chains::left_by-loop-class-preserved
 
@@ -60,6 +63,9 @@ chains::left_by-returns-clause-cost = chains.chains::left_by-returns-clause-cost
 
 pub chains::left_by-returns-in_err-ask_class-clause-cost : goal.chains::left_by-returns-in_err-ask_class-clause-cost
 chains::left_by-returns-in_err-ask_class-clause-cost = chains.chains::left_by-returns-in_err-ask_class-clause-cost
+
+pub chains::ask_class-returns-then-not-may_have-clause-left : goal.chains::ask_class-returns-then-not-may_have-clause-left
+chains::ask_class-returns-then-not-may_have-clause-left = chains.chains::ask_class-returns-then-not-may_have-clause-left
 
 pub chains::ask_class-loop-filter-init : goal.chains::ask_class-loop-filter-init
 chains::ask_class-loop-filter-init = chains.chains::ask_class-loop-filter-init
@@ -78,6 +84,9 @@ chains::ask_if-returns-then-not-is_of_class-clause-left = chains.chains::ask_if-
 
 pub chains::ask_if-returns-then-fails_anyway-clause-left : goal.chains::ask_if-returns-then-fails_anyway-clause-left
 chains::ask_if-returns-then-fails_anyway-clause-left = chains.chains::ask_if-returns-then-fails_anyway-clause-left
+
+pub chains::ask_if-returns-in-Some-clause-left : goal.chains::ask_if-returns-in-Some-clause-left
+chains::ask_if-returns-in-Some-clause-left = chains.chains::ask_if-returns-in-Some-clause-left
 
 pub chains::ask_if-returns-clause-left : goal.chains::ask_if-returns-clause-left
 chains::ask_if-returns-clause-left = chains.chains::ask_if-returns-clause-left

@@ -5,4 +5,4 @@ use Rattle.cql_eval.proofs.ever.is_without.Goals as goal
 
 pub returns-then-ever-d : goal.returns-then-ever-d
 returns-then-ever-d c = λ told tree live is.
-    without tree live c.args.ever c.args.d.now c.if-ever-d.true (eqb-true (bit_and c.args.ever.squares c.args.d.now.part.squares) 0 told) is
+    without tree live c.args.ever.now c.args.d.now c.if-ever-d.true (eqb-true (bit_and c.args.ever.now.squares c.args.d.now.part.squares) 0 told) is

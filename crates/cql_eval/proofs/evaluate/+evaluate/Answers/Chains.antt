@@ -1,14 +1,19 @@
 -- What is answered of chains, in the recursion over filters.
-use Rattle.std.proofs.Common.{◌+◌, ◌∙◌, sym, subst, arith, refl, true, false}
-use Rattle.cql_syntax.specs.TreeOf.{filter_tree, filters_tree, terms_tree}
+use Rattle.std.proofs.Common.{◌+◌, ◌∙◌, sym, subst, arith, rules, refl, true, false}
+use Rattle.cql_syntax.specs.TreeOf.{filter_tree, filters_tree, filters_in, terms_tree}
+use Rattle.cql_syntax.proofs.Lists.{filters_tree_in}
 use Rattle.cql_eval.specs.Scopes.{tree_in}
-use Rattle.cql_eval.proofs.ClassLaw.{left_taken, left_passed, cost_taken, is_left_begun, is_left_then, is_left_same, so_begun, so_more, so_whole, so_none, so_all, so_no, class_left, class_end, truth_left, class_cost_more, class_cost_within, cost_next, cost_later, cost_all}
-use Rattle.cql_eval.specs.Classes.{is_of, is_before, is_so_if, are_so, IsLeft}
+use Rattle.cql_eval.proofs.ClassLaw.{left_taken, left_told, left_passed, cost_taken, is_left_begun, is_left_then, is_left_same, so_begun, so_more, so_whole, so_none, so_all, so_no, class_left, class_end, truth_left, class_cost_more, class_cost_within, cost_next, cost_later, cost_all}
+use Rattle.cql_eval.proofs.ClassSets.{so_other}
+use Rattle.cql_eval.specs.Classes.{is_of, is_before, is_so_if, are_so, AreAmong, IsLeft}
+use Rattle.cql_eval.specs.Columns.{AreAsked}
 use Rattle.cql_eval.specs.Costs.{searched_len}
+use Rattle.cql_eval.specs.Ever.{AreEver}
 use Rattle.cql_eval.proofs.Costing.{cost_more, cost_within, terms_cost_more, terms_cost_within}
 use Rattle.cql_eval.proofs.EverLaw.{ever_begun, ever_fewer, ever_later, left_unasked}
 use Rattle.cql_eval.proofs.Gathering.{columns_begun, columns_more, columns_all, terms_begun, terms_more, terms_all}
 use Rattle.cql_eval.proofs.FlatLaw.{filter_flat, term_flat}
+use Rattle.cql_eval.proofs.ToldLaw.{told_there}
 use Rattle.cql_eval.proofs.evaluate.+evaluate.Goals as goal
 
 pub chains::all_hold-returns-clause-value : goal.chains::all_hold-returns-clause-value
@@ -44,6 +49,24 @@ chains::left_by-loop-class-init g t c = record {
   cost = omega arith;
   rises = omega arith;
 }
+
+pub chains::left_by-ask_class-requires : goal.chains::left_by-ask_class-requires
+chains::left_by-ask_class-requires g t c = λ κs low. (
+  search rules,
+  (
+    low,
+    (
+      c.requires.tree,
+      (
+        subst (AreAsked (tree_in c.args.scope.now)) (sym c.deref_mut.ensures.value) c.loop-class.invariant.left.asked,
+        (
+          subst (λ l. AreEver (tree_in c.args.scope.now) l c.as_slice-evers.result.now) (sym c.deref_mut.ensures.value) c.loop-class.invariant.evers,
+          (subst (AreAmong c.classes_of-classes.result) c.as_slice-all.ensures.items c.classes_of-classes.ensures, c.requires.flat),
+        ),
+      ),
+    ),
+  ),
+)
 
 pub chains::left_by-loop-class-preserved : goal.chains::left_by-loop-class-preserved
 chains::left_by-loop-class-preserved g t c = record {
@@ -87,6 +110,12 @@ chains::left_by-returns-in_err-ask_class-clause-cost g t c =
       cost_next (searched_len (tree_in c.args.scope.now)) c.loop-class.class (filters_tree c.args.filters.now),
       cost_later (searched_len (tree_in c.args.scope.now)) (c.loop-class.class + 1) c.args.past (filters_tree c.args.filters.now) (omega (arith, c.loop-class-test.true)),
     )
+
+pub chains::ask_class-returns-then-not-may_have-clause-left : goal.chains::ask_class-returns-then-not-may_have-clause-left
+chains::ask_class-returns-then-not-may_have-clause-left g t c =
+    is_left_begun (tree_in c.args.scope.now) c.args.left.now c.args.left.now _ c.requires.asked refl
+    (λ n. so_other (tree_in c.args.scope.now) c.args.scope.now.names.now c.args.asking.now.want c.args.class (filters_in c.args.filters.now) (filters_tree c.args.filters.now) n
+    (filters_tree_in c.args.filters.now) (c.requires.classes c.args.class (c.may_have.ensures c.if-not-may_have.true)))
 
 pub chains::ask_class-loop-filter-init : goal.chains::ask_class-loop-filter-init
 chains::ask_class-loop-filter-init g t c = record {
@@ -142,11 +171,20 @@ chains::ask_if-returns-then-fails_anyway-clause-left g t c =
     (left_unasked (is_of c.args.class) (tree_in c.args.scope.now) c.args.scope.now.names.now (filter_tree c.args.filter.now) c.args.left.now c.requires.asked
     (c.fails_anyway.ensures.nowhere c.if-fails_anyway.true (tree_in c.args.scope.now) c.args.left.now c.args.scope.now.names.now c.requires.evers))
 
+pub chains::ask_if-returns-in-Some-clause-left : goal.chains::ask_if-returns-in-Some-clause-left
+chains::ask_if-returns-in-Some-clause-left g t c =
+    left_told (is_of c.args.class) (tree_in c.args.scope.now) c.args.scope.now.names.now c.args.asking.now.want
+    (filter_tree c.args.filter.now) c.args.left.now c.narrow.new.left c.in-Some.column
+    (sym c.is_of_class.ensures ∙ c.if-not-is_of_class.false) c.requires.asked
+    (told_there (tree_in c.args.scope.now) c.args.scope.now.names.now c.args.left.now c.args.asking.now.evers.now c.conjuncts-parts.result.now
+    (filter_tree c.args.filter.now) c.in_ok-told.told c.in-Some.column c.in-Some.is c.in_ok-told.ensures c.requires.evers
+    (c.conjuncts-parts.ensures (tree_in c.args.scope.now) c.args.scope.now.names.now)) c.narrow.ensures.nodes
+
 pub chains::ask_if-returns-clause-left : goal.chains::ask_if-returns-clause-left
 chains::ask_if-returns-clause-left g t c =
     left_taken (is_of c.args.class) (tree_in c.args.scope.now) c.args.scope.now.names.now c.args.asking.now.want
-    (filter_tree c.args.filter.now) c.args.left.now c.narrow.new.left c.in_ok-column.column
-    (sym c.is_of_class.ensures ∙ c.if-not-is_of_class.false) c.requires.asked c.in_ok-column.ensures.value c.narrow.ensures.nodes
+    (filter_tree c.args.filter.now) c.args.left.now c.narrow-2.new.left c.in_ok-column.column
+    (sym c.is_of_class.ensures ∙ c.if-not-is_of_class.false) c.requires.asked c.in_ok-column.ensures.value c.narrow-2.ensures.nodes
 
 pub chains::ask_if-returns-clause-cost : goal.chains::ask_if-returns-clause-cost
 chains::ask_if-returns-clause-cost g t c =
