@@ -53,8 +53,8 @@ static PUBLISHED: [(&[u8], u32, u64); 17] = [
 #[test]
 fn lines_are_as_many_as_published(rt: HostRuntime) -> Result<(), Fail> {
     for (fen, depth, count) in PUBLISHED.iter() {
-        let found = perft(&read_fen(fen)?, *depth);
-        assert_eq!(rt; found, *count, "at depth {depth}");
+        let position = read_fen(fen)?;
+        assert!(rt; perft(&position, *depth) == *count);
     }
     Ok(())
 }
@@ -69,5 +69,5 @@ fn the_first_move_at_the_start(rt: HostRuntime) {
         promotion: Promotion::None,
         null: false,
     };
-    assert_eq!(rt; moves.as_slice().first(), Some(&first));
+    assert!(rt; moves.as_slice().first() == Some(&first));
 }
