@@ -115,7 +115,9 @@ static ROWS: [Row<'static>; 25] = [
 
 fn is_token(token: &Token, want: Option<&(u64, u32, TokenKind)>) -> bool {
     match want {
-        Some((at, len, kind)) => token.at == at.saturating_add(1000) && token.len == *len && token.kind == *kind,
+        Some((at, len, kind)) => token.at == at.saturating_add(1000)
+            && token.len == *len
+            && token.kind == *kind,
         None => false,
     }
 }

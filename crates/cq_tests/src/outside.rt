@@ -41,7 +41,12 @@ static READS: [(usize, &[u64], Answers<'static>); 6] = [
     ),
 ];
 
-fn source_reads_so(alloc: Global, piece: usize, fails: &[u64], want: Answers<'_>) -> Result<bool, NoMemory>
+fn source_reads_so(
+    alloc: Global,
+    piece: usize,
+    fails: &[u64],
+    want: Answers<'_>,
+) -> Result<bool, NoMemory>
     requires { 1 ≤ piece }
 {
     let mut source = MemSource::new(alloc, b"abcde", piece, fails)?;
