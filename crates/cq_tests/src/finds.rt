@@ -4,6 +4,7 @@ ghost use Rattle.cq_first.specs.Seats.{IsSeatOf, numbers_of};
 
 use cq_first::{FirstBoard, FirstSeat};
 use cq_outside::NoMemory;
+use std::alloc::Global;
 use std::thread;
 use std::thread::Threads;
 
@@ -20,12 +21,10 @@ fn two_seats_look_and_lower_in_turn(rt: HostRuntime) -> Result<(), NoMemory> {
     let before = board.look(&mut first, 4);
     board.lower(&mut second, 3);
     let after = board.look(&mut first, 4);
-    board.lower(&mut first, 1);
-    board.lower(&mut second, 2);
     seats.push(first)?;
     seats.push(second)?;
     assert!(rt; !before && after);
-    assert!(rt; board.close(seats) == Ok(1));
+    assert!(rt; board.close(seats) == Ok(3));
     Ok(())
 }
 
@@ -63,12 +62,17 @@ fn find_by_threads<R: Threads + Sync>(rt: &R, board: &FirstBoard, seats: &mut [F
     thread::for_each_mut(rt, seats, 4, &|i, seat| find_all(board, seat, i as u64 % 4));
 }
 
+// The least number that four threads find.
+fn least_found<R: Threads + Sync>(rt: &R, alloc: Global) -> Result<u64, NoMemory> {
+    let (board, mut seats) = FirstBoard::make(alloc, NUMBERS, 4)?;
+    find_by_threads(rt, &board, seats.as_mut_slice());
+    board.close(seats)
+}
+
 #[test]
 fn four_threads_find_the_least_number(rt: HostRuntime) -> Result<(), NoMemory> {
     for _turn in 0..20 {
-        let (board, mut seats) = FirstBoard::make(rt.alloc(), NUMBERS, 4)?;
-        find_by_threads(&rt, &board, seats.as_mut_slice());
-        assert!(rt; board.close(seats) == Ok(7));
+        assert!(rt; least_found(&rt, rt.alloc())? == 7);
     }
     Ok(())
 }
