@@ -50,11 +50,14 @@ static PUBLISHED: [(&[u8], u32, u64); 17] = [
     (PROMOTING, 3, 62_379),
 ];
 
+fn perft_of(fen: &[u8], depth: u32) -> Result<u64, Fail> {
+    Ok(perft(&read_fen(fen)?, depth))
+}
+
 #[test]
 fn lines_are_as_many_as_published(rt: HostRuntime) -> Result<(), Fail> {
     for (fen, depth, count) in PUBLISHED.iter() {
-        let position = read_fen(fen)?;
-        assert!(rt; perft(&position, *depth) == *count);
+        assert!(rt; perft_of(fen, *depth)? == *count);
     }
     Ok(())
 }

@@ -87,16 +87,20 @@ static WRITES: [(&[u64], Answers<'static>, Option<&[u8]>); 3] = [
     (&[1, 1, 3], &[None, Some(3), None], Some(b"gam")),
 ];
 
-fn sink_of(alloc: Global, fails: &[u64]) -> Result<MemSink, NoMemory> {
-    MemSink::new(alloc, 7, 3, Calls::of(alloc, fails)?)
+fn sink_takes_so(
+    alloc: Global,
+    fails: &[u64],
+    want: Answers<'_>,
+    taken: Option<&[u8]>,
+) -> Result<bool, NoMemory> {
+    let mut sink = MemSink::new(alloc, 7, 3, Calls::of(alloc, fails)?)?;
+    Ok(writes_so(&mut sink, want) && sink.taken() == taken)
 }
 
 #[test]
 fn a_sink_in_memory_takes_pieces_and_fails_at_given_writes(rt: HostRuntime) -> Result<(), Fail> {
     for (fails, want, taken) in WRITES.iter() {
-        let mut sink = sink_of(rt.alloc(), fails)?;
-        assert!(rt; writes_so(&mut sink, want));
-        assert!(rt; sink.taken() == *taken);
+        assert!(rt; sink_takes_so(rt.alloc(), fails, want, *taken)?);
     }
     Ok(())
 }

@@ -5,6 +5,7 @@ use cq_outside::{NoMemory, Refusal};
 use cq_position::{GameResult, Position};
 use pgn_reader::{GameFault, read_game};
 use pgn_tree::{Game, Tags};
+use std::alloc::Global;
 
 /// A node: its parent, its first child and its next sibling, its glyphs, and its first comment.
 type Node<'a> = (Option<u32>, Option<u32>, Option<u32>, &'a [u8], &'a [u8]);
@@ -67,12 +68,16 @@ fn has_nodes(game: &Game, nodes: &[Node<'_>]) -> bool {
     game.len() as usize == nodes.len()
 }
 
+fn has_tree(alloc: Global, tree: &Tree<'_>) -> Result<bool, Refusal<GameFault>> {
+    let (text, result, nodes) = *tree;
+    let game = read_game(alloc, text, 0, true)?;
+    Ok(game.result() == result && has_nodes(&game, nodes))
+}
+
 #[test]
 fn texts_have_their_trees(rt: HostRuntime) -> Result<(), Refusal<GameFault>> {
-    for (text, result, nodes) in TREES.iter() {
-        let game = read_game(rt.alloc(), text, 0, true)?;
-        assert!(rt; game.result() == *result);
-        assert!(rt; has_nodes(&game, nodes));
+    for tree in TREES.iter() {
+        assert!(rt; has_tree(rt.alloc(), tree)?);
     }
     Ok(())
 }
