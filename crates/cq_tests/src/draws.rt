@@ -1,38 +1,13 @@
-//! Draws in turn, and by many threads.
-ghost use Rattle.std.specs.Prelude.{◌≡◌, All, IfSome, length};
+//! Draws by many threads.
+ghost use Rattle.std.specs.Prelude.{◌≡◌, All, length};
 ghost use Rattle.cq_board.specs.Seats.{IsSeatOf, HasEnded};
 
 use cq_board::{Board, ClaimSeat};
 use cq_outside::NoMemory;
 use std::alloc::Global;
-use std::process::Abort;
 use std::sync::atomic::{AtomicU32, Ordering};
 use std::thread;
 use std::thread::Threads;
-
-// Asks that a seat draws this.
-fn expect<R: Abort>(rt: &R, board: &Board, seat: &mut ClaimSeat, want: Option<u64>)
-    requires seat { IsSeatOf board.now seat.old }
-    requires open { HasEnded seat.old → ⊥ }
-    ensures seat { IsSeatOf board.now seat.new }
-    ensures open { IfSome want (λ _. HasEnded seat.new → ⊥) }
-{
-    let drawn = board.claim(seat);
-    assert!(rt; drawn == want);
-}
-
-#[test]
-fn two_seats_draw_in_turn(rt: HostRuntime) -> Result<(), NoMemory> {
-    let (board, mut seats) = Board::make(rt.alloc(), 1, 2)?;
-    let mut second = seats.pop().unwrap();
-    let mut first = seats.pop().unwrap();
-    expect(&rt, &board, &mut first, Some(0));
-    expect(&rt, &board, &mut second, None);
-    seats.push(first)?;
-    seats.push(second)?;
-    assert!(rt; board.close(seats) == Ok(2));
-    Ok(())
-}
 
 // Draws until None, and counts how often each number was drawn.
 fn draw_all(board: &Board, seat: &mut ClaimSeat, times: &[AtomicU32])
