@@ -99,18 +99,32 @@ fn is_plain(
     Ok(column.hit(node) == held && hits.hit(node) == held)
 }
 
-// Whether the columns of a query are as the plain evaluator says at each node of a game.
+// Whether they do so at each node.
+fn is_plain_everywhere(
+    alloc: Global,
+    query: &FlatQuery,
+    game: &Game,
+    column: &Column,
+    hits: &Column,
+) -> Result<bool, NoMemory>
+    requires column { length (hits_of column.now) ≡ length game.now.nodes }
+    requires hits { length (hits_of hits.now) ≡ length game.now.nodes }
+{
+    for node in 0..game.len() {
+        if !is_plain(alloc, query, game, node, column, hits)? {
+            return Ok(false);
+        }
+    }
+    Ok(true)
+}
+
+// Whether the columns of a query over a game are as the plain evaluator says.
 fn are_plain(alloc: Global, text: &[u8], game: &[u8]) -> Result<bool, Fail> {
     let query = flat_query(alloc, text)?;
     let game = read_game(alloc, game, 0, true)?;
     let column = found(alloc, &query, &game)?;
     let hits = hits_found(alloc, &query, &game)?;
-    for node in 0..game.len() {
-        if !is_plain(alloc, &query, &game, node, &column, &hits)? {
-            return Ok(false);
-        }
-    }
-    Ok(true)
+    Ok(is_plain_everywhere(alloc, &query, &game, &column, &hits)?)
 }
 
 fn are_plain_over_games(alloc: Global, query: &[u8]) -> Result<bool, Fail> {

@@ -8,7 +8,7 @@ use cq_maker::make_archive;
 use cq_outside::NoMemory;
 use cql_eval::Column;
 use cql_plain::number_at;
-use cql_syntax::{Filter, Form};
+use cql_syntax::{Filter, FlatQuery, Form};
 use cql_values::Names;
 use pgn_reader::read_game;
 use pgn_tree::Game;
@@ -85,15 +85,27 @@ fn compare_item<R: Abort>(
     }
 }
 
+// Compares all items, and answers how many are sort items of numbers.
+fn compare_items<R: Abort>(
+    rt: &R,
+    alloc: Global,
+    query: &FlatQuery,
+    column: &Column,
+    game: &Game,
+) -> Result<u32, Fail> {
+    let mut sort = 0;
+    for item in query.items.as_slice() {
+        sort = compare_item(rt, alloc, item, sort, column, game, query.variations)?;
+    }
+    Ok(sort)
+}
+
 fn compare<R: Abort>(rt: &R, alloc: Global, text: &[u8], game: &[u8]) -> Result<(), Fail> {
     let query = flat_query(alloc, text)?;
     let game = read_game(alloc, game, 0, true)?;
     let column = found(alloc, &query, &game)?;
-    let mut sort = 0;
-    for item in query.items.as_slice() {
-        sort = compare_item(rt, alloc, item, sort, &column, &game, query.variations)?;
-    }
-    assert!(rt; column.sorts() == sort as usize);
+    let sorts = compare_items(rt, alloc, &query, &column, &game)?;
+    assert!(rt; column.sorts() == sorts as usize);
     Ok(())
 }
 
