@@ -14,6 +14,7 @@ import subprocess
 import sys
 import tempfile
 
+import failing
 import fuzz
 import json_lines
 import pgn
@@ -86,9 +87,10 @@ def compare(name, got, want):
 
 
 def asked(*words, data=b"", **options):
-    """(status, out, err) of the program"""
-    done = subprocess.run([BINARY, *words], input=data, capture_output=True, check=False, timeout=60, **options)
-    return done.returncode, done.stdout, done.stderr
+    """(status, out, err) of the program; a stream that is given is not captured and counts as empty"""
+    streams = {"stdout": subprocess.PIPE, "stderr": subprocess.PIPE, **({} if "stdin" in options else {"input": data}), **options}
+    done = subprocess.run([BINARY, *words], check=False, timeout=60, **streams)
+    return done.returncode, done.stdout or b"", done.stderr or b""
 
 
 def compare_lines(name, archive, mark=None):
@@ -165,10 +167,37 @@ def statuses():
         compare("a folder", asked(folder), (5, b"", b""))
         compare("the limit itself", asked("--limit", "16", name)[0], 1)
         compare("a byte above the limit", asked("--limit", "15", name)[0], 8)
-    for words in ((), ("-",)):
-        with open("/dev/full", "wb") as full:
-            done = subprocess.run([BINARY, *words], input=b"*", stdout=full, stderr=subprocess.PIPE, check=False, timeout=60)
-        compare("a full device", (done.returncode, done.stderr), (6, b""))
+    with open("/dev/full", "wb") as full:
+        for words in ((), ("-",)):
+            compare("a full device", asked(*words, data=b"*", stdout=full), (6, b"", b""))
+        status, out, _ = asked(data=b"*", stderr=full)
+        compare("a full device takes no report", (status, out), (6, json_lines.answer(b"*")[1]))
+        compare("a full device takes no usage line", asked("--help", stderr=full), (6, b"", b""))
+
+
+def failures():
+    """a read or a write that fails after some bytes: what the full batches give is written, or a front"""
+    archive = b"* 1. d5 * *"
+    _, out, err = json_lines.answer(archive)
+    batch = b"1. d5 *\n" + b"*\n" * 1023
+    for workers in ("1", "4"):
+        words = ("--workers", workers)
+        for read in (archive, batch[:-2]):
+            end = failing.input_of(read)
+            compare("a read that fails in the first batch", asked(*words, stdin=end), (5, b"", b""))
+            os.close(end)
+        end = failing.input_of(batch)
+        _, lines_of_batch, faults = json_lines.answer(batch)
+        compare("a read that fails behind a batch", asked(*words, stdin=end), (5, lines_of_batch, faults[: faults.index(b"games ")]))
+        os.close(end)
+        for size in (0, 1, 4, 60, len(out) - 1):
+            took = failing.short(lambda **how: asked(*words, data=archive, **how), size, "stdout")
+            compare(f"a file of {size} bytes for the lines", took, (6, out[:size], b""))
+        for size in (0, 5, 27, 28, len(err) - 1):
+            took = failing.short(lambda **how: asked(*words, data=archive, **how), size, "stderr")
+            compare(f"a file of {size} bytes for the report", took, (6, out, err[:size]))
+    took = failing.short(lambda **how: asked("--help", **how), 6, "stderr")
+    compare("a file that takes a front of the usage line", took, (6, b"", USAGE[:6]))
 
 
 def long_games():
@@ -183,6 +212,7 @@ lines()
 played()
 drawn()
 statuses()
+failures()
 long_games()
 print(f"{passed} passed, {failed} failed")
 sys.exit(failed > 0)

@@ -12,6 +12,7 @@ import subprocess
 import sys
 import tempfile
 
+import failing
 import pgn
 
 TOP = os.path.join(os.path.dirname(os.path.abspath(__file__)), "..")
@@ -30,9 +31,10 @@ def compare(name, got, want):
 
 
 def asked(*words, data=b"", **options):
-    """(status, out, err) of the program"""
-    done = subprocess.run([BINARY, *words], input=data, capture_output=True, check=False, timeout=60, **options)
-    return done.returncode, done.stdout, done.stderr
+    """(status, out, err) of the program; a stream that is given is not captured and counts as empty"""
+    streams = {"stdout": subprocess.PIPE, "stderr": subprocess.PIPE, **({} if "stdin" in options else {"input": data}), **options}
+    done = subprocess.run([BINARY, *words], check=False, timeout=60, **streams)
+    return done.returncode, done.stdout or b"", done.stderr or b""
 
 
 def table(archive, least):
@@ -165,12 +167,36 @@ def statuses():
         compare("no such file", asked(os.path.join(folder, "b.pgn"), "1"), (4, b"", b""))
         compare("a folder", asked(folder, "1"), (5, b"", b""))
     with open("/dev/full", "wb") as full:
-        done = subprocess.run([BINARY, "-", "1"], input=b"*", stdout=full, stderr=subprocess.PIPE, check=False, timeout=60)
-    compare("a full device", (done.returncode, done.stderr), (6, b""))
+        compare("a full device", asked("-", "1", data=b"*", stdout=full), (6, b"", b""))
+        compare("a full device takes no usage line", asked(stderr=full), (6, b"", b""))
+
+
+def failures():
+    """a read or a write that fails after some bytes: the lines of the pieces that are long enough by then, or a front of the table"""
+    three = b"1 0 1 1 1\n2 1 2 2 1\n3 3 2 3 1\n"
+    for archive, least, want in (
+        (b"* *", "1", three[:20]),
+        (b"* * *", "1", three),
+        (b"* * 1-0", "1", three[:20]),
+        (b"* * *", "2", b"1 0 3 1 2\n2 3 2 3 1\n"),
+        (b"* * *", "4", b"1 0 5 1 3\n"),
+        (b"* * *", "6", b""),
+    ):
+        end = failing.input_of(archive)
+        compare(f"a read that fails behind {archive} by {least}", asked("-", least, stdin=end), (5, want, b""))
+        os.close(end)
+    for size in range(len(three)):
+        took = failing.short(lambda **how: asked("-", "1", data=b"* * *", **how), size, "stdout")
+        compare(f"a file of {size} bytes", took, (6, three[:size], b""))
+    took = failing.short(lambda **how: asked("-", "1", data=b"* * *", **how), len(three), "stdout")
+    compare("a file that takes the table", took, (0, three, b""))
+    took = failing.short(asked, 12, "stderr")
+    compare("a file that takes a front of the usage line", took, (6, b"", USAGE[:12]))
 
 
 cuts()
 tables()
 statuses()
+failures()
 print(f"{passed} passed, {failed} failed")
 sys.exit(failed > 0)

@@ -20,6 +20,7 @@ import tempfile
 import threading
 
 import cases
+import failing
 import program
 
 HERE = os.path.dirname(os.path.abspath(__file__))
@@ -46,8 +47,8 @@ def process(words, data=b"", folder=None, limit_memory=None, **streams):
         if limit_memory:
             resource.setrlimit(resource.RLIMIT_AS, (limit_memory, limit_memory))
 
-    how = {"stdin": subprocess.PIPE, "stdout": subprocess.PIPE, "stderr": subprocess.PIPE, **streams}
-    with subprocess.Popen([BINARY] + words, cwd=folder, preexec_fn=limits, **how) as p:
+    how = {"stdin": subprocess.PIPE, "stdout": subprocess.PIPE, "stderr": subprocess.PIPE, "preexec_fn": limits, **streams}
+    with subprocess.Popen([BINARY] + words, cwd=folder, **how) as p:
         out, err = p.communicate(data if how["stdin"] is subprocess.PIPE else None, timeout=120)
     return p.returncode, out or b"", err or b""
 
@@ -94,7 +95,8 @@ def ways_in(folder):
 
 def done_and_refused(folder):
     """statuses 0 to 3"""
-    compare("an empty archive", process(["eval", QUERY]), program.run_eval(QUERY, b""))
+    for workers in ("1", "4", "64"):
+        compare("an empty archive by %s workers" % workers, process(["eval", QUERY, "--workers", workers]), program.run_eval(QUERY, b""))
     compare("a faulty game", process(["eval", QUERY, "faulty.pgn"], folder=folder), program.run_eval(QUERY, FAULTY))
     compare("check", process(["check", "q.cql"], folder=folder), program.run_check(QUERY))
     compare("explain", process(["explain", "q.cql"], folder=folder), program.run_explain(QUERY))
@@ -119,6 +121,7 @@ def failures(folder):
     """statuses 4 to 8"""
     for words in (
         ["run", "none.cql", "a.pgn"],
+        ["run", "q.cql", "none.pgn"],
         ["eval", QUERY, "none.pgn"],
         ["eval", QUERY, ""],
         ["check", "none.cql"],
@@ -151,6 +154,33 @@ def failures(folder):
     compare("the limit itself", within, program.run_eval(QUERY, ARCHIVE))
     hungry = process(["eval", QUERY], b"{" + b"x" * 2**24 + b"} 1. e4 *", limit_memory=2**23)
     compare("no memory for a game", hungry, (7, b"", b""))
+
+
+def fail_midway():
+    """a read or a write that fails after some bytes: what the full batches give is written, or a front; a failed write is the last one"""
+    query, archive = b"cql() initial", b"* * *"
+    _, out, err = program.run_eval(query, archive)
+    batch = b"1. e5 *\n" + b"*\n" * 1023
+    for workers in ("1", "4"):
+        words = ["eval", query, "--workers", workers]
+        for room in (0, 100, 199, len(out) - 1):
+            took = failing.short(lambda **how: process(words, archive, **how), room, "stdout")
+            compare("a file of %d bytes for the exports" % room, took, (6, out[:room], b""))
+        for room in (0, 27, len(err) - 1):
+            took = failing.short(lambda **how: process(words, archive, **how), room, "stderr")
+            compare("a file of %d bytes for the report" % room, took, (6, out, err[:room]))
+        took = failing.short(lambda **how: process(words, b"1. e5 *\n* 1. e6 *\n", **how), 9, "stdout")
+        compare("a fault behind a failed write", took, (6, out[:9], b"game 1 byte 3: illegal move\n"))
+        for read in (archive, batch[:-2]):
+            end = failing.input_of(read)
+            compare("a read that fails in the first batch", process(words, stdin=end), (5, b"", b""))
+            os.close(end)
+        end = failing.input_of(batch)
+        _, exports, faults = program.run_eval(query, batch)
+        compare("a read that fails behind a batch", process(words, stdin=end), (5, exports, faults[: faults.index(b"games ")]))
+        os.close(end)
+    took = failing.short(lambda **how: process(["eval"], **how), 7, "stderr")
+    compare("a file that takes a front of the usage line", took, (6, b"", program.USAGE[:7]))
 
 
 def in_pieces(words, data, piece):
@@ -365,6 +395,7 @@ with tempfile.TemporaryDirectory() as room:
     failures(room)
     files_of_queries(room)
     many_ends(room)
+fail_midway()
 batches()
 as_it_is_read()
 first_matches()

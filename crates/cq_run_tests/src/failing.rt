@@ -95,7 +95,8 @@ fn expect<R: Threads + Sync + Abort>(rt: &R, alloc: Global, row: &Row) -> Result
     let words = texts_of(alloc, &["eval", "cql() Ka1"])?;
     let words = words.as_slice();
     let status = status_of(rt, alloc, words, &mut desk, &mut out, &mut err, &OpenGate);
-    assert_eq!(rt; (status, out.taken()), (want, Some(b"".as_slice())));
+    assert!(rt; status == want);
+    assert!(rt; out.taken() == Some(b"".as_slice()));
     Ok(())
 }
 

@@ -1,14 +1,10 @@
-//! Tests of the top call: each mode once, workers at the gate, failures of the outside at each place, and what is left in a source.
+//! Tests of the top call: workers at the gate, failures of the outside at each place, and what is left in a source.
 #![tactic(auto)]
 
 #[cfg(test)]
 mod calls;
 #[cfg(test)]
 mod failing;
-#[cfg(test)]
-mod faults;
-#[cfg(test)]
-mod modes;
 #[cfg(test)]
 mod prefixes;
 #[cfg(test)]

@@ -1,5 +1,7 @@
 //! Calls of the outside that fail at each place in turn: the status is that of the cause, and each sink has taken all of its text, what
 //! the full batches before a failed read give, or a prefix.
+ghost use Rattle.std.specs.Prelude.{◌≤◌};
+
 use crate::calls::{is_part, sink_with, status_of, texts_of};
 use cq_outside::{Bytes, Calls, MemDesk, MemSink, NoMemory, OpenGate};
 use cq_run::Status;
@@ -62,6 +64,15 @@ fn counts(case: &Case<'_>, run: &Run, status: Status) -> Option<(Option<usize>, 
     None
 }
 
+// A desk with an archive as standard input, whose reads give so many bytes, and of which this one fails.
+fn desk_with(alloc: Global, archive: &[u8], given: usize, read: u64) -> Result<MemDesk, NoMemory>
+    requires { 1 ≤ given }
+{
+    let mut desk = MemDesk::new(alloc, Calls::none(alloc));
+    desk.add(b"-", archive, given, &[read])?;
+    Ok(desk)
+}
+
 // The status of a case in a run, and its sinks.
 fn answered<R: Threads + Sync + Abort>(
     rt: &R,
@@ -73,8 +84,7 @@ fn answered<R: Threads + Sync + Abort>(
     let (given, taken, read, at_out, at_err) = *run;
     assert!(rt; given >= 1);
     assert!(rt; taken >= 1);
-    let mut desk = MemDesk::new(alloc, Calls::none(alloc));
-    desk.add(b"-", archive, given, &[read])?;
+    let mut desk = desk_with(alloc, archive, given, read)?;
     let mut out = sink_with(alloc, taken, &[at_out])?;
     let mut err = sink_with(alloc, taken, &[at_err])?;
     let texts = texts_of(alloc, words)?;
@@ -107,7 +117,7 @@ fn expect<R: Threads + Sync + Abort>(
 ) -> Result<bool, Fail> {
     let (status, out, err) = answered(rt, alloc, case.0, archive, run)?;
     let right = is_right(case, run, status, out.taken(), err.taken());
-    assert!(rt; right, "{status:?} in {run:?}");
+    assert!(rt; right);
     Ok(status != case.1)
 }
 
@@ -164,8 +174,7 @@ fn expect_turns<R: Threads + Sync + Abort>(
     turns: &[Turns],
 ) -> Result<(), Fail> {
     for turn in turns {
-        let count = failed_in_turn(rt, alloc, case, archive, turn)?;
-        assert!(rt; count > 0, "in pieces of {} bytes", turn.1);
+        assert!(rt; failed_in_turn(rt, alloc, case, archive, turn)? > 0);
     }
     Ok(())
 }
@@ -374,7 +383,7 @@ fn expect_first<R: Threads + Sync + Abort>(
     let (games, first, fails, case) = *row;
     let archive = archive_of(alloc, games, first)?;
     let failed = expect(rt, alloc, &case, archive.as_slice(), &SECOND)?;
-    assert_eq!(rt; failed, fails, "of {games} games");
+    assert!(rt; failed == fails);
     Ok(())
 }
 

@@ -1,5 +1,7 @@
 //! What `answer` leaves in a source behind a first match, and what `answer_many` writes.
-use cq_outside::{Bytes, MemSource, OpenGate, Refusal, SureSink, read_up_to};
+ghost use Rattle.std.specs.Prelude.{◌≤◌, length};
+
+use cq_outside::{Bytes, MemSource, NoMemory, OpenGate, Refusal, SureSink, read_up_to};
 use cq_run::{Status, answer, answer_many};
 use cq_words::Settings;
 use cql_kinds::check;
@@ -28,64 +30,67 @@ fn read_query(alloc: Global, text: &[u8]) -> Result<TypedQuery, Refusal<QueryFau
     check(&query)
 }
 
-// The status of the query over a source, its export and its report.
-fn over_source<R: Threads + Sync>(
+// How a query is answered up to its first match. The contract of this call is a large one.
+fn answered<R: Threads + Sync>(
     rt: &R,
     alloc: Global,
+    query: &TypedQuery,
     source: &mut MemSource,
-) -> Result<(Status, SureSink, SureSink), Fail> {
-    let query = read_query(alloc, b"cql() Pd4")?;
-    let mut out = SureSink::new(alloc, 4096)?;
-    let mut err = SureSink::new(alloc, 4096)?;
+    out: &mut SureSink,
+    err: &mut SureSink,
+) -> Status {
     let settings = Settings {
         workers: 4,
         limit: 1_099_511_627_776,
         first: true,
     };
-    let status = answer(
-        rt, alloc, &query, settings, source, &mut out, &mut err, &OpenGate,
-    );
-    Ok((status, out, err))
+    answer(rt, alloc, query, settings, source, out, err, &OpenGate)
+}
+
+// An archive of 2,048 games that match.
+fn archive_of(alloc: Global) -> Result<Bytes, NoMemory> {
+    let mut archive = Bytes::new(alloc);
+    for _ in 0..2048 {
+        archive.push_all(MATCH)?;
+    }
+    Ok(archive)
 }
 
 // No more is read than the batch of the match, with a piece after it.
 #[test]
 fn the_rest_is_left_in_the_source(rt: HostRuntime) -> Result<(), Fail> {
     let alloc = rt.alloc();
-    let mut archive = Bytes::new(alloc);
-    for _ in 0..2048 {
-        archive.push_all(MATCH)?;
-    }
+    let query = read_query(alloc, b"cql() Pd4")?;
+    let archive = archive_of(alloc)?;
     let mut source = MemSource::new(alloc, archive.as_slice(), 8, &[])?;
-    let (status, out, err) = over_source(&rt, alloc, &mut source)?;
+    let mut out = SureSink::new(alloc, 4096)?;
+    let mut err = SureSink::new(alloc, 4096)?;
+    let status = answered(&rt, alloc, &query, &mut source, &mut out, &mut err);
     let left = read_up_to(&mut source, alloc, 65_536)?;
-    assert_eq!(rt;
-        (status, out.taken(), err.taken(), left.len() >= 8000),
-        (Status::Done, Some(EXPORT), Some(REPORT), true)
-    );
+    assert!(rt; status == Status::Done);
+    assert!(rt; out.taken() == Some(EXPORT));
+    assert!(rt; err.taken() == Some(REPORT));
+    assert!(rt; left.len() >= 8000);
     Ok(())
 }
 
-// The status of a query as one of several over a source, its export and its report.
-fn many_over_source<R: Threads + Sync>(
+// How queries are answered at once. Its contract is as large.
+fn many_answered<R: Threads + Sync>(
     rt: &R,
     alloc: Global,
+    queries: &[TypedQuery],
     source: &mut MemSource,
-) -> Result<(Status, SureSink, SureSink), Fail> {
-    let mut queries = Vec::new(alloc);
-    queries.push(read_query(alloc, b"cql() Pd4")?)?;
-    let queries = queries.as_slice();
-    let mut out = SureSink::new(alloc, 4096)?;
-    let mut err = SureSink::new(alloc, 4096)?;
+    out: &mut SureSink,
+    err: &mut SureSink,
+) -> Status
+    requires { (1 ≤ length queries.now) × (length queries.now ≤ 16) }
+{
     let settings = Settings {
         workers: 4,
         limit: 1_099_511_627_776,
         first: false,
     };
-    let status = answer_many(
-        rt, alloc, queries, settings, source, &mut out, &mut err, &OpenGate,
-    );
-    Ok((status, out, err))
+    answer_many(rt, alloc, queries, settings, source, out, err, &OpenGate)
 }
 
 const HEADED: &[u8] = b"query 1 bytes 108\n\
@@ -94,11 +99,16 @@ const HEADED: &[u8] = b"query 1 bytes 108\n\
 
 #[test]
 fn a_query_of_several_is_answered(rt: HostRuntime) -> Result<(), Fail> {
-    let mut source = MemSource::new(rt.alloc(), MATCH, 8, &[])?;
-    let (status, out, err) = many_over_source(&rt, rt.alloc(), &mut source)?;
-    assert_eq!(rt;
-        (status, out.taken(), err.taken()),
-        (Status::Done, Some(HEADED), Some(REPORT))
-    );
+    let alloc = rt.alloc();
+    let mut queries = Vec::new(alloc);
+    queries.push(read_query(alloc, b"cql() Pd4")?)?;
+    let queries = queries.as_slice();
+    let mut source = MemSource::new(alloc, MATCH, 8, &[])?;
+    let mut out = SureSink::new(alloc, 4096)?;
+    let mut err = SureSink::new(alloc, 4096)?;
+    let status = many_answered(&rt, alloc, queries, &mut source, &mut out, &mut err);
+    assert!(rt; status == Status::Done);
+    assert!(rt; out.taken() == Some(HEADED));
+    assert!(rt; err.taken() == Some(REPORT));
     Ok(())
 }

@@ -1,5 +1,6 @@
 //! Why a text is no position, which a process does not tell.
 use cq_position::{FenFault, Man, Position, read_fen};
+use std::alloc::Global;
 use std::mem::size_of;
 use std::test::Fail;
 
@@ -26,10 +27,14 @@ static FAULTS: [(&[u8], FenFault); 13] = [
     (b"4k3/8/8/8/8/8/8/4RK2 w - - 0 1", FenFault::OpponentInCheck),
 ];
 
+fn has_fault(text: &[u8], fault: FenFault) -> bool {
+    read_fen(text).err() == Some(fault)
+}
+
 #[test]
 fn each_fault_is_answered(rt: HostRuntime) {
     for (text, fault) in FAULTS.iter() {
-        assert_eq!(rt; read_fen(text).err(), Some(*fault), "in {text:?}");
+        assert!(rt; has_fault(text, *fault));
     }
 }
 
@@ -59,10 +64,14 @@ static MESSAGES: [(FenFault, &str); 10] = [
     ),
 ];
 
+fn says(alloc: Global, fault: FenFault, message: &str) -> Result<bool, Fail> {
+    Ok(format!(in alloc; "{fault}")?.as_str() == message)
+}
+
 #[test]
 fn faults_have_their_messages(rt: HostRuntime) -> Result<(), Fail> {
     for (fault, message) in MESSAGES.iter() {
-        assert_eq!(rt; format!(in rt.alloc(); "{fault}")?.as_str(), *message);
+        assert!(rt; says(rt.alloc(), *fault, message)?);
     }
     Ok(())
 }
@@ -70,6 +79,6 @@ fn faults_have_their_messages(rt: HostRuntime) -> Result<(), Fail> {
 // A game keeps a position for each of its moves.
 #[test]
 fn position_is_small(rt: HostRuntime) {
-    assert_eq!(rt; size_of::<Man>(), 1);
+    assert!(rt; size_of::<Man>() == 1);
     assert!(rt; size_of::<Position>() <= 80);
 }

@@ -1,9 +1,10 @@
-//! Numbers that are found in turn, and by many threads.
+//! Numbers that are found by many threads.
 ghost use Rattle.std.specs.Prelude.{◌≡◌, ◌<◌, ◌≤◌, All, length};
 ghost use Rattle.cq_first.specs.Seats.{IsSeatOf, numbers_of};
 
 use cq_first::{FirstBoard, FirstSeat};
 use cq_outside::NoMemory;
+use std::alloc::Global;
 use std::thread;
 use std::thread::Threads;
 
@@ -11,22 +12,6 @@ use std::thread::Threads;
 const NUMBERS: u64 = 40_000;
 
 const EACH: u64 = 10_000;
-
-#[test]
-fn two_seats_look_and_lower_in_turn(rt: HostRuntime) -> Result<(), NoMemory> {
-    let (board, mut seats) = FirstBoard::make(rt.alloc(), 5, 2)?;
-    let mut second = seats.pop().unwrap();
-    let mut first = seats.pop().unwrap();
-    let before = board.look(&mut first, 4);
-    board.lower(&mut second, 3);
-    let after = board.look(&mut first, 4);
-    board.lower(&mut first, 1);
-    board.lower(&mut second, 2);
-    seats.push(first)?;
-    seats.push(second)?;
-    assert_eq!(rt; (before, after, board.close(seats)), (false, true, Ok(1)));
-    Ok(())
-}
 
 // Looks for a number, and finds it where it is 7 from a multiple of 1000.
 fn find(board: &FirstBoard, seat: &mut FirstSeat, number: u64)
@@ -62,12 +47,17 @@ fn find_by_threads<R: Threads + Sync>(rt: &R, board: &FirstBoard, seats: &mut [F
     thread::for_each_mut(rt, seats, 4, &|i, seat| find_all(board, seat, i as u64 % 4));
 }
 
+// The least number that four threads find.
+fn least_found<R: Threads + Sync>(rt: &R, alloc: Global) -> Result<u64, NoMemory> {
+    let (board, mut seats) = FirstBoard::make(alloc, NUMBERS, 4)?;
+    find_by_threads(rt, &board, seats.as_mut_slice());
+    board.close(seats)
+}
+
 #[test]
 fn four_threads_find_the_least_number(rt: HostRuntime) -> Result<(), NoMemory> {
     for _turn in 0..20 {
-        let (board, mut seats) = FirstBoard::make(rt.alloc(), NUMBERS, 4)?;
-        find_by_threads(&rt, &board, seats.as_mut_slice());
-        assert_eq!(rt; board.close(seats), Ok(7));
+        assert!(rt; least_found(&rt, rt.alloc())? == 7);
     }
     Ok(())
 }

@@ -1,11 +1,12 @@
 //! Tokens of texts from outside.
+ghost use Rattle.std.specs.Prelude.{◌≤◌, length};
+
 use pgn_lexer::TokenKind::{
     BadByte, Close, Comment, LeftParen, LineComment, Nag, Null, Open, Period, RightParen, Star,
     Symbol, Text, UnclosedComment, UnclosedText,
 };
-use pgn_lexer::{TokenKind, tokens};
+use pgn_lexer::{Token, TokenKind, tokens};
 use std::alloc::Global;
-use std::process::Abort;
 use std::test::Fail;
 
 /// A row of the table: a text, and the place, the length and the kind of each of its tokens.
@@ -112,26 +113,36 @@ static ROWS: [Row<'static>; 25] = [
     ),
 ];
 
-// Asks that a text, which stands at byte 1000, has these tokens.
-fn has_tokens<R: Abort>(
-    rt: &R,
-    alloc: Global,
-    text: &[u8],
-    want: &[(u64, u32, TokenKind)],
-) -> Result<(), Fail> {
-    assert!(rt; text.len() <= 64);
-    let mut found = Vec::new(alloc);
-    for token in tokens(alloc, text, 1000, true)?.iter() {
-        found.push((token.at.wrapping_sub(1000), token.len, token.kind))?;
+fn is_token(token: &Token, want: Option<&(u64, u32, TokenKind)>) -> bool {
+    match want {
+        Some((at, len, kind)) => token.at == at.saturating_add(1000)
+            && token.len == *len
+            && token.kind == *kind,
+        None => false,
     }
-    assert_eq!(rt; found.as_slice(), want, "in {text:?}");
-    Ok(())
+}
+
+fn are_tokens(found: &[Token], want: &[(u64, u32, TokenKind)]) -> bool {
+    for k in 0..found.len() {
+        if !is_token(&found[k], want.get(k)) {
+            return false;
+        }
+    }
+    found.len() == want.len()
+}
+
+// Whether a text, which stands at byte 1000, has these tokens.
+fn has_tokens(alloc: Global, text: &[u8], want: &[(u64, u32, TokenKind)]) -> Result<bool, Fail>
+    requires { length text.now ≤ 64 }
+{
+    Ok(are_tokens(tokens(alloc, text, 1000, true)?.as_slice(), want))
 }
 
 #[test]
 fn texts_have_their_tokens(rt: HostRuntime) -> Result<(), Fail> {
     for (text, want) in ROWS.iter() {
-        has_tokens(&rt, rt.alloc(), text, want)?;
+        assert!(rt; text.len() <= 64);
+        assert!(rt; has_tokens(rt.alloc(), text, want)?);
     }
     Ok(())
 }

@@ -13,11 +13,11 @@ mod fen;
 #[cfg(test)]
 mod finds;
 #[cfg(test)]
+mod jsons;
+#[cfg(test)]
 mod lexer;
 #[cfg(test)]
 mod maker;
-#[cfg(test)]
-mod men;
 #[cfg(test)]
 mod moves;
 #[cfg(test)]

@@ -1,32 +1,30 @@
 //! The outside in memory, which fails at given calls, and the trusted edge.
+ghost use Rattle.std.specs.Prelude.{◌≤◌};
+
 use cq_outside::{
-    Bytes, Calls, Desk, Failed, FileDesk, MemDesk, MemSink, MemSource, NoMemory, OpenFault, Sink,
-    Source, StdSink,
+    Calls, Desk, FileDesk, MemDesk, MemSink, MemSource, NoMemory, OpenFault, Sink, Source, StdSink,
 };
 use std::alloc::Global;
-use std::process::Abort;
 use std::test::Fail;
 
 // ---- reads
 
-/// What reads answer. None is a read that fails.
+/// What calls answer in turn. None is one that fails.
 type Answers<'a> = &'a [Option<usize>];
 
-// What so many reads answer, each of four bytes at most, and the bytes that they gave.
-fn read_in_turn<S: Source>(
-    alloc: Global,
-    source: &mut S,
-    times: usize,
-) -> Result<(Vec<Option<usize>>, Bytes), NoMemory> {
-    let mut answers = Vec::new(alloc);
-    let mut bytes = Bytes::new(alloc);
-    for _turn in 0..times {
-        let mut buffer = [0; 4];
-        let moved = source.read(&mut buffer).ok();
-        bytes.push_all(&buffer[..moved.unwrap_or(0)])?;
-        answers.push(moved)?;
+// What a read of four bytes at most answers. The contract of a read is large, so that it is made here alone; so are the other calls below.
+fn read_one<S: Source>(source: &mut S) -> Option<usize> {
+    source.read(&mut [0; 4]).ok()
+}
+
+// Whether reads answer so in turn.
+fn reads_so<S: Source>(source: &mut S, want: Answers<'_>) -> bool {
+    for answer in want {
+        if read_one(source) != *answer {
+            return false;
+        }
     }
-    Ok((answers, bytes))
+    true
 }
 
 /// The longest piece of a source of five bytes, its reads that fail, and what its reads answer in turn.
@@ -43,41 +41,42 @@ static READS: [(usize, &[u64], Answers<'static>); 6] = [
     ),
 ];
 
-fn expect_reads<R: Abort>(
-    rt: &R,
+fn source_reads_so(
     alloc: Global,
-    row: &(usize, &[u64], Answers<'_>),
-) -> Result<(), Fail> {
-    let (piece, fails, want) = *row;
-    assert!(rt; piece >= 1);
+    piece: usize,
+    fails: &[u64],
+    want: Answers<'_>,
+) -> Result<bool, NoMemory>
+    requires { 1 ≤ piece }
+{
     let mut source = MemSource::new(alloc, b"abcde", piece, fails)?;
-    let (answers, bytes) = read_in_turn(alloc, &mut source, want.len())?;
-    let told = (answers.as_slice(), bytes.as_slice());
-    assert_eq!(rt; told, (want, b"abcde".as_slice()), "at {piece}");
-    Ok(())
+    Ok(reads_so(&mut source, want))
 }
 
 #[test]
 fn a_source_in_memory_gives_pieces_and_fails_at_given_reads(rt: HostRuntime) -> Result<(), Fail> {
-    for row in READS.iter() {
-        expect_reads(&rt, rt.alloc(), row)?;
+    for (piece, fails, want) in READS.iter() {
+        assert!(rt; *piece >= 1);
+        assert!(rt; source_reads_so(rt.alloc(), *piece, fails, want)?);
     }
     Ok(())
 }
 
 // ---- writes
 
-// What so many writes of seven bytes answer.
-fn written_in_turn<S: Sink>(
-    alloc: Global,
-    sink: &mut S,
-    times: usize,
-) -> Result<Vec<Option<usize>>, NoMemory> {
-    let mut answers = Vec::new(alloc);
-    for _turn in 0..times {
-        answers.push(sink.write(b"games 0").ok())?;
+// What a write answers.
+fn write_one<S: Sink>(sink: &mut S, bytes: &[u8]) -> Option<usize> {
+    sink.write(bytes).ok()
+}
+
+// Whether writes of seven bytes answer so in turn.
+fn writes_so(sink: &mut MemSink, want: Answers<'_>) -> bool {
+    for answer in want {
+        if write_one(sink, b"games 0") != *answer {
+            return false;
+        }
     }
-    Ok(answers)
+    true
 }
 
 /// The writes that fail of a sink that takes three bytes a write, what its writes answer in turn, and what it has taken then: nothing
@@ -88,49 +87,52 @@ static WRITES: [(&[u64], Answers<'static>, Option<&[u8]>); 3] = [
     (&[1, 1, 3], &[None, Some(3), None], Some(b"gam")),
 ];
 
-fn expect_writes<R: Abort>(
-    rt: &R,
+fn sink_takes_so(
     alloc: Global,
-    row: &(&[u64], Answers<'_>, Option<&[u8]>),
-) -> Result<(), Fail> {
-    let (fails, want, taken) = *row;
+    fails: &[u64],
+    want: Answers<'_>,
+    taken: Option<&[u8]>,
+) -> Result<bool, NoMemory> {
     let mut sink = MemSink::new(alloc, 7, 3, Calls::of(alloc, fails)?)?;
-    let answers = written_in_turn(alloc, &mut sink, want.len())?;
-    assert_eq!(rt; (answers.as_slice(), sink.taken()), (want, taken));
-    Ok(())
+    Ok(writes_so(&mut sink, want) && sink.taken() == taken)
 }
 
 #[test]
 fn a_sink_in_memory_takes_pieces_and_fails_at_given_writes(rt: HostRuntime) -> Result<(), Fail> {
-    for row in WRITES.iter() {
-        expect_writes(&rt, rt.alloc(), row)?;
+    for (fails, want, taken) in WRITES.iter() {
+        assert!(rt; sink_takes_so(rt.alloc(), fails, want, *taken)?);
     }
     Ok(())
 }
 
 // ---- openings
 
-// What a desk answers to openings in turn.
-fn opened_in_turn<D: Desk>(
-    alloc: Global,
-    desk: &mut D,
-    names: &[&[u8]],
-) -> Result<Vec<Result<(), OpenFault>>, NoMemory> {
-    let mut answers = Vec::new(alloc);
-    for name in names {
-        answers.push(desk.open(alloc, name))?;
-    }
-    Ok(answers)
-}
+/// A name, and what its opening answers.
+type Opening<'a> = (&'a [u8], Result<(), OpenFault>);
 
 const FAILED: Result<(), OpenFault> = Err(OpenFault::Failed);
 
+fn open_one<D: Desk>(alloc: Global, desk: &mut D, name: &[u8]) -> Result<(), OpenFault> {
+    desk.open(alloc, name)
+}
+
+// Whether a desk answers so to openings in turn.
+fn opens_so<D: Desk>(alloc: Global, desk: &mut D, openings: &[Opening<'_>]) -> bool {
+    for (name, answer) in openings {
+        if open_one(alloc, desk, name) != *answer {
+            return false;
+        }
+    }
+    true
+}
+
 /// The second opening fails, and there is no file `b.pgn`.
-static OPENINGS: [&[u8]; 4] = [b"a.pgn", b"a.pgn", b"b.pgn", b"a.pgn"];
-
-static OPENED: [Result<(), OpenFault>; 4] = [Ok(()), FAILED, FAILED, Ok(())];
-
-static THEN_READ: [Option<usize>; 4] = [Some(2), None, Some(1), Some(0)];
+static OPENINGS: [Opening<'static>; 4] = [
+    (b"a.pgn", Ok(())),
+    (b"a.pgn", FAILED),
+    (b"b.pgn", FAILED),
+    (b"a.pgn", Ok(())),
+];
 
 // A desk with a file whose second read fails, and whose second opening does.
 fn failing_desk(alloc: Global) -> Result<MemDesk, NoMemory> {
@@ -142,48 +144,40 @@ fn failing_desk(alloc: Global) -> Result<MemDesk, NoMemory> {
 #[test]
 fn a_desk_in_memory_fails_at_given_openings_and_reads(rt: HostRuntime) -> Result<(), Fail> {
     let mut desk = failing_desk(rt.alloc())?;
-    let opened = opened_in_turn(rt.alloc(), &mut desk, &OPENINGS)?;
-    let (read, _) = read_in_turn(rt.alloc(), &mut desk, 4)?;
-    assert_eq!(rt;
-        (opened.as_slice(), read.as_slice()),
-        (OPENED.as_slice(), THEN_READ.as_slice())
-    );
+    assert!(rt; opens_so(rt.alloc(), &mut desk, &OPENINGS));
+    assert!(rt; reads_so(&mut desk, &[Some(2), None, Some(1), Some(0)]));
     Ok(())
 }
 
 // ---- the trusted edge
 
-/// There is no file of these names; the second is no UTF-8.
-static NO_FILES: [&[u8]; 3] = [b"cq_outside_no_file.pgn", b"\xff", b""];
-
-static NOT_OPENED: [Result<(), OpenFault>; 3] = [FAILED, FAILED, FAILED];
+/// There is no file of the first names, of which the second is no UTF-8; the last is a folder.
+static FILES: [Opening<'static>; 4] = [
+    (b"cq_outside_no_file.pgn", FAILED),
+    (b"\xff", FAILED),
+    (b"", FAILED),
+    (b".", Ok(())),
+];
 
 // At first nothing is open. A folder is opened, and can't be read.
 #[test]
 fn a_desk_fails_at_no_file_and_at_a_folder(rt: HostRuntime) -> Result<(), Fail> {
-    let alloc = rt.alloc();
-    let mut desk = FileDesk::new(alloc, rt, b"in a pipe".as_slice())?;
-    let at_first = desk.read(&mut [0; 4]);
-    let opened = opened_in_turn(alloc, &mut desk, &NO_FILES)?;
-    desk.open(alloc, b".")?;
-    let folder = desk.read(&mut [0; 4]);
-    assert_eq!(rt;
-        (at_first, opened.as_slice(), folder),
-        (Ok(0), NOT_OPENED.as_slice(), Err(Failed))
-    );
+    let mut desk = FileDesk::new(rt.alloc(), rt, b"in a pipe".as_slice())?;
+    assert!(rt; read_one(&mut desk) == Some(0));
+    assert!(rt; opens_so(rt.alloc(), &mut desk, &FILES));
+    assert!(rt; read_one(&mut desk).is_none());
     Ok(())
 }
 
 // What a write of some bytes to a full buffer answers.
-fn written_to_full(alloc: Global, bytes: &[u8]) -> Result<Result<usize, Failed>, Fail> {
+fn written_to_full(alloc: Global, bytes: &[u8]) -> Result<Option<usize>, NoMemory> {
     let mut sink = StdSink::new(alloc, &mut [0u8; 0][..])?;
-    Ok(sink.write(bytes))
+    Ok(write_one(&mut sink, bytes))
 }
 
 #[test]
 fn a_full_buffer_takes_no_byte(rt: HostRuntime) -> Result<(), Fail> {
-    let full = written_to_full(rt.alloc(), b"games 2\n")?;
-    let nothing = written_to_full(rt.alloc(), b"")?;
-    assert_eq!(rt; (full, nothing), (Err(Failed), Ok(0)));
+    assert!(rt; written_to_full(rt.alloc(), b"games 2\n")?.is_none());
+    assert!(rt; written_to_full(rt.alloc(), b"")? == Some(0));
     Ok(())
 }

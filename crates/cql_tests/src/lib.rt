@@ -1,16 +1,29 @@
-//! Tests of the crates of queries: trees, lines and plans by calls that the program does not make, lines of reports, and workers at the gate.
+//! Tests of the crates of queries: trees, lines and plans by calls that the program does not make, columns beside the plain evaluator,
+//! several queries at once, and workers at the gate.
 #![tactic(auto)]
 
 #[cfg(test)]
+mod beside;
+#[cfg(test)]
+mod drawn;
+#[cfg(test)]
 mod first_match;
 #[cfg(test)]
+mod games;
+#[cfg(test)]
+mod keys;
+#[cfg(test)]
 mod lines;
+#[cfg(test)]
+mod many;
+#[cfg(test)]
+mod many_workers;
 #[cfg(test)]
 mod plain;
 #[cfg(test)]
 mod plans;
 #[cfg(test)]
-mod reports;
+mod queries;
 #[cfg(test)]
 mod syntax;
 #[cfg(test)]

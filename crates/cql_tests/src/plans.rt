@@ -12,12 +12,11 @@ use pgn_reader::read_game;
 use pgn_tree::Game;
 use std::alloc::Global;
 use std::marker::Brand;
-use std::process::Abort;
 use std::sync::ledger::{Blank, Ledger};
 use std::test::Fail;
 
-// The query that a text is.
-fn read_query(alloc: Global, text: &[u8]) -> Result<TypedQuery, Refusal<QueryFault>> {
+/// The query that a text is.
+pub(crate) fn read_query(alloc: Global, text: &[u8]) -> Result<TypedQuery, Refusal<QueryFault>> {
     tokens_of_a_text_are_ended();
     spelled_queries_have_no_any();
     let tokens = query_tokens(alloc, text)?;
@@ -25,7 +24,13 @@ fn read_query(alloc: Global, text: &[u8]) -> Result<TypedQuery, Refusal<QueryFau
     check(&query)
 }
 
-/// The plan of the query that a text is.
+/// Its flat form.
+pub(crate) fn flat_query(alloc: Global, text: &[u8]) -> Result<FlatQuery, Refusal<QueryFault>> {
+    let query = read_query(alloc, text)?;
+    Ok(expand(alloc, &query)?)
+}
+
+/// Its plan.
 pub(crate) fn plan_of(alloc: Global, text: &[u8]) -> Result<Plan, Refusal<QueryFault>> {
     let query = read_query(alloc, text)?;
     Ok(Plan::make(alloc, &query)?)
@@ -68,30 +73,22 @@ static ROWS: [Row<'static>; 5] = [
     ),
 ];
 
-// Asks what the plan of a query says of a game.
-fn expect<R: Abort>(rt: &R, alloc: Global, row: &Row<'_>) -> Result<(), Fail> {
+// Whether the plan of a query says this of a game.
+fn is_right(alloc: Global, row: &Row<'_>) -> Result<bool, Fail> {
     let (query, game, may, nodes, keys) = *row;
     let plan = plan_of(alloc, query)?;
     let game = read_game(alloc, game, 0, true)?;
     let verdict = found(alloc, &plan, &game)?;
-    let said = (may_hold(&plan, &game), verdict.nodes(), verdict.keys());
-    assert_eq!(rt; said, (may, nodes, keys), "of {query:?}");
-    Ok(())
+    let holds = may_hold(&plan, &game);
+    Ok(holds == may && verdict.nodes() == nodes && verdict.keys() == keys)
 }
 
 #[test]
 fn plans_turn_games_away_and_find_hits_and_keys(rt: HostRuntime) -> Result<(), Fail> {
     for row in ROWS.iter() {
-        expect(&rt, rt.alloc(), row)?;
+        assert!(rt; is_right(rt.alloc(), row)?);
     }
     Ok(())
-}
-
-// The form in which the query that a text is is asked.
-fn joined(alloc: Global, text: &[u8]) -> Result<FlatQuery, Refusal<QueryFault>> {
-    let query = read_query(alloc, text)?;
-    let flat = expand(alloc, &query)?;
-    Ok(join(alloc, &flat)?)
 }
 
 /// A query, and how many parts its first item has in the form that is asked, where it is braces there.
@@ -114,17 +111,17 @@ fn parts_of_first(query: &FlatQuery) -> usize {
     }
 }
 
-fn expect_parts<R: Abort>(rt: &R, alloc: Global, row: &Asked<'_>) -> Result<(), Fail> {
-    let (query, parts) = row;
-    let joined = joined(alloc, query)?;
-    assert_eq!(rt; parts_of_first(&joined), *parts, "of {query:?}");
-    Ok(())
+// Whether the form in which a query is asked has so many parts first.
+fn has_parts(alloc: Global, query: &[u8], parts: usize) -> Result<bool, Fail> {
+    let flat = flat_query(alloc, query)?;
+    let joined = join(alloc, &flat)?;
+    Ok(parts_of_first(&joined) == parts)
 }
 
 #[test]
 fn what_stands_in_each_image_is_asked_once(rt: HostRuntime) -> Result<(), Fail> {
-    for row in JOINED.iter() {
-        expect_parts(&rt, rt.alloc(), row)?;
+    for (query, parts) in JOINED.iter() {
+        assert!(rt; has_parts(rt.alloc(), query, *parts)?);
     }
     Ok(())
 }

@@ -8,7 +8,6 @@ use cql_syntax::{
     Constituents, Filter, Filters, Form, Kind, Plain, Query, QueryFault, Terms, kind_of, weight,
 };
 use std::alloc::Global;
-use std::process::Abort;
 use std::test::Fail;
 
 // The query that a text is, before its kinds are looked at.
@@ -58,28 +57,27 @@ static FORMS: [Row<'static>; 34] = [
     (b"cql() 1 + up 2 A", 4, Kind::Number),
 ];
 
-// The kind of a copy of the first item, and whether this is the same; nothing where there is no item.
-fn copied(alloc: Global, query: &Query) -> Result<Option<(Kind, bool)>, NoMemory> {
+// Whether a copy of the first item is of this kind, and is the same.
+fn is_copied(alloc: Global, query: &Query, kind: Kind) -> Result<bool, NoMemory> {
     let Some(first) = query.items.as_slice().first() else {
-        return Ok(None);
+        return Ok(false);
     };
     let copy = first.copy(alloc)?;
-    Ok(Some((kind_of(&copy), same_filter(&copy, first))))
+    Ok(kind_of(&copy) == kind && same_filter(&copy, first))
 }
 
-// Asks that a copy of a query has its weight and its kind.
-fn expect<R: Abort>(rt: &R, alloc: Global, row: &Row<'_>) -> Result<(), Fail> {
+// Whether a copy of a query has its weight, and a copy of its first item its kind.
+fn is_right(alloc: Global, row: &Row<'_>) -> Result<bool, Fail> {
     let (text, heavy, kind) = *row;
     let query = parsed(alloc, text)?.copy()?;
-    let told = (weight(&query), copied(alloc, &query)?);
-    assert_eq!(rt; told, (heavy, Some((kind, true))), "of {text:?}");
-    Ok(())
+    let copied = is_copied(alloc, &query, kind)?;
+    Ok(copied && weight(&query) == heavy)
 }
 
 #[test]
 fn copies_of_each_form_are_the_same(rt: HostRuntime) -> Result<(), Fail> {
     for row in FORMS.iter() {
-        expect(&rt, rt.alloc(), row)?;
+        assert!(rt; is_right(rt.alloc(), row)?);
     }
     Ok(())
 }
@@ -104,23 +102,23 @@ static PAIRS: [Pair<'static>; 4] = [
     ),
 ];
 
-// Asks that two queries begin with items that are as much the same.
-fn expect_pair<R: Abort>(rt: &R, alloc: Global, pair: &Pair<'_>) -> Result<(), Fail> {
-    let (text, other_text, same, but_for_places) = *pair;
-    let one = parsed(alloc, text)?;
-    let other = parsed(alloc, other_text)?;
-    let found = match (one.items.as_slice().first(), other.items.as_slice().first()) {
-        (Some(f), Some(g)) => Some((same_filter(f, g), same_unplaced(f, g))),
-        _ => None,
+// Whether two queries begin with items that are as much the same.
+fn is_pair(one: &Query, other: &Query, same: bool, but_for_places: bool) -> bool {
+    let Some(f) = one.items.as_slice().first() else {
+        return false;
     };
-    assert_eq!(rt; found, Some((same, but_for_places)), "{text:?}");
-    Ok(())
+    let Some(g) = other.items.as_slice().first() else {
+        return false;
+    };
+    same_filter(f, g) == same && same_unplaced(f, g) == but_for_places
 }
 
 #[test]
 fn trees_that_differ_are_not_the_same(rt: HostRuntime) -> Result<(), Fail> {
-    for pair in PAIRS.iter() {
-        expect_pair(&rt, rt.alloc(), pair)?;
+    for (text, other_text, same, but_for_places) in PAIRS.iter() {
+        let one = parsed(rt.alloc(), text)?;
+        let other = parsed(rt.alloc(), other_text)?;
+        assert!(rt; is_pair(&one, &other, *same, *but_for_places));
     }
     Ok(())
 }
@@ -137,7 +135,7 @@ fn a_family_that_is_written_out_has_its_kind(rt: HostRuntime) -> Result<(), Fail
         at: 6,
         form: Form::Any(Kind::Set, filters),
     };
-    assert_eq!(rt; kind_of(&any), Kind::Set);
+    assert!(rt; kind_of(&any) == Kind::Set);
     Ok(())
 }
 

@@ -2,7 +2,7 @@
 ghost use Rattle.std.specs.Prelude.{◌≤◌};
 
 use crate::plans::plan_of;
-use cq_outside::{Bytes, Gate, NoMemory, OpenGate};
+use cq_outside::{Bytes, Gate, NoMemory};
 use cq_shards::{Batch, run_batch};
 use cql_plan::Plan;
 use pgn_cut::cut_whole;
@@ -33,8 +33,8 @@ fn push_export(text: &mut Bytes, number: u32) -> Result<(), NoMemory> {
     text.push_all(b"} {CQL} *\n\n")
 }
 
-// An archive of the games.
-fn archive_of(alloc: Global) -> Result<Bytes, NoMemory> {
+/// An archive of the games.
+pub(crate) fn archive_of(alloc: Global) -> Result<Bytes, NoMemory> {
     let mut archive = Bytes::new(alloc);
     for number in 0..WATCHED {
         push_game(&mut archive, number)?;
@@ -44,11 +44,10 @@ fn archive_of(alloc: Global) -> Result<Bytes, NoMemory> {
 
 /// A gate that counts its calls, and at which the first call of one kind waits for calls of another worker.
 #[derive(Drop)]
-struct Watch {
+pub(crate) struct Watch {
     exports: Vec<Bytes>,
-    /// How often each game was entered, and left.
-    entered: Vec<AtomicU32>,
-    left: Vec<AtomicU32>,
+    /// How often each game was entered or left.
+    calls: Vec<AtomicU32>,
     /// How many games each of the two workers left.
     by_worker: Vec<AtomicU32>,
     enters: AtomicU32,
@@ -58,6 +57,17 @@ struct Watch {
     /// Whether the first call of `enter` waits, until all other games are left. Else that of `leave` does, until the other worker
     /// has left a game.
     at_enter: bool,
+}
+
+// Their exports.
+fn exports_of(alloc: Global) -> Result<Vec<Bytes>, NoMemory> {
+    let mut exports = Vec::new(alloc);
+    for number in 0..WATCHED {
+        let mut text = Bytes::new(alloc);
+        push_export(&mut text, number)?;
+        exports.push(text)?;
+    }
+    Ok(exports)
 }
 
 // So many counts of nothing.
@@ -88,18 +98,14 @@ fn comes_to(count: &AtomicU32, high: u32) -> bool {
 }
 
 impl Watch {
-    fn new(alloc: Global, at_enter: bool) -> Result<Watch, NoMemory> {
-        let mut exports = Vec::new(alloc);
-        for number in 0..WATCHED {
-            let mut text = Bytes::new(alloc);
-            push_export(&mut text, number)?;
-            exports.push(text)?;
-        }
+    pub(crate) fn new(alloc: Global, at_enter: bool) -> Result<Watch, NoMemory> {
+        let exports = exports_of(alloc)?;
+        let calls = counts(alloc, WATCHED)?;
+        let by_worker = counts(alloc, 2)?;
         Ok(Watch {
             exports,
-            entered: counts(alloc, WATCHED)?,
-            left: counts(alloc, WATCHED)?,
-            by_worker: counts(alloc, 2)?,
+            calls,
+            by_worker,
             enters: AtomicU32::new(0),
             leaves: AtomicU32::new(0),
             wrong: AtomicU32::new(0),
@@ -113,38 +119,47 @@ impl Watch {
         }
     }
 
-    // How many calls of both kinds there were, and how many were wrong.
-    fn calls(&self) -> (u32, u32, u32) {
-        (
-            self.enters.load(Ordering::Relaxed),
-            self.leaves.load(Ordering::Relaxed),
-            self.wrong.load(Ordering::Relaxed),
-        )
+    // Whether this is the export of a game.
+    fn is_export(&self, shard: u64, text: &[u8]) -> bool {
+        match self.exports.get(shard as usize) {
+            Some(export) => export.as_slice() == text,
+            None => false,
+        }
+    }
+
+    // Whether the other worker came to leave a game.
+    fn meets_other(&self, worker: u64) -> bool {
+        match self.by_worker.get((worker ^ 1) as usize) {
+            Some(other) => comes_to(other, 1),
+            None => false,
+        }
+    }
+
+    /// Whether there were as many calls of both kinds as games, none of which was wrong.
+    pub(crate) fn has_seen_all(&self) -> bool {
+        let enters = self.enters.load(Ordering::Relaxed);
+        let leaves = self.leaves.load(Ordering::Relaxed);
+        let wrong = self.wrong.load(Ordering::Relaxed);
+        enters == WATCHED && leaves == WATCHED && wrong == 0
     }
 }
 
 impl Gate for Watch {
     fn enter(&self, _worker: u64, shard: u64) {
         let first = self.enters.fetch_add(1, Ordering::Relaxed) == 0;
-        self.asks(count_at(self.entered.as_slice(), shard) == Some(0));
+        self.asks(count_at(self.calls.as_slice(), shard) == Some(0));
         if first && self.at_enter {
             self.asks(comes_to(&self.leaves, WATCHED - 1));
         }
     }
 
     fn leave(&self, worker: u64, shard: u64, text: &[u8]) {
-        self.asks(count_at(self.left.as_slice(), shard) == Some(0));
-        match self.exports.get(shard as usize) {
-            Some(export) => self.asks(export.as_slice() == text),
-            None => self.asks(false),
-        }
+        self.asks(count_at(self.calls.as_slice(), shard) == Some(1));
+        self.asks(self.is_export(shard, text));
         self.asks(count_at(self.by_worker.as_slice(), worker).is_some());
         let first = self.leaves.fetch_add(1, Ordering::Relaxed) == 0;
         if first && !self.at_enter {
-            match self.by_worker.get((worker ^ 1) as usize) {
-                Some(other) => self.asks(comes_to(other, 1)),
-                None => self.asks(false),
-            }
+            self.asks(self.meets_other(worker));
         }
     }
 }
@@ -165,17 +180,14 @@ pub(crate) fn batch_of<R: Abort>(
 }
 
 // How many answers a batch has. The contract of this call is a large one, so that it is made here alone.
-fn answered<R: Threads + Sync, G: Gate + Sync>(
+fn answered<R: Threads + Sync>(
     rt: &R,
     alloc: Global,
     plan: &Plan,
     batch: &Batch,
-    workers: u32,
-    gate: &G,
-) -> Result<usize, NoMemory>
-    requires { (1 ≤ workers) × (workers ≤ 64) }
-{
-    Ok(run_batch(rt, alloc, plan, batch, workers, gate)?.len())
+    gate: &Watch,
+) -> Result<usize, NoMemory> {
+    Ok(run_batch(rt, alloc, plan, batch, 2, gate)?.len())
 }
 
 // Asks that two workers enter and leave each game of a batch once.
@@ -188,8 +200,9 @@ fn expect_both<R: Threads + Sync + Abort>(
     let archive = archive_of(alloc)?;
     let batch = batch_of(rt, alloc, archive.as_slice(), 0)?;
     let watch = Watch::new(alloc, at_enter)?;
-    let count = answered(rt, alloc, plan, &batch, 2, &watch)?;
-    assert_eq!(rt; (count, watch.calls()), (64, (64, 64, 0)));
+    let count = answered(rt, alloc, plan, &batch, &watch)?;
+    assert!(rt; count == 64);
+    assert!(rt; watch.has_seen_all());
     Ok(())
 }
 
@@ -203,14 +216,4 @@ fn two_workers_meet(rt: HostRuntime) -> Result<(), Fail> {
 fn one_worker_takes_the_rest(rt: HostRuntime) -> Result<(), Fail> {
     let plan = plan_of(rt.alloc(), b"cql() initial")?;
     expect_both(&rt, rt.alloc(), &plan, true)
-}
-
-#[test]
-fn an_empty_batch_has_no_answers(rt: HostRuntime) -> Result<(), Fail> {
-    let alloc = rt.alloc();
-    let plan = plan_of(alloc, b"cql() initial")?;
-    let batch = batch_of(&rt, alloc, b"", 0)?;
-    let count = answered(&rt, alloc, &plan, &batch, 64, &OpenGate)?;
-    assert_eq!(rt; (batch.len(), count), (0, 0));
-    Ok(())
 }

@@ -7,7 +7,7 @@ use Rattle.cql_syntax.specs.declared.typed.TypedQuery.{TypedQuery}
 use Rattle.cq_shared.specs.Plans.{queries_of, trees_of}
 use Rattle.cq_shards.specs.Answers.{AreAnswersOf}
 use Rattle.cq_shards.specs.Many.{AreManyOf, answers_in}
-use Rattle.cq_shared_tests.proofs.workers.answered.Goals as goal
+use Rattle.cql_tests.proofs.many_workers.answered.Goals as goal
 
 pub returns : goal.returns
 returns g c =

@@ -1,11 +1,14 @@
 //! The values of sort items beside the plain evaluator, node by node.
+ghost use Rattle.std.specs.Prelude.{◌<◌, length};
 
-use crate::beside::{flat_query, found};
+use crate::beside::found;
 use crate::games::GAMES;
+use crate::plans::flat_query;
 use cq_maker::make_archive;
+use cq_outside::NoMemory;
 use cql_eval::Column;
 use cql_plain::number_at;
-use cql_syntax::{Filter, Form};
+use cql_syntax::{Filter, FlatQuery, Form};
 use cql_values::Names;
 use pgn_reader::read_game;
 use pgn_tree::Game;
@@ -22,26 +25,44 @@ cql(variations) sort \"rating\" elo sort min \"length\" ply\n\
 cql() sort \"year\" year btm sort min \"men\" #(A | a) sort \"least\" min(#A ply) terminal\n\
 cql() flipcolor { move capture n } sort min \"rank\" 3 * #(P & up p) - depth sort \"row\" line --> .+";
 
-// Compares the values of a sort item with the plain evaluator's at each node of a game.
-fn compare_row<R: Abort>(
-    rt: &R,
+// The plain evaluator's number at a node; none at a node that is not searched.
+fn plain_number(
+    alloc: Global,
+    number: &Filter,
+    game: &Game,
+    variations: bool,
+    node: u32,
+) -> Result<Option<i64>, NoMemory>
+    requires { node < length game.now.nodes }
+{
+    if !variations && !game.is_main(node) {
+        return Ok(None);
+    }
+    let names = Names::new(alloc);
+    number_at(alloc, number, game, variations, node, &[], &names)
+}
+
+// Whether the values of a sort item are the plain evaluator's at each node of a game.
+fn is_plain(
     alloc: Global,
     number: &Filter,
     sort: u32,
     column: &Column,
     game: &Game,
     variations: bool,
-) -> Result<(), Fail> {
-    assert!(rt; (sort as usize) < column.sorts());
-    assert_eq!(rt; column.row(sort as usize).len(), game.len() as usize);
-    let names = Names::new(alloc);
-    for node in 0..game.len() {
-        let searched = variations || game.is_main(node);
-        let value = number_at(alloc, number, game, variations, node, &[], &names)?;
-        let expected = if searched { value } else { None };
-        assert_eq!(rt; column.key(sort, node), expected, "item {sort} at {node}");
+) -> Result<bool, Fail> {
+    if (sort as usize) >= column.sorts() {
+        return Ok(false);
     }
-    Ok(())
+    if column.row(sort as usize).len() != game.len() as usize {
+        return Ok(false);
+    }
+    for node in 0..game.len() {
+        if column.key(sort, node) != plain_number(alloc, number, game, variations, node)? {
+            return Ok(false);
+        }
+    }
+    Ok(true)
 }
 
 // Compares an item, if it is the sort item of a number, and answers the number of the next.
@@ -57,22 +78,34 @@ fn compare_item<R: Abort>(
     match &item.form {
         Form::Sort(.., number) => {
             assert!(rt; sort < 4);
-            compare_row(rt, alloc, number, sort, column, game, variations)?;
+            assert!(rt; is_plain(alloc, number, sort, column, game, variations)?);
             Ok(sort + 1)
         }
         _ => Ok(sort),
     }
 }
 
+// Compares all items, and answers how many are sort items of numbers.
+fn compare_items<R: Abort>(
+    rt: &R,
+    alloc: Global,
+    query: &FlatQuery,
+    column: &Column,
+    game: &Game,
+) -> Result<u32, Fail> {
+    let mut sort = 0;
+    for item in query.items.as_slice() {
+        sort = compare_item(rt, alloc, item, sort, column, game, query.variations)?;
+    }
+    Ok(sort)
+}
+
 fn compare<R: Abort>(rt: &R, alloc: Global, text: &[u8], game: &[u8]) -> Result<(), Fail> {
     let query = flat_query(alloc, text)?;
     let game = read_game(alloc, game, 0, true)?;
     let column = found(alloc, &query, &game)?;
-    let mut sort = 0;
-    for item in query.items.as_slice() {
-        sort = compare_item(rt, alloc, item, sort, &column, &game, query.variations)?;
-    }
-    assert_eq!(rt; column.sorts(), sort as usize);
+    let sorts = compare_items(rt, alloc, &query, &column, &game)?;
+    assert!(rt; column.sorts() == sorts as usize);
     Ok(())
 }
 

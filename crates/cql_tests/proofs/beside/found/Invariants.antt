@@ -1,4 +1,4 @@
-use Rattle.cq_shared_tests.proofs.parts.found.Given as goal
+use Rattle.cql_tests.proofs.beside.found.Given as goal
 
 abbrev pub ghosts-counted : goal.ghosts-counted
 ghosts-counted a = record { name = a.blank.name; parts = a.blank.parts }

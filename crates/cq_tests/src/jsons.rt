@@ -13,10 +13,8 @@ const GAME: &[u8] =
 #[test]
 fn a_game_has_what_the_laws_of_lines_ask(rt: HostRuntime) -> Result<(), Refusal<GameFault>> {
     let game = read_game(rt.alloc(), GAME, 0, true)?;
-    assert_eq!(rt;
-        (games_are_kept(&game), texts_are_bytes(&game)),
-        (true, true)
-    );
+    assert!(rt; games_are_kept(&game));
+    assert!(rt; texts_are_bytes(&game));
     Ok(())
 }
 

@@ -7,11 +7,9 @@ ghost use Rattle.cql_values.specs.Trees.{searched_tree};
 ghost use Rattle.cq_shared.specs.Plans.{queries_of, plan_parts};
 ghost use Rattle.cq_shared.specs.Verdicts.{nodes_of};
 
+use crate::plans::read_query;
 use cq_outside::{NoMemory, Refusal, Steps};
 use cq_shared::{SharedPlan, Verdicts, match_all};
-use cql_kinds::check;
-use cql_lexer::query_tokens;
-use cql_parser::{parse, spelled_queries_have_no_any, tokens_of_a_text_are_ended};
 use cql_syntax::{QueryFault, TypedQuery};
 use pgn_reader::read_game;
 use pgn_tree::Game;
@@ -21,19 +19,11 @@ use std::process::Abort;
 use std::sync::ledger::{Blank, Ledger};
 use std::test::Fail;
 
-fn query_of(alloc: Global, text: &[u8]) -> Result<TypedQuery, Refusal<QueryFault>> {
-    tokens_of_a_text_are_ended();
-    spelled_queries_have_no_any();
-    let tokens = query_tokens(alloc, text)?;
-    let query = parse(alloc, tokens.as_slice())?;
-    check(&query)
-}
-
 // The queries that some texts are.
 fn read_queries(alloc: Global, texts: &[&[u8]]) -> Result<Vec<TypedQuery>, Refusal<QueryFault>> {
     let mut queries = Vec::new(alloc);
     for text in texts {
-        queries.push(query_of(alloc, *text)?)?;
+        queries.push(read_query(alloc, *text)?)?;
     }
     Ok(queries)
 }
@@ -138,6 +128,13 @@ static ROWS: [Row<'static>; 7] = [
     (&SIXTEEN, 1, (&[0, 2], &[]), (&[0, 2], &[])),
 ];
 
+// Whether this is found of a query.
+fn is_found(verdicts: &Verdicts, query: u32, want: &Found<'_>) -> bool
+    requires { query < length (nodes_of verdicts.now) }
+{
+    verdicts.nodes(query) == want.0 && verdicts.keys(query) == want.1
+}
+
 fn expect<R: Abort>(rt: &R, alloc: Global, row: &Row<'_>) -> Result<(), Fail> {
     let (texts, parts, first, last) = row;
     let plan = plan_of(rt, alloc, *texts)?;
@@ -145,13 +142,10 @@ fn expect<R: Abort>(rt: &R, alloc: Global, row: &Row<'_>) -> Result<(), Fail> {
     let verdicts = found(alloc, &plan, &game)?;
     let count = plan.len();
     assert!(rt; count >= 1);
-    let found_first = (verdicts.nodes(0), verdicts.keys(0));
-    let found_last = (verdicts.nodes(count - 1), verdicts.keys(count - 1));
-    assert_eq!(rt;
-        (count as usize, plan.parts(), found_first, found_last),
-        (texts.len(), *parts, *first, *last),
-        "of {texts:?}"
-    );
+    assert!(rt; count as usize == texts.len());
+    assert!(rt; plan.parts() == *parts);
+    assert!(rt; is_found(&verdicts, 0, first));
+    assert!(rt; is_found(&verdicts, count - 1, last));
     Ok(())
 }
 

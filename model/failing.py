@@ -1,0 +1,31 @@
+"""Streams of a process that fail after some bytes."""
+
+import os
+import resource
+import signal
+import tempfile
+import tty
+
+
+def input_of(data):
+    """An end of a terminal whose other end sent these bytes and was closed: they are read, and the next read fails. The caller closes it."""
+    ours, theirs = os.openpty()
+    tty.setraw(theirs)
+    os.write(theirs, data)
+    os.close(theirs)
+    return ours
+
+
+def limit_files(size):
+    """What a process does before its program: its files take so many bytes, the write that reaches further takes what fits, and the next fails."""
+    signal.signal(signal.SIGXFSZ, signal.SIG_IGN)
+    resource.setrlimit(resource.RLIMIT_FSIZE, (size, size))
+
+
+def short(run, size, stream):
+    """(status, out, err) of `run`, a call that is handed arguments of Popen, where that stream is a file that takes so many bytes"""
+    with tempfile.TemporaryFile() as file:
+        status, out, err = run(preexec_fn=lambda: limit_files(size), **{stream: file})
+        file.seek(0)
+        taken = file.read()
+    return (status, taken, err) if stream == "stdout" else (status, out, taken)
