@@ -1,10 +1,11 @@
 #!/usr/bin/env python3
-"""Refuses each request for memory in turn, in runs of every mode and of queries of each form, and in runs of pgnjson.
+"""Refuses each request for memory in turn, in runs of every mode and of queries of each form, and in runs of pgnjson and
+pgnpieces.
 
-    bench/allocations.py BINARY [PGNJSON]
+    bench/allocations.py BINARY [PGNJSON [PGNPIECES]]
 
-BINARY is cqlpgn, and - leaves its runs out. Each run must have the status and the bytes of a run with ample memory, or status 7 and a
-prefix of these bytes on each stream. refuse.c beside this file is what refuses; cc compiles it. Outside the gate."""
+BINARY is cqlpgn; - leaves the runs of a program out. Each run must have the status and the bytes of a run with ample memory, or status 7
+and a prefix of these bytes on each stream. refuse.c beside this file is what refuses; cc compiles it. Outside the gate."""
 
 import os
 import subprocess
@@ -69,6 +70,12 @@ def json_runs():
         yield words, GAMES
 
 
+def pieces_runs():
+    """the words of each run of pgnpieces, and its standard input"""
+    for words in (["-", "1"], ["-", "40"], ["-"], ["none.pgn", "1"]):
+        yield words, GAMES
+
+
 def run(words, data, folder, shim, number):
     """the status, out and err of a run whose request of this number is refused, and whether it was"""
     refused = os.path.join(folder, "refused")
@@ -105,7 +112,7 @@ def main():
     with tempfile.TemporaryDirectory() as folder:
         shim = os.path.join(folder, "refuse.so")
         subprocess.run(["cc", "-O2", "-shared", "-fPIC", os.path.join(HERE, "refuse.c"), "-o", shim, "-ldl"], check=True)
-        for binary, its_runs in zip(sys.argv[1:], (runs(folder), json_runs())):
+        for binary, its_runs in zip(sys.argv[1:], (runs(folder), json_runs(), pieces_runs())):
             for words, data in its_runs if binary != "-" else ():
                 one = tried(os.path.abspath(binary), words, data, folder, shim)
                 counts = tuple(a + b for a, b in zip(counts, one))

@@ -1,5 +1,6 @@
 """Streams of a process that fail after some bytes."""
 
+import contextlib
 import os
 import resource
 import signal
@@ -7,17 +8,23 @@ import tempfile
 import tty
 
 
+@contextlib.contextmanager
 def input_of(data):
-    """An end of a terminal whose other end sent these bytes and was closed: they are read, and the next read fails. The caller closes it."""
+    """an end of a terminal whose other end sent these bytes and is closed: they are read, and the next read fails"""
+    # a terminal holds so many bytes until they are read
+    assert len(data) <= 4096
     ours, theirs = os.openpty()
-    tty.setraw(theirs)
-    os.write(theirs, data)
-    os.close(theirs)
-    return ours
+    try:
+        tty.setraw(theirs)
+        os.write(theirs, data)
+        os.close(theirs)
+        yield ours
+    finally:
+        os.close(ours)
 
 
 def limit_files(size):
-    """What a process does before its program: its files take so many bytes, the write that reaches further takes what fits, and the next fails."""
+    """for preexec_fn: files take so many bytes, the write that reaches further takes what fits, and the next fails"""
     signal.signal(signal.SIGXFSZ, signal.SIG_IGN)
     resource.setrlimit(resource.RLIMIT_FSIZE, (size, size))
 

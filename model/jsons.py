@@ -1,5 +1,5 @@
 #!/usr/bin/env python3
-"""pgnjson as a process: its lines beside those of the model, read again by Python's json, and its exit statuses but that of no memory.
+"""pgnjson as a process: its lines beside those of the model, read again by Python's json, and its exit statuses.
 
     python3 jsons.py BINARY [SEED [COUNT]]
 
@@ -10,6 +10,7 @@ BINARY is the built program. COUNT archives are drawn from the SEED, 300 from se
 import gzip
 import json
 import os
+import resource
 import subprocess
 import sys
 import tempfile
@@ -165,8 +166,10 @@ def statuses():
             compare(f"the words {words}, no text", asked(*words), (3, b"", USAGE))
         compare("no such file", asked(os.path.join(folder, "b.pgn")), (4, b"", b""))
         compare("a folder", asked(folder), (5, b"", b""))
-        compare("the limit itself", asked("--limit", "16", name)[0], 1)
-        compare("a byte above the limit", asked("--limit", "15", name)[0], 8)
+        compare("the limit itself", asked("--limit", "16", name), json_lines.answer(b"1. e4 *\n1. d5 *\n"))
+        compare("a byte above the limit", asked("--limit", "15", name), (8, b"", b""))
+    starve = {"preexec_fn": lambda: resource.setrlimit(resource.RLIMIT_AS, (2**23, 2**23))}
+    compare("no memory for a game", asked(data=b"{" + b"x" * 2**24 + b"} 1. e4 *", **starve), (7, b"", b""))
     with open("/dev/full", "wb") as full:
         for words in ((), ("-",)):
             compare("a full device", asked(*words, data=b"*", stdout=full), (6, b"", b""))
@@ -183,13 +186,11 @@ def failures():
     for workers in ("1", "4"):
         words = ("--workers", workers)
         for read in (archive, batch[:-2]):
-            end = failing.input_of(read)
-            compare("a read that fails in the first batch", asked(*words, stdin=end), (5, b"", b""))
-            os.close(end)
-        end = failing.input_of(batch)
+            with failing.input_of(read) as end:
+                compare("a read that fails in the first batch", asked(*words, stdin=end), (5, b"", b""))
         _, lines_of_batch, faults = json_lines.answer(batch)
-        compare("a read that fails behind a batch", asked(*words, stdin=end), (5, lines_of_batch, faults[: faults.index(b"games ")]))
-        os.close(end)
+        with failing.input_of(batch) as end:
+            compare("a read that fails behind a batch", asked(*words, stdin=end), (5, lines_of_batch, faults[: faults.index(b"games ")]))
         for size in (0, 1, 4, 60, len(out) - 1):
             took = failing.short(lambda **how: asked(*words, data=archive, **how), size, "stdout")
             compare(f"a file of {size} bytes for the lines", took, (6, out[:size], b""))

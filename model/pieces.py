@@ -1,5 +1,5 @@
 #!/usr/bin/env python3
-"""pgnpieces as a process: its tables beside those made of the model's cut, and each exit status.
+"""pgnpieces as a process: its tables beside those made of the model's cut, and its exit statuses but 7 and 8.
 
     python3 pieces.py BINARY
 
@@ -182,9 +182,8 @@ def failures():
         (b"* * *", "4", b"1 0 5 1 3\n"),
         (b"* * *", "6", b""),
     ):
-        end = failing.input_of(archive)
-        compare(f"a read that fails behind {archive} by {least}", asked("-", least, stdin=end), (5, want, b""))
-        os.close(end)
+        with failing.input_of(archive) as end:
+            compare(f"a read that fails behind {archive} by {least}", asked("-", least, stdin=end), (5, want, b""))
     for size in range(len(three)):
         took = failing.short(lambda **how: asked("-", "1", data=b"* * *", **how), size, "stdout")
         compare(f"a file of {size} bytes", took, (6, three[:size], b""))

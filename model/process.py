@@ -4,9 +4,9 @@
     python3 process.py BINARY
 
 First the worked rows and examples (rows.py, worked.py), the cases (cases.py) and what the pages show (pages.py), then every exit status
-that a process can be brought to, with archives from files, from pipes and from `-`, and files of queries; then archives of one batch and
-more, in pieces, by 1 to 64 workers: one text, which is written batch by batch as the archive comes. The last line counts all: 'N passed,
-M failed'.
+that a process can be brought to, with archives from files, from pipes and from `-`, and files of queries; streams that fail after some
+bytes; then archives of one batch and more, in pieces, by 1 to 64 workers: one text, which is written batch by batch as the archive comes.
+The last line counts all: 'N passed, M failed'.
 """
 
 import concurrent.futures
@@ -49,7 +49,11 @@ def process(words, data=b"", folder=None, limit_memory=None, **streams):
 
     how = {"stdin": subprocess.PIPE, "stdout": subprocess.PIPE, "stderr": subprocess.PIPE, "preexec_fn": limits, **streams}
     with subprocess.Popen([BINARY] + words, cwd=folder, **how) as p:
-        out, err = p.communicate(data if how["stdin"] is subprocess.PIPE else None, timeout=120)
+        try:
+            out, err = p.communicate(data if how["stdin"] is subprocess.PIPE else None, timeout=120)
+        except subprocess.TimeoutExpired:
+            p.kill()
+            raise
     return p.returncode, out or b"", err or b""
 
 
@@ -172,13 +176,11 @@ def fail_midway():
         took = failing.short(lambda **how: process(words, b"1. e5 *\n* 1. e6 *\n", **how), 9, "stdout")
         compare("a fault behind a failed write", took, (6, out[:9], b"game 1 byte 3: illegal move\n"))
         for read in (archive, batch[:-2]):
-            end = failing.input_of(read)
-            compare("a read that fails in the first batch", process(words, stdin=end), (5, b"", b""))
-            os.close(end)
-        end = failing.input_of(batch)
+            with failing.input_of(read) as end:
+                compare("a read that fails in the first batch", process(words, stdin=end), (5, b"", b""))
         _, exports, faults = program.run_eval(query, batch)
-        compare("a read that fails behind a batch", process(words, stdin=end), (5, exports, faults[: faults.index(b"games ")]))
-        os.close(end)
+        with failing.input_of(batch) as end:
+            compare("a read that fails behind a batch", process(words, stdin=end), (5, exports, faults[: faults.index(b"games ")]))
     took = failing.short(lambda **how: process(["eval"], **how), 7, "stderr")
     compare("a file that takes a front of the usage line", took, (6, b"", program.USAGE[:7]))
 
@@ -351,7 +353,7 @@ def many_ends(folder):
     compare("a folder of queries", process(["many", ".", "a.pgn"], folder=folder), (5, b"", b""))
     compare("a folder as archive", many(folder, two, "."), (5, b"", b""))
     with open("/dev/full", "wb") as full:
-        compare("a full device takes no queries' games", many(folder, two, stdout=full)[:2], (6, b""))
+        compare("a full device takes no queries' games", many(folder, two, stdout=full), (6, b"", b""))
         status, out, _ = many(folder, two, stderr=full)
         compare("a full device takes no counts", (status, whole[1].startswith(out)), (6, True))
         compare("a full device takes no query's fault", many(folder, b"%%", stderr=full), (6, b"", b""))

@@ -1,4 +1,4 @@
-//! Numbers that are found by many threads.
+//! Numbers that are found in turn, and by many threads.
 ghost use Rattle.std.specs.Prelude.{◌≡◌, ◌<◌, ◌≤◌, All, length};
 ghost use Rattle.cq_first.specs.Seats.{IsSeatOf, numbers_of};
 
@@ -12,6 +12,21 @@ use std::thread::Threads;
 const NUMBERS: u64 = 40_000;
 
 const EACH: u64 = 10_000;
+
+// That a look sees what another seat found, no clause says.
+#[test]
+fn a_seat_sees_what_another_found(rt: HostRuntime) -> Result<(), NoMemory> {
+    let (board, mut seats) = FirstBoard::make(rt.alloc(), 5, 2)?;
+    let mut second = seats.pop().unwrap();
+    let mut first = seats.pop().unwrap();
+    board.lower(&mut second, 3);
+    let found = board.look(&mut first, 4);
+    seats.push(first)?;
+    seats.push(second)?;
+    assert!(rt; found);
+    assert!(rt; board.close(seats) == Ok(3));
+    Ok(())
+}
 
 // Looks for a number, and finds it where it is 7 from a multiple of 1000.
 fn find(board: &FirstBoard, seat: &mut FirstSeat, number: u64)
