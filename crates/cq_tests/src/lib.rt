@@ -1,5 +1,5 @@
-//! Tests of the crates of chess and of PGN, and of those that know neither: vectors from outside, what no process shows, calls of the outside
-//! that fail, and threads beside each other.
+//! Tests of the crates of chess and of PGN, and of those that know neither: vectors from outside, what no process shows, calls of the
+//! outside that fail, and threads beside each other.
 #![tactic(auto)]
 
 #[cfg(test)]
