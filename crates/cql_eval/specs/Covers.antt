@@ -23,22 +23,22 @@ pub record Agree (opened inner outer : Names) : Type 0 where
 -- it has the same values whatever is bound to the opened names, and takes no steps
 pub record IsFree (opened : Names) (f : FilterTree) : Type 0 where
   pub each : (tree : SearchedTree) (inner outer : Names) (n : ℕ)
-    → Agree opened inner outer → value tree [] inner f n ≡ value tree [] outer f n
+      → Agree opened inner outer → value tree [] inner f n ≡ value tree [] outer f n
   pub cost : (nodes : ℕ) → filter_cost nodes f ≡ 0
 
 pub record AreFree (opened : Names) (fs : FilterTrees) : Type 0 where
   pub each : (tree : SearchedTree) (inner outer : Names) (n : ℕ)
-    → Agree opened inner outer → values tree [] inner fs n ≡ values tree [] outer fs n
+      → Agree opened inner outer → values tree [] inner fs n ≡ values tree [] outer fs n
   pub cost : (nodes : ℕ) → filters_cost nodes fs ≡ 0
 
 pub record IsFreeMove (opened : Names) (p : PlayedTree) : Type 0 where
   pub each : (tree : SearchedTree) (inner outer : Names) (n : ℕ)
-    → Agree opened inner outer → played_value tree [] inner p n ≡ played_value tree [] outer p n
+      → Agree opened inner outer → played_value tree [] inner p n ≡ played_value tree [] outer p n
   pub cost : (nodes : ℕ) → played_cost nodes p ≡ 0
 
 pub record IsFreePart (opened : Names) (w : WrittenTree) : Type 0 where
   pub each : (tree : SearchedTree) (inner outer : Names) (n : ℕ)
-    → Agree opened inner outer → written_value tree [] inner w n ≡ written_value tree [] outer w n
+      → Agree opened inner outer → written_value tree [] inner w n ≡ written_value tree [] outer w n
   pub cost : (nodes : ℕ) → written_cost nodes w ≡ 0
 
 -- a name is bound to this square
