@@ -9,7 +9,7 @@ use Rattle.cq_position.specs.Games.{Game}
 use Rattle.cq_shared.specs.Places.{is_among}
 use Rattle.cq_shared.specs.declared.part.Part.{Part}
 use Rattle.cq_shared.specs.declared.nodes.Nodes.{Nodes}
-use Rattle.cql_eval.specs.Columns.{is_live, AreAsked, AreKept}
+use Rattle.cql_columns.specs.Columns.{is_live, AreAsked, AreKept}
 use Rattle.cq_shared.specs.Matching.{is_left, is_asked_by, meets, part_holds, tree_for, IsReady, CoversWanted, IsTold, IsNarrowedBy}
 
 pub record Told (test : ℕ → Bool) (k : ℕ) (items : List Bool) : Type 0 where

@@ -3,8 +3,8 @@ use Rattle.std.specs.Prelude.{◌≡◌, ℕ, zero, suc, ◌+◌, ◌<◌, ◌&&
 use Rattle.std.specs.List.{list_all, sum_by, list_any}
 use Rattle.cq_position.specs.Games.{Game, is_searched}
 use Rattle.cq_position.specs.Search.{SearchedTree}
-use Rattle.cql_eval.specs.Columns.{is_live}
-use Rattle.cql_eval.specs.Costs.{filter_cost, searched_len}
+use Rattle.cql_columns.specs.Columns.{is_live}
+use Rattle.cql_columns.specs.Costs.{filter_cost, searched_len}
 use Rattle.cql_eval.specs.Hits.{number_at}
 use Rattle.cql_syntax.specs.Meaning.{value}
 use Rattle.cql_syntax.specs.Trees.{FilterTree, filter_at, FormTree, sort}

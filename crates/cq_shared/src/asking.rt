@@ -1,7 +1,7 @@
 //! What a part gives at the nodes that are asked for.
 ghost use Rattle.std.specs.Prelude.{◌≡◌, ℕ, ◌+◌, ◌<◌, ◌≤◌, [], length, get_or, false, None, IfOk, if◌then◌else◌};
 ghost use Rattle.std.specs.List.{list_any};
-ghost use Rattle.cql_eval.specs.Columns.{AreAsked};
+ghost use Rattle.cql_columns.specs.Columns.{AreAsked};
 ghost use Rattle.cql_eval.specs.Hits.{hits_of, keys_of, AreKeysAtHits};
 ghost use Rattle.cql_syntax.specs.TreeOf.{filters_tree};
 ghost use Rattle.cq_shared.specs.Matching.{tree_for, sort_class, part_cost, cost_at, IsTold, IsRowAt};
@@ -10,7 +10,8 @@ ghost use Rattle.cq_shared.specs.Singles.{shown};
 use crate::nodes::Asked;
 use crate::part::Part;
 use cq_outside::{NoMemory, Steps};
-use cql_eval::{Column, SORTS, hit_columns_at};
+use cql_columns::order::SORTS;
+use cql_eval::{Column, hit_columns_at};
 use pgn_tree::Game;
 use std::alloc::Global;
 use std::sync::ledger::Ledger;

@@ -1,6 +1,6 @@
 //! What is found of each query in a game.
 ghost use Rattle.std.specs.Prelude.{◌≡◌, ◌<◌, length, map, All, AllPairs, IfOk};
-ghost use Rattle.cql_eval.specs.Columns.{is_live};
+ghost use Rattle.cql_columns.specs.Columns.{is_live};
 ghost use Rattle.cql_syntax.specs.Hits.{hits as hits_of};
 ghost use Rattle.cq_shared.specs.Askers.{asked_query, AreAskers};
 ghost use Rattle.cq_shared.specs.Reading.{nodes_there, AreFound, IsFoundBy};

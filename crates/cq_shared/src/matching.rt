@@ -9,7 +9,7 @@ use crate::narrowing::{narrowed, wanted_nodes};
 use crate::nodes::{Narrowed, Nodes, Row, Sorted};
 use crate::part::Part;
 use cq_outside::{NoMemory, Steps};
-use cql_eval::SORTS;
+use cql_columns::order::SORTS;
 use pgn_tree::Game;
 use std::alloc::Global;
 use std::sync::ledger::Ledger;

@@ -1,13 +1,13 @@
 //! The nodes that are left to queries after a part.
 ghost use Rattle.std.specs.Prelude.{◌≡◌, ℕ, ◌<◌, ◌&&◌, ◌||◌, not, length, true, false, get_or, IfOk};
 ghost use Rattle.std.specs.List.{list_any};
-ghost use Rattle.cql_eval.specs.Columns.{AreAsked};
+ghost use Rattle.cql_columns.specs.Columns.{AreAsked};
 ghost use Rattle.cq_shared.specs.Matching.{tree_for, is_left, is_asked_by, IsReady, CoversWanted, IsTold, IsNarrowedBy};
 
 use crate::nodes::Nodes;
 use crate::part::Part;
 use cq_outside::NoMemory;
-use cql_eval::keep_true;
+use cql_columns::narrow::keep_true;
 use pgn_tree::Game;
 use std::alloc::Global;
 

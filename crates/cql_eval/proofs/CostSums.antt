@@ -5,7 +5,7 @@ use Rattle.std.specs.List.{sum_by}
 use Rattle.std.proofs.Math.Nat.{pow-suc}
 use Rattle.std.proofs.lemmas.List.Sums.{sum_by-cons, sum_by-append}
 use Rattle.cql_syntax.specs.Trees.{FilterTree, filter_at, FormTree, designator, number, name, plain, tagged, outcome, elo, unary, direction, chain, sum_of, pair, if_, square, line, played, transform, sort, comment, any, FilterTrees, no_filters, more_filters, TermTrees, no_terms, more_terms, LineTree, path, PlayedTree, move_of, WrittenTree, left_out, written, PartTrees, no_parts, more_parts, BodyTree, atom, group}
-use Rattle.cql_eval.specs.Costs.{filter_cost, form_cost, filters_cost, terms_cost, line_cost, played_cost, written_cost, parts_cost, body_cost, parts_atoms, body_atoms}
+use Rattle.cql_columns.specs.Costs.{filter_cost, form_cost, filters_cost, terms_cost, line_cost, played_cost, written_cost, parts_cost, body_cost, parts_atoms, body_atoms}
 use Rattle.cql_eval.specs.AtomsAround.{filter_atoms, form_atoms, filters_atoms, terms_atoms, line_atoms, played_atoms, written_atoms, row_atoms, inner_atoms, looks_in}
 
 module _ (n : ℕ) where

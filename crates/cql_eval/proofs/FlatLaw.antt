@@ -17,7 +17,7 @@ use Rattle.cql_syntax.specs.declared.leaves.Kind.TheVariants.{Position, Set, Num
 use Rattle.cql_syntax.specs.declared.tree.Filter.{Filter}
 use Rattle.cql_syntax.specs.declared.tree.Term.{Term}
 use Rattle.cql_values.proofs.Ranges.{left, right, both}
-use Rattle.cql_eval.specs.FlatTrees.{unflat, unflat_all, unflat_terms, unflat_part, unflat_parts, unflat_body, IsFlat, IsFlatForm, AreFlat, AreFlatTerms, IsFlatLine, IsFlatMove, IsFlatPart, AreFlatParts, IsFlatBody}
+use Rattle.cql_columns.specs.FlatTrees.{unflat, unflat_all, unflat_terms, unflat_part, unflat_parts, unflat_body, IsFlat, IsFlatForm, AreFlat, AreFlatTerms, IsFlatLine, IsFlatMove, IsFlatPart, AreFlatParts, IsFlatBody}
 
 -- no family, and no long line
 abbrev free : Occurrence → Bool

@@ -2,8 +2,8 @@
 use Rattle.std.specs.Prelude.{ℕ, Bool, ◌∷◌}
 use Rattle.cql_syntax.specs.Trees.{FilterTree}
 use Rattle.cql_syntax.specs.Values.{holds}
-use Rattle.cql_eval.specs.Scopes.{value_with}
-use Rattle.cql_eval.specs.declared.binding.Binding.{Binding}
+use Rattle.cql_columns.specs.Scopes.{value_with}
+use Rattle.cql_columns.specs.declared.binding.Binding.{Binding}
 
 -- whether a filter holds at a node with a square bound to the name
 abbrev pub holds_with : Binding → FilterTree → ℕ → ℕ → Bool

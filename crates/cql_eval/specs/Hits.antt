@@ -6,7 +6,7 @@ use Rattle.cql_syntax.specs.Hits.{is_hit}
 use Rattle.cql_syntax.specs.Meaning.{value}
 use Rattle.cql_syntax.specs.Trees.{FilterTree, filter_at, FormTree, sort, FilterTrees, no_filters, more_filters}
 use Rattle.cql_syntax.specs.Values.{amount}
-use Rattle.cql_eval.specs.Columns.{is_live}
+use Rattle.cql_columns.specs.Columns.{is_live}
 use Rattle.cql_eval.specs.declared.column.Column.{Column}
 
 -- node by node: whether all items hold, and the values of each sort item

@@ -2,7 +2,7 @@
 use Rattle.std.specs.Prelude.{ℕ, List}
 use Rattle.cql_syntax.specs.Meaning.{Names}
 use Rattle.cql_syntax.specs.Values.{Value}
-use Rattle.cql_eval.specs.Covers.{AreCut, MayHold, MayHave}
+use Rattle.cql_columns.specs.Covers.{AreCut, MayHold, MayHave}
 use Rattle.cql_eval.specs.declared.evaluate.trial.Trial.{Trial}
 
 -- of the sets of squares some are left, among them all with which values may hold

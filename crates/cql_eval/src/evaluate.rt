@@ -5,12 +5,12 @@ ghost use Rattle.cq_position.specs.Games.{IsTree};
 ghost use Rattle.cql_syntax.specs.Meaning as meaning;
 ghost use Rattle.cql_syntax.specs.TreeOf.{filter_tree, filters_tree, terms_tree, played_tree, written_tree, line_tree};
 ghost use Rattle.cql_syntax.specs.Values as spec;
-ghost use Rattle.cql_eval.specs.Asked.{AreUnsettled};
-ghost use Rattle.cql_eval.specs.Columns.{AreAsked, AreTruths, IsColumn, Where, shown, all_shown, terms_shown};
-ghost use Rattle.cql_eval.specs.Costs.{filter_cost, filters_cost, terms_cost, played_cost, written_cost, line_cost, searched_len};
-ghost use Rattle.cql_eval.specs.Elsewhere.{asks_elsewhere};
-ghost use Rattle.cql_eval.specs.FlatTrees.{IsFlat, AreFlat, AreFlatTerms, IsFlatMove, IsFlatPart, IsFlatLine};
-ghost use Rattle.cql_eval.specs.Scopes.{tree_in, value_in, values_in};
+ghost use Rattle.cql_columns.specs.Asked.{AreUnsettled};
+ghost use Rattle.cql_columns.specs.Columns.{AreAsked, AreTruths, IsColumn, Where, shown, all_shown, terms_shown};
+ghost use Rattle.cql_columns.specs.Costs.{filter_cost, filters_cost, terms_cost, played_cost, written_cost, line_cost, searched_len};
+ghost use Rattle.cql_columns.specs.Elsewhere.{asks_elsewhere};
+ghost use Rattle.cql_columns.specs.FlatTrees.{IsFlat, AreFlat, AreFlatTerms, IsFlatMove, IsFlatPart, IsFlatLine};
+ghost use Rattle.cql_columns.specs.Scopes.{tree_in, value_in, values_in};
 
 mod chains;
 mod cover_moves;
@@ -23,19 +23,19 @@ mod played;
 mod squares;
 mod trial;
 
-use crate::binding::Binding;
-use crate::combine::{
-    any_values, chain_values, chosen, negated, numbered, pair_column, reached_values, sum_values,
-    unary_values,
-};
-use crate::elsewhere::{found_from, looked_at, looks_elsewhere};
-use crate::filter_column::FilterColumn;
-use crate::leaves::{standing_sets, word_values};
-use crate::nodes::{any_live, narrowed, part_of};
-use crate::scope::Scope;
 pub(crate) use chains::left_by;
 use chains::{all_hold, columns_of, none_holds, terms_of};
 use cq_outside::{NoMemory, Steps};
+use cql_columns::binding::Binding;
+use cql_columns::combine::{
+    any_values, chain_values, chosen, negated, numbered, pair_column, reached_values, sum_values,
+    unary_values,
+};
+use cql_columns::elsewhere::{found_from, looked_at, looks_elsewhere};
+use cql_columns::filter_column::FilterColumn;
+use cql_columns::leaves::{standing_sets, word_values};
+use cql_columns::nodes::{any_live, narrowed, part_of};
+use cql_columns::scope::Scope;
 use cql_syntax::{Chain, Filter, Filters, Form, Kind, Unary};
 use cql_values::headers::{has_text, is_result, rating};
 use cql_values::numbers::counted;
@@ -49,7 +49,7 @@ use std::sync::ledger::Ledger;
 
 /// What a filter gives at each node that is asked for, with squares bound to names. Where no node is asked for nothing is looked at.
 #[cycle(evaluate)]
-#[tactic(auto, unfolding(cql_syntax::specs::Meaning::value, cql_syntax::specs::Contexts::designator_image, crate::specs::Costs::filter_cost, crate::specs::FlatTrees::unflat))]
+#[tactic(auto, unfolding(cql_syntax::specs::Meaning::value, cql_syntax::specs::Contexts::designator_image, cql_columns::specs::Costs::filter_cost, cql_columns::specs::FlatTrees::unflat))]
 pub(crate) fn evaluate<L: Ledger>(
     alloc: Global,
     f: &Filter,

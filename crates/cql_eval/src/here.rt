@@ -3,13 +3,13 @@ ghost use Rattle.std.specs.Prelude.{◌≡◌, ◌<◌, ℕ, length, true, IfOk,
 ghost use Rattle.cql_syntax.specs.TreeOf.{filter_tree};
 ghost use Rattle.cql_syntax.specs.Values as spec;
 ghost use Rattle.cql_eval.specs.Bindings.{holds_with};
-ghost use Rattle.cql_eval.specs.Columns.{AreAsked, AreTruths, shown};
-ghost use Rattle.cql_eval.specs.Scopes.{tree_in};
+ghost use Rattle.cql_columns.specs.Columns.{AreAsked, AreTruths, shown};
+ghost use Rattle.cql_columns.specs.Scopes.{tree_in};
 
-use crate::binding::Binding;
-use crate::filter_column::blank_truths;
-use crate::spans::{asked_end, first_asked};
 use cq_outside::NoMemory;
+use cql_columns::binding::Binding;
+use cql_columns::filter_column::blank_truths;
+use cql_columns::spans::{asked_end, first_asked};
 use cql_here::{Place, is_asked_here, square_here};
 use cql_syntax::Filter;
 use cql_values::names::Names;

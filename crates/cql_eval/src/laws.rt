@@ -2,7 +2,7 @@
 ghost use Rattle.std.specs.Prelude.{◌≡◌, ℕ};
 ghost use Rattle.cql_syntax.specs.Trees.{FilterTrees};
 ghost use Rattle.cql_eval.specs.AtomsAround.{looks_in};
-ghost use Rattle.cql_eval.specs.Costs.{filters_cost};
+ghost use Rattle.cql_columns.specs.Costs.{filters_cost};
 
 /// What flat filters cost at most is a sum over the atoms of their lines: for each a look at each searched node, 64 times for each
 /// `square` around it. The equation holds of all filters, but a family counts nothing in it, and flat filters have none.

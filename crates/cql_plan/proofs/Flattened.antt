@@ -4,7 +4,7 @@ use Rattle.std.specs.List.{filter}
 use Rattle.std.proofs.Math.Path.{fun_ext}
 use Rattle.cq_position.specs.Games.{Game}
 use Rattle.cq_position.specs.Search.{SearchedTree, nodes_in}
-use Rattle.cql_eval.specs.Costs.{filters_cost, searched_len}
+use Rattle.cql_columns.specs.Costs.{filters_cost, searched_len}
 use Rattle.cql_values.specs.Trees.{searched_tree}
 use Rattle.cql_syntax.specs.Flat.{flat_query}
 use Rattle.cql_syntax.specs.Hits.{hits, hits_in, keys, all_keys, tree_of}

@@ -16,7 +16,7 @@ use Rattle.cql_syntax.specs.declared.leaves.Kind.TheVariants.{Position}
 use Rattle.cql_syntax.specs.declared.tree.Filter.{Filter}
 use Rattle.cql_syntax.proofs.Lists.{filter_trees_more}
 use Rattle.cql_syntax.proofs.UnplacedSame.{same_value}
-use Rattle.cql_eval.specs.Costs.{filter_cost, filters_cost}
+use Rattle.cql_columns.specs.Costs.{filter_cost, filters_cost}
 use Rattle.cql_plan.specs.Joined.{is_sound, StandsFor, alone, has_like, is_member}
 use Rattle.cql_plan.specs.Lifted.{each_holds, one_holds, may_stand, AreCommon, AreDivided, AreLeft, IsRest, AreRests}
 use Rattle.cql_plan.proofs.Gathered.{members_more, members_before, member_last, cost_more}

@@ -14,7 +14,7 @@ use Rattle.cq_position.specs.Search.{SearchedTree, has_man, has_man_in}
 use Rattle.cq_position.specs.declared.men.Man.{Man}
 use Rattle.cq_position.specs.declared.men.Man.TheVariants.{K, Q, R, B, N, P, BlackK, BlackQ, BlackR, BlackB, BlackN, BlackP, Empty}
 use Rattle.cq_symmetry.specs.Images.{is_in}
-use Rattle.cql_eval.proofs.Filling.{split_last}
+use Rattle.cql_columns.proofs.Filling.{split_last}
 use Rattle.cql_values.proofs.Masks.{some_set, is_in_bit}
 use Rattle.cql_values.proofs.Ranges.{same_any, any_mapped, in_range, from_range}
 use Rattle.cql_plan.specs.Needs.{one_stands}

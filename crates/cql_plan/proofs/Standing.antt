@@ -22,7 +22,7 @@ use Rattle.cql_syntax.specs.declared.leaves.Kind.TheVariants.{Position, Set, Num
 use Rattle.cql_syntax.specs.declared.leaves.Unary.{Unary}
 use Rattle.cql_syntax.specs.declared.tree.Filter.{Filter}
 use Rattle.cql_syntax.proofs.Lists.{filter_trees_more}
-use Rattle.cql_eval.specs.Costs.{filter_cost, filters_cost}
+use Rattle.cql_columns.specs.Costs.{filter_cost, filters_cost}
 use Rattle.cql_plan.specs.Joined.{is_sound, StandsFor, AllStandFor, tells, Gathers, HaveSameHits}
 use Rattle.cql_plan.proofs.Sound.{all_first, all_second, all_both, own_kind, sound_unary, sound_chain, sound_any, members_from, kinds_of, sound_of}
 

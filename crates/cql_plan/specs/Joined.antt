@@ -15,7 +15,7 @@ use Rattle.cql_syntax.specs.Unplaced.{same_unplaced}
 use Rattle.cql_syntax.specs.Values.{Value, holds, has}
 use Rattle.cql_syntax.specs.declared.leaves.Kind.{Kind}
 use Rattle.cql_syntax.specs.declared.leaves.Kind.TheVariants.{Position, Set, Number}
-use Rattle.cql_eval.specs.Costs.{filter_cost, filters_cost}
+use Rattle.cql_columns.specs.Costs.{filter_cost, filters_cost}
 
 -- what the type of flat queries keeps of each filter in its items: it is no family, its parts are of its kind, and it breaks no rule
 abbrev pub is_sound : Occurrence → Bool

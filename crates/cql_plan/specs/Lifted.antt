@@ -7,7 +7,7 @@ use Rattle.cql_syntax.specs.Occurrences.{Standing, part_of, all_of}
 use Rattle.cql_syntax.specs.Trees.{FilterTree, FilterTrees}
 use Rattle.cql_syntax.specs.Values.{holds}
 use Rattle.cql_syntax.specs.declared.leaves.Kind.TheVariants.{Position}
-use Rattle.cql_eval.specs.Costs.{filter_cost, filters_cost}
+use Rattle.cql_columns.specs.Costs.{filter_cost, filters_cost}
 use Rattle.cql_plan.specs.Joined.{is_sound, is_member, are_members}
 
 abbrev pub each_holds : SearchedTree → Names → ℕ → FilterTrees → Bool

@@ -1,7 +1,7 @@
 //! What a query finds in a game.
 ghost use Rattle.std.specs.Prelude.{◌≡◌, ◌≢◌, ◌+◌, ◌<◌, ◌≤◌, [], length, map, Some, All, AllPairs, IfOk, OnOk};
 ghost use Rattle.cq_position.specs.Search.{nodes_in};
-ghost use Rattle.cql_eval.specs.Costs.{filters_cost, searched_len};
+ghost use Rattle.cql_columns.specs.Costs.{filters_cost, searched_len};
 ghost use Rattle.cql_syntax.specs.Hits.{hits_in, all_keys};
 ghost use Rattle.cql_syntax.specs.TreeOf.{filters_tree};
 ghost use Rattle.cql_values.specs.Trees.{searched_tree};

@@ -3,7 +3,7 @@ use Rattle.std.proofs.Common.{◌≡◌, ℕ, ◌+◌, ◌≤◌, Bool, List, []
 use Rattle.std.proofs.lemmas.List.Sums.{sum_by-cons}
 use Rattle.cq_position.specs.Games.{Game}
 use Rattle.cq_position.specs.Search.{nodes_in}
-use Rattle.cql_eval.specs.Costs.{filter_cost}
+use Rattle.cql_columns.specs.Costs.{filter_cost}
 use Rattle.cql_syntax.specs.Trees.{filter_at, plain}
 use Rattle.cql_syntax.specs.declared.leaves.Plain.TheVariants.{Wtm}
 use Rattle.cql_values.specs.Trees.{searched_tree}

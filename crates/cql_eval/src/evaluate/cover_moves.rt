@@ -4,20 +4,20 @@ ghost use Rattle.cq_position.specs.Games.{IsTree};
 ghost use Rattle.cql_syntax.specs.Meaning as meaning;
 ghost use Rattle.cql_syntax.specs.TreeOf.{played_tree, written_tree};
 ghost use Rattle.cql_syntax.specs.Values as spec;
-ghost use Rattle.cql_eval.specs.Columns.{AreAsked};
-ghost use Rattle.cql_eval.specs.Covers.{AsksNoMore};
-ghost use Rattle.cql_eval.specs.FlatTrees.{IsFlatMove, IsFlatPart};
-ghost use Rattle.cql_eval.specs.Scopes.{tree_in};
+ghost use Rattle.cql_columns.specs.Columns.{AreAsked};
+ghost use Rattle.cql_columns.specs.Covers.{AsksNoMore};
+ghost use Rattle.cql_columns.specs.FlatTrees.{IsFlatMove, IsFlatPart};
+ghost use Rattle.cql_columns.specs.Scopes.{tree_in};
 ghost use Rattle.cql_eval.specs.Trials.{LeavesHolding};
 
 use super::played::written_column;
 use super::trial::Trial;
-use crate::covers::{cut_moves, cut_where_fails, with_squares};
-use crate::filter_column::FilterColumn;
-use crate::free::{is_free_and_written, is_own_part};
-use crate::moves::{PartColumns, moves_met};
-use crate::tree::befores;
 use cq_outside::{NoMemory, Steps};
+use cql_columns::covers::{cut_moves, cut_where_fails, with_squares};
+use cql_columns::filter_column::FilterColumn;
+use cql_columns::free::{is_free_and_written, is_own_part};
+use cql_columns::moves::{PartColumns, moves_met};
+use cql_columns::tree::befores;
 use cql_syntax::{Filter, Played};
 use cql_values::names::Names;
 use std::alloc::Global;
@@ -51,7 +51,7 @@ pub(super) fn cover_played<L: Ledger>(
 
 // Of the parts in which no name that is open stands.
 #[cycle(evaluate)]
-#[tactic(auto, unfolding(cql_syntax::specs::Meaning::value, crate::specs::FlatTrees::unflat))]
+#[tactic(auto, unfolding(cql_syntax::specs::Meaning::value, cql_columns::specs::FlatTrees::unflat))]
 fn cover_free_parts<L: Ledger>(
     alloc: Global,
     trial: &Trial,

@@ -5,26 +5,26 @@ ghost use Rattle.cq_position.specs.Games.{IsTree};
 ghost use Rattle.cql_syntax.specs.Meaning as meaning;
 ghost use Rattle.cql_syntax.specs.TreeOf.{filter_tree};
 ghost use Rattle.cql_syntax.specs.Values as spec;
-ghost use Rattle.cql_eval.specs.Columns.{AreAsked};
-ghost use Rattle.cql_eval.specs.FlatTrees.{IsFlat};
-ghost use Rattle.cql_eval.specs.Scopes.{tree_in, value_with};
+ghost use Rattle.cql_columns.specs.Columns.{AreAsked};
+ghost use Rattle.cql_columns.specs.FlatTrees.{IsFlat};
+ghost use Rattle.cql_columns.specs.Scopes.{tree_in, value_with};
 ghost use Rattle.cql_eval.specs.Trials.{LeavesHolding};
 
 use super::covers::cover;
 use super::evaluate;
 use super::trial::Trial;
-use crate::covers::with_squares;
-use crate::free::{is_free, is_other};
-use crate::pairs::{PairTrial, asks_pair, cut_paired};
 use cq_geometry::Square;
 use cq_outside::{NoMemory, Steps};
+use cql_columns::covers::with_squares;
+use cql_columns::free::{is_free, is_other};
+use cql_columns::pairs::{PairTrial, asks_pair, cut_paired};
 use cql_syntax::{Filter, Form};
 use std::alloc::Global;
 use std::sync::ledger::Ledger;
 
 /// Leaves those squares of sets with which what is asked of some square of a set under another name may hold.
 #[cycle(evaluate)]
-#[tactic(auto, unfolding(cql_syntax::specs::Meaning::value, crate::specs::FlatTrees::unflat))]
+#[tactic(auto, unfolding(cql_syntax::specs::Meaning::value, cql_columns::specs::FlatTrees::unflat))]
 pub(super) fn cover_square<L: Ledger>(
     alloc: Global,
     trial: &Trial,

@@ -5,10 +5,10 @@ ghost use Rattle.cql_syntax.specs.Meaning as meaning;
 ghost use Rattle.cql_syntax.specs.TreeOf.{filter_tree, filters_tree};
 ghost use Rattle.cql_syntax.specs.Values as spec;
 ghost use Rattle.cql_syntax.specs.declared.leaves.Pair.TheVariants.{Attacks, AttackedBy};
-ghost use Rattle.cql_eval.specs.Columns.{AreAsked};
-ghost use Rattle.cql_eval.specs.Covers.{IsFree};
-ghost use Rattle.cql_eval.specs.FlatTrees.{IsFlat, AreFlat};
-ghost use Rattle.cql_eval.specs.Scopes.{tree_in, value_with, values_with};
+ghost use Rattle.cql_columns.specs.Columns.{AreAsked};
+ghost use Rattle.cql_columns.specs.Covers.{IsFree};
+ghost use Rattle.cql_columns.specs.FlatTrees.{IsFlat, AreFlat};
+ghost use Rattle.cql_columns.specs.Scopes.{tree_in, value_with, values_with};
 ghost use Rattle.cql_eval.specs.Trials.{LeavesHolding, LeavesHaving};
 
 use super::cover_moves::cover_played;
@@ -16,21 +16,21 @@ use super::cover_some::cover_some;
 use super::cover_squares::cover_square;
 use super::evaluate;
 use super::trial::Trial;
-use crate::covers::{
+use cq_outside::{NoMemory, Steps};
+use cql_columns::covers::{
     any_left, any_squares, cut, cut_related, cut_where_fails, everywhere, with_squares,
 };
-use crate::elsewhere::{brought_back, looked_at, looks_elsewhere};
-use crate::filter_column::FilterColumn;
-use crate::free::{is_all, is_attack, is_free, is_intersection, is_or, is_own, turned};
-use crate::order::{SORTS, is_of_class};
-use cq_outside::{NoMemory, Steps};
+use cql_columns::elsewhere::{brought_back, looked_at, looks_elsewhere};
+use cql_columns::filter_column::FilterColumn;
+use cql_columns::free::{is_all, is_attack, is_free, is_intersection, is_or, is_own, turned};
+use cql_columns::order::{SORTS, is_of_class};
 use cql_syntax::{Chain, Filter, Filters, Form, Pair, Unary};
 use std::alloc::Global;
 use std::sync::ledger::Ledger;
 
 /// Leaves those squares of sets with which what is asked may hold.
 #[cycle(evaluate)]
-#[tactic(auto, unfolding(cql_syntax::specs::Meaning::value, crate::specs::FlatTrees::unflat))]
+#[tactic(auto, unfolding(cql_syntax::specs::Meaning::value, cql_columns::specs::FlatTrees::unflat))]
 pub(super) fn cover<L: Ledger>(
     alloc: Global,
     trial: &Trial,
@@ -100,7 +100,7 @@ fn cover_free<L: Ledger>(
 
 // Of a set whose men attack the square, or are attacked from it.
 #[cycle(evaluate)]
-#[tactic(auto, unfolding(cql_syntax::specs::Meaning::value, crate::specs::FlatTrees::unflat))]
+#[tactic(auto, unfolding(cql_syntax::specs::Meaning::value, cql_columns::specs::FlatTrees::unflat))]
 fn cover_turned<L: Ledger>(
     alloc: Global,
     trial: &Trial,
@@ -275,7 +275,7 @@ fn cover_elsewhere<L: Ledger>(
 
 // Leaves those squares of sets that what is asked may have among its squares.
 #[cycle(evaluate)]
-#[tactic(auto, unfolding(cql_syntax::specs::Meaning::value, crate::specs::FlatTrees::unflat))]
+#[tactic(auto, unfolding(cql_syntax::specs::Meaning::value, cql_columns::specs::FlatTrees::unflat))]
 fn cover_set<L: Ledger>(
     alloc: Global,
     trial: &Trial,

@@ -5,17 +5,17 @@ ghost use Rattle.cql_syntax.specs.Meaning as meaning;
 ghost use Rattle.cql_syntax.specs.TreeOf.{filter_tree, filters_tree, played_tree};
 ghost use Rattle.cql_syntax.specs.Values as spec;
 ghost use Rattle.cql_eval.specs.Bindings.{holds_with};
-ghost use Rattle.cql_eval.specs.Columns.{AreAsked, AreTruths, shown};
-ghost use Rattle.cql_eval.specs.FlatTrees.{IsFlat, AreFlat, IsFlatMove};
-ghost use Rattle.cql_eval.specs.Scopes.{tree_in, values_with};
+ghost use Rattle.cql_columns.specs.Columns.{AreAsked, AreTruths, shown};
+ghost use Rattle.cql_columns.specs.FlatTrees.{IsFlat, AreFlat, IsFlatMove};
+ghost use Rattle.cql_columns.specs.Scopes.{tree_in, values_with};
 
 use super::played::part_columns;
-use crate::binding::Binding;
-use crate::covers::sets_of;
-use crate::free::is_all;
-use crate::moved::{asks_goal, moves_to};
-use crate::moves::promoting;
 use cq_outside::{NoMemory, Steps};
+use cql_columns::binding::Binding;
+use cql_columns::covers::sets_of;
+use cql_columns::free::is_all;
+use cql_columns::moved::{asks_goal, moves_to};
+use cql_columns::moves::promoting;
 use cql_syntax::{Chain, Filter, Filters, Form, Played};
 use cql_values::names::Names;
 use std::alloc::Global;
@@ -23,7 +23,7 @@ use std::sync::ledger::Ledger;
 
 /// Whether what is asked holds of some square of a column, where it is asked whether the move went there; of another filter nothing.
 #[cycle(evaluate)]
-#[tactic(auto, unfolding(cql_syntax::specs::Meaning::value, crate::specs::FlatTrees::unflat))]
+#[tactic(auto, unfolding(cql_syntax::specs::Meaning::value, cql_columns::specs::FlatTrees::unflat))]
 pub(super) fn goal_truths<L: Ledger>(
     alloc: Global,
     opened: &Names,
@@ -90,7 +90,7 @@ fn goal_in<L: Ledger>(
 
 // Of the move: whether it went to a square of the node's set. Where a promotion is asked for, no other move is looked at.
 #[cycle(evaluate)]
-#[tactic(auto, unfolding(cql_syntax::specs::Meaning::value, crate::specs::FlatTrees::unflat))]
+#[tactic(auto, unfolding(cql_syntax::specs::Meaning::value, cql_columns::specs::FlatTrees::unflat))]
 fn goal_met<L: Ledger>(
     alloc: Global,
     opened: &Names,

@@ -4,25 +4,25 @@ ghost use Rattle.cq_position.specs.Games.{IsTree};
 ghost use Rattle.cql_syntax.specs.Meaning as meaning;
 ghost use Rattle.cql_syntax.specs.TreeOf.{body_tree, filter_tree, line_tree, parts_tree};
 ghost use Rattle.cql_syntax.specs.Values.{as_number};
-ghost use Rattle.cql_eval.specs.Columns.{AreAsked, Where};
-ghost use Rattle.cql_eval.specs.Costs.{filter_cost, line_cost, parts_cost, body_cost, parts_atoms, body_atoms, searched_len};
-ghost use Rattle.cql_eval.specs.FlatTrees.{IsFlat, IsFlatLine, AreFlatParts, IsFlatBody};
+ghost use Rattle.cql_columns.specs.Columns.{AreAsked, Where};
+ghost use Rattle.cql_columns.specs.Costs.{filter_cost, line_cost, parts_cost, body_cost, parts_atoms, body_atoms, searched_len};
+ghost use Rattle.cql_columns.specs.FlatTrees.{IsFlat, IsFlatLine, AreFlatParts, IsFlatBody};
 ghost use Rattle.cql_lines.specs.Tables.{atoms_of, nodes_of};
 ghost use Rattle.cq_outside.specs.Spelling.{one};
-ghost use Rattle.cql_eval.specs.LineAtoms as spec;
-ghost use Rattle.cql_eval.specs.LineAtoms.{HasRoom, IsFilledIn};
-ghost use Rattle.cql_eval.specs.Scopes.{tree_in, value_in, parts_in, body_in};
-ghost use Rattle.cql_eval.specs.SpelledParts as spelled;
-ghost use Rattle.cql_eval.specs.SpelledParts.{AreTabled, IsLive, IsNever, LeadsOn, EndsHere};
+ghost use Rattle.cql_columns.specs.LineAtoms as spec;
+ghost use Rattle.cql_columns.specs.LineAtoms.{HasRoom, IsFilledIn};
+ghost use Rattle.cql_columns.specs.Scopes.{tree_in, value_in, parts_in, body_in};
+ghost use Rattle.cql_columns.specs.SpelledParts as spelled;
+ghost use Rattle.cql_columns.specs.SpelledParts.{AreTabled, IsLive, IsNever, LeadsOn, EndsHere};
 ghost use Rattle.cql_syntax.specs.TabledLines.{IsAsked};
 ghost use Rattle.cq_position.specs.Search.{IsStep};
 
 use super::evaluate;
-use crate::nodes::{all_nodes, any_live, part_of, same};
-use crate::patterns::{empty_table, parts_pattern, put_nodes, shape_of, wide_numbers};
-use crate::scope::Scope;
-use crate::tree::{onward, reached};
 use cq_outside::{NoMemory, Steps};
+use cql_columns::nodes::{all_nodes, any_live, part_of, same};
+use cql_columns::patterns::{empty_table, parts_pattern, put_nodes, shape_of, wide_numbers};
+use cql_columns::scope::Scope;
+use cql_columns::tree::{onward, reached};
 use cql_lines::{AtomTable, Automaton, line_values};
 use cql_syntax::{Body, Constituent, Constituents, Filter, Line, Mark};
 use std::alloc::Global;
@@ -84,7 +84,7 @@ pub(super) fn line_numbers<L: Ledger>(
 }
 
 // Whether a flat line has flat parts with few atoms: it always does.
-#[tactic(auto, using(crate::proofs::LinesLaw::line_parts_flat, crate::proofs::LinesLaw::line_few))]
+#[tactic(auto, using(cql_columns::proofs::LinesLaw::line_parts_flat, cql_columns::proofs::LinesLaw::line_few))]
 fn has_flat_parts(line: &Line) -> bool
     requires { IsFlatLine (line_tree line.now) }
     ensures value { result ≡ true }
@@ -96,7 +96,7 @@ fn has_flat_parts(line: &Line) -> bool
 
 // Parts in a row that may begin at all searched nodes. Where the row isn't met at the end, no path is spelled.
 #[cycle(evaluate)]
-#[tactic(auto, using(crate::proofs::SpelledAlike::all_tabled, crate::proofs::SpelledAlike::all_never))]
+#[tactic(auto, using(cql_columns::proofs::SpelledAlike::all_tabled, cql_columns::proofs::SpelledAlike::all_never))]
 fn filled_row<L: Ledger>(
     alloc: Global,
     parts: &Constituents,
@@ -127,7 +127,7 @@ fn filled_row<L: Ledger>(
 // Puts the atoms of parts in a row that begins at the nodes of a set into the table, with the numbers from the first on, and answers the
 // number after them. Where an atom of the row itself holds nowhere, the row isn't met.
 #[cycle(evaluate)]
-#[tactic(auto, unfolding(crate::specs::Costs::filter_cost))]
+#[tactic(auto, unfolding(cql_columns::specs::Costs::filter_cost))]
 fn put_row<L: Ledger>(
     alloc: Global,
     parts: &Constituents,
@@ -257,7 +257,7 @@ fn both(met: bool, some: bool) -> bool
 
 // Puts the atoms of a part that stands once.
 #[cycle(evaluate)]
-#[tactic(auto, unfolding(cql_syntax::specs::Meaning::value, crate::specs::Costs::filter_cost, crate::specs::FlatTrees::unflat))]
+#[tactic(auto, unfolding(cql_syntax::specs::Meaning::value, cql_columns::specs::Costs::filter_cost, cql_columns::specs::FlatTrees::unflat))]
 fn put_once<L: Ledger>(
     alloc: Global,
     body: &Body,
@@ -335,7 +335,7 @@ fn put_atom_once<L: Ledger>(
 
 // Puts the atoms of what may begin at any node of a set, again and again.
 #[cycle(evaluate)]
-#[tactic(auto, unfolding(cql_syntax::specs::Meaning::value, crate::specs::Costs::filter_cost, crate::specs::FlatTrees::unflat))]
+#[tactic(auto, unfolding(cql_syntax::specs::Meaning::value, cql_columns::specs::Costs::filter_cost, cql_columns::specs::FlatTrees::unflat))]
 fn put_wherever<L: Ledger>(
     alloc: Global,
     body: &Body,

@@ -4,18 +4,18 @@ ghost use Rattle.cq_position.specs.Games.{IsTree};
 ghost use Rattle.cql_syntax.specs.Meaning as meaning;
 ghost use Rattle.cql_syntax.specs.TreeOf.{filter_tree, played_tree, written_tree};
 ghost use Rattle.cql_syntax.specs.Values.{as_truth};
-ghost use Rattle.cql_eval.specs.Columns.{AreAsked, AreTruths, Where, shown};
-ghost use Rattle.cql_eval.specs.Costs.{played_cost, written_cost, searched_len};
-ghost use Rattle.cql_eval.specs.FlatTrees.{IsFlatMove, IsFlatPart};
-ghost use Rattle.cql_eval.specs.Moved.{ArePartColumns, parts_cost};
-ghost use Rattle.cql_eval.specs.Scopes.{tree_in};
+ghost use Rattle.cql_columns.specs.Columns.{AreAsked, AreTruths, Where, shown};
+ghost use Rattle.cql_columns.specs.Costs.{played_cost, written_cost, searched_len};
+ghost use Rattle.cql_columns.specs.FlatTrees.{IsFlatMove, IsFlatPart};
+ghost use Rattle.cql_columns.specs.Moved.{ArePartColumns, parts_cost};
+ghost use Rattle.cql_columns.specs.Scopes.{tree_in};
 
 use super::evaluate;
-use crate::filter_column::FilterColumn;
-use crate::moves::{PartColumns, moves_met, promoting};
-use crate::scope::Scope;
-use crate::tree::befores;
 use cq_outside::{NoMemory, Steps};
+use cql_columns::filter_column::FilterColumn;
+use cql_columns::moves::{PartColumns, moves_met, promoting};
+use cql_columns::scope::Scope;
+use cql_columns::tree::befores;
 use cql_syntax::{Filter, Played};
 use std::alloc::Global;
 use std::sync::ledger::Ledger;
@@ -23,7 +23,7 @@ use std::sync::ledger::Ledger;
 /// Whether the move that led to a node is as it is asked for: where it came from and what it took is asked at the node before, its goal and
 /// what it became at the node itself. Where a promotion is asked for, no other move is looked at.
 #[cycle(evaluate)]
-#[tactic(auto, unfolding(cql_syntax::specs::Meaning::value, crate::specs::Costs::filter_cost, crate::specs::FlatTrees::unflat))]
+#[tactic(auto, unfolding(cql_syntax::specs::Meaning::value, cql_columns::specs::Costs::filter_cost, cql_columns::specs::FlatTrees::unflat))]
 pub(super) fn played_truths<L: Ledger>(
     alloc: Global,
     played: &Played,
@@ -50,7 +50,7 @@ pub(super) fn played_truths<L: Ledger>(
 
 /// The columns of the parts of a move, its goal aside, for the moves that led to the nodes of a set.
 #[cycle(evaluate)]
-#[tactic(auto, unfolding(cql_syntax::specs::Meaning::value, crate::specs::Costs::filter_cost, crate::specs::FlatTrees::unflat))]
+#[tactic(auto, unfolding(cql_syntax::specs::Meaning::value, cql_columns::specs::Costs::filter_cost, cql_columns::specs::FlatTrees::unflat))]
 pub(super) fn part_columns<L: Ledger>(
     alloc: Global,
     played: &Played,
@@ -79,7 +79,7 @@ pub(super) fn part_columns<L: Ledger>(
 
 /// The column of a part that is written.
 #[cycle(evaluate)]
-#[tactic(auto, unfolding(cql_syntax::specs::Meaning::value, crate::specs::Costs::filter_cost, crate::specs::FlatTrees::unflat))]
+#[tactic(auto, unfolding(cql_syntax::specs::Meaning::value, cql_columns::specs::Costs::filter_cost, cql_columns::specs::FlatTrees::unflat))]
 pub(super) fn written_column<L: Ledger>(
     alloc: Global,
     written: &Option<Box<Filter>>,

@@ -1,6 +1,6 @@
 //! What stays the same where squares are tried under a name.
 
-use crate::scope::Scope;
+use cql_columns::scope::Scope;
 use cql_values::names::Names;
 
 /// Where squares are tried under a name.

@@ -1,7 +1,7 @@
 //! How a plan is made, and the match of one game.
 ghost use Rattle.std.specs.Prelude.{◌≡◌, ◌≢◌, ◌+◌, ◌<◌, ◌≤◌, [], true, false, length, map, Some, All, AllPairs, IfOk, OnOk};
 ghost use Rattle.cq_position.specs.Search.{nodes_in};
-ghost use Rattle.cql_eval.specs.Costs.{filters_cost, searched_len};
+ghost use Rattle.cql_columns.specs.Costs.{filters_cost, searched_len};
 ghost use Rattle.cql_syntax.specs.Flat.{flat_query};
 ghost use Rattle.cql_syntax.specs.Hits.{hits, keys};
 ghost use Rattle.cql_syntax.specs.TreeOf.{query_tree};

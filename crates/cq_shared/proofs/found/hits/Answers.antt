@@ -1,7 +1,7 @@
 use Rattle.std.proofs.Common.{◌≡◌, ◌∙◌, ◌++◌, ◌∷◌, [], ap, sym, arith, length}
 use Rattle.std.specs.Prelude.{cond}
 use Rattle.std.specs.List.{filter, range_with_len}
-use Rattle.cql_eval.specs.Columns.{is_live}
+use Rattle.cql_columns.specs.Columns.{is_live}
 use Rattle.cq_shared.proofs.Readings.{there_more}
 use Rattle.cq_shared.proofs.found.hits.Goals as goal
 

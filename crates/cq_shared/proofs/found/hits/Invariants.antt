@@ -1,6 +1,6 @@
 use Rattle.std.proofs.Common.{◌≡◌}
 use Rattle.std.specs.List.{filter, range_with_len}
-use Rattle.cql_eval.specs.Columns.{is_live}
+use Rattle.cql_columns.specs.Columns.{is_live}
 use Rattle.cq_shared.proofs.found.hits.Given as goal
 
 abbrev pub invariant-loop-n : goal.invariant-loop-n

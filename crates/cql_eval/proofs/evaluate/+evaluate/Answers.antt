@@ -9,18 +9,18 @@ use Rattle.cql_syntax.specs.Meaning.{value, before}
 use Rattle.cql_syntax.specs.TreeOf.{filter_tree, form_tree, filters_tree}
 use Rattle.cql_syntax.specs.Trees.{filter_at, unary, square, if_}
 use Rattle.cql_syntax.specs.Values.{holds, square_of}
-use Rattle.cql_eval.specs.Scopes.{tree_in, value_in}
+use Rattle.cql_columns.specs.Scopes.{tree_in, value_in}
 use Rattle.cql_values.proofs.Evaluated.{word_here}
-use Rattle.cql_eval.specs.Columns.{IsColumn, shown}
-use Rattle.cql_eval.proofs.Chains.{if_open, unary_form, square_form, if_form}
-use Rattle.cql_eval.specs.Promoting.{ArePromoting}
-use Rattle.cql_eval.proofs.Lives.{none_live}
-use Rattle.cql_eval.proofs.FoundLaw.{elsewhere_is}
+use Rattle.cql_columns.specs.Columns.{IsColumn, shown}
+use Rattle.cql_columns.proofs.Chains.{if_open, unary_form, square_form, if_form}
+use Rattle.cql_columns.specs.Promoting.{ArePromoting}
+use Rattle.cql_columns.proofs.Lives.{none_live}
+use Rattle.cql_columns.proofs.FoundLaw.{elsewhere_is}
 use Rattle.cql_eval.proofs.FlatLaw.{no_family}
-use Rattle.cql_eval.specs.Elsewhere.{asks_elsewhere}
-use Rattle.cql_eval.specs.Trees.{AreBeforeLive}
+use Rattle.cql_columns.specs.Elsewhere.{asks_elsewhere}
+use Rattle.cql_columns.specs.Trees.{AreBeforeLive}
 use Rattle.cql_eval.proofs.FormLaws.{chain_form, any_form}
-use Rattle.cql_eval.proofs.MoveLaw.{met_is, move_is, part_is, no_part_is}
+use Rattle.cql_columns.proofs.MoveLaw.{met_is, move_is, part_is, no_part_is}
 use Rattle.cql_eval.proofs.evaluate.+evaluate.Answers.Chains as chains
 use Rattle.cql_eval.proofs.evaluate.+evaluate.Answers.Lines as lines
 use Rattle.cql_eval.proofs.evaluate.+evaluate.Answers.Squares as squares

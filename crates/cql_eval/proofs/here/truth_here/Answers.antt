@@ -3,7 +3,7 @@ use Rattle.cql_syntax.specs.TreeOf.{filter_tree}
 use Rattle.cql_syntax.specs.Values.{has}
 use Rattle.cql_values.specs.Shown.{meant}
 use Rattle.cql_eval.specs.Bindings.{holds_with}
-use Rattle.cql_eval.specs.Columns.{shown}
+use Rattle.cql_columns.specs.Columns.{shown}
 use Rattle.cql_eval.proofs.HereLaw.{nothing_here}
 use Rattle.cql_eval.proofs.here.truth_here.Goals as goal
 

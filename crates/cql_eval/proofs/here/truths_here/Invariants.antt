@@ -2,8 +2,8 @@ use Rattle.std.specs.Prelude.{◌≡◌, false}
 use Rattle.cql_syntax.specs.TreeOf.{filter_tree}
 use Rattle.cql_syntax.specs.Values.{as_truth, square_of}
 use Rattle.cql_eval.specs.Bindings.{holds_with}
-use Rattle.cql_eval.specs.Columns.{shown}
-use Rattle.cql_eval.proofs.Filling.{FilledTo}
+use Rattle.cql_columns.specs.Columns.{shown}
+use Rattle.cql_columns.proofs.Filling.{FilledTo}
 use Rattle.cql_eval.proofs.here.truths_here.Given as goal
 
 abbrev pub invariant-loop-n : goal.invariant-loop-n

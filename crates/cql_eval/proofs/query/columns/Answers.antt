@@ -1,9 +1,9 @@
 use Rattle.std.proofs.Common.{rules, ◌∙◌, ◌++◌, ap, map, arith}
 use Rattle.cql_syntax.specs.TreeOf.{filter_tree, filters_tree}
 use Rattle.cql_values.specs.Trees.{searched_tree}
-use Rattle.cql_eval.specs.Costs.{searched_len}
+use Rattle.cql_columns.specs.Costs.{searched_len}
 use Rattle.cql_eval.specs.Hits.{key_column, item_numbers}
-use Rattle.cql_eval.proofs.Costing.{cost_more, cost_within}
+use Rattle.cql_columns.proofs.Costing.{cost_more, cost_within}
 use Rattle.cql_eval.proofs.FlatLaw.{items_flat, filter_flat}
 use Rattle.cql_eval.proofs.HitsLaw.{all_asked, items_begun, items_more, items_within, hits_are, made_begun, made_more, made_all, rows_same}
 use Rattle.cql_eval.proofs.query.columns.Goals as goal

@@ -2,7 +2,7 @@ use Rattle.std.specs.Prelude.{◌≡◌, ◌+◌, ◌≤◌, map, length, drop, 
 use Rattle.cq_position.specs.Search.{nodes_in}
 use Rattle.cql_syntax.specs.TreeOf.{filter_trees}
 use Rattle.cql_values.specs.Trees.{searched_tree}
-use Rattle.cql_eval.specs.Costs.{filters_cost, searched_len}
+use Rattle.cql_columns.specs.Costs.{filters_cost, searched_len}
 use Rattle.cql_eval.specs.Hits.{key_column, sort_numbers}
 use Rattle.cql_eval.proofs.HitsLaw.{ItemsSoFar}
 use Rattle.cql_eval.proofs.query.columns.Given as goal

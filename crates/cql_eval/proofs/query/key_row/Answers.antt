@@ -3,7 +3,7 @@ use Rattle.std.specs.Prelude.{None, if◌then◌else◌}
 use Rattle.std.specs.List.{range_with_len}
 use Rattle.std.proofs.lemmas.List.FromFn.{map-range_with_len_more}
 use Rattle.cql_syntax.specs.Values.{amount}
-use Rattle.cql_eval.specs.Columns.{is_live, shown}
+use Rattle.cql_columns.specs.Columns.{is_live, shown}
 use Rattle.cql_eval.proofs.query.key_row.Goals as goal
 
 pub loop-n-preserved : goal.loop-n-preserved

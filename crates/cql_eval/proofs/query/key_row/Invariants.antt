@@ -1,7 +1,7 @@
 use Rattle.std.specs.Prelude.{◌≡◌, map, None, if◌then◌else◌}
 use Rattle.std.specs.List.{range_with_len}
 use Rattle.cql_syntax.specs.Values.{amount}
-use Rattle.cql_eval.specs.Columns.{is_live, shown}
+use Rattle.cql_columns.specs.Columns.{is_live, shown}
 use Rattle.cql_eval.proofs.query.key_row.Given as goal
 
 abbrev pub invariant-loop-n : goal.invariant-loop-n

@@ -2,8 +2,8 @@ use Rattle.std.proofs.Common.{[], ◌∙◌, ap, sym, subst}
 use Rattle.cql_syntax.specs.Meaning.{value}
 use Rattle.cql_syntax.specs.TreeOf.{filter_tree, form_tree}
 use Rattle.cql_syntax.specs.Trees.{filter_at}
-use Rattle.cql_eval.specs.Scopes.{tree_in}
-use Rattle.cql_eval.specs.Columns.{IsColumn}
+use Rattle.cql_columns.specs.Scopes.{tree_in}
+use Rattle.cql_columns.specs.Columns.{IsColumn}
 use Rattle.cql_eval.proofs.HitsLaw.{row_is, sort_form, sort_keys}
 use Rattle.cql_eval.proofs.SortsLaw.{sorted_one}
 use Rattle.cql_eval.proofs.query.sort_by.Goals as goal

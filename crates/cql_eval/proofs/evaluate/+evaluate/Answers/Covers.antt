@@ -4,18 +4,18 @@ use Rattle.cql_syntax.specs.Meaning.{value, values}
 use Rattle.cql_syntax.specs.TreeOf.{filter_tree, form_tree, filters_tree, written_tree}
 use Rattle.cql_syntax.specs.Trees.{filter_at, unary}
 use Rattle.cql_syntax.specs.Values.{holds, some_holds, square_of}
-use Rattle.cql_eval.specs.Scopes.{tree_in}
+use Rattle.cql_columns.specs.Scopes.{tree_in}
 use Rattle.cql_eval.proofs.FlatLaw.{filter_flat}
 use Rattle.cql_syntax.specs.Trees.{pair}
-use Rattle.cql_eval.specs.Covers.{AreAdded, AreCut, AreJoined, HasSome, MayHold}
-use Rattle.cql_eval.specs.Trees.{AreBeforeLive}
-use Rattle.cql_eval.proofs.CoverSome.{added_all, added_by, added_more, added_none, or_cut, some_cut}
-use Rattle.cql_eval.proofs.PairLaw.{paired_cut}
+use Rattle.cql_columns.specs.Covers.{AreAdded, AreCut, AreJoined, HasSome, MayHold}
+use Rattle.cql_columns.specs.Trees.{AreBeforeLive}
+use Rattle.cql_columns.proofs.CoverSome.{added_all, added_by, added_more, added_none, or_cut, some_cut}
+use Rattle.cql_columns.proofs.PairLaw.{paired_cut}
 use Rattle.cql_eval.proofs.CoverMoves.{asks_free, free_parts_cut}
-use Rattle.cql_eval.proofs.CoverLaw.{cut_same, cut_then}
-use Rattle.cql_eval.specs.Elsewhere.{AreLookedAt, AreBroughtBack}
-use Rattle.cql_eval.proofs.ElsewhereLaw.{elsewhere_cut}
-use Rattle.cql_eval.proofs.CoverForms.{unary_cut, written_sets, inner_cut, turned_cut, move_cut, played_cut, pair_cut, one_of_sets, one_of_all, common_cut, all_cut, square_cut, square_same, own_cut}
+use Rattle.cql_columns.proofs.CoverLaw.{cut_same, cut_then}
+use Rattle.cql_columns.specs.Elsewhere.{AreLookedAt, AreBroughtBack}
+use Rattle.cql_columns.proofs.ElsewhereLaw.{elsewhere_cut}
+use Rattle.cql_columns.proofs.CoverForms.{unary_cut, written_sets, inner_cut, turned_cut, move_cut, played_cut, pair_cut, one_of_sets, one_of_all, common_cut, all_cut, square_cut, square_same, own_cut}
 use Rattle.cql_eval.proofs.evaluate.+evaluate.Goals as goal
 
 pub covers::cover-returns-then-is_own-clause-cut : goal.covers::cover-returns-then-is_own-clause-cut

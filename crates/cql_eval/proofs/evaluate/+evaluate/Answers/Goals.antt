@@ -5,13 +5,13 @@ use Rattle.std.proofs.lemmas.Option.{IfSome_then}
 use Rattle.cq_symmetry.specs.Images.{is_in}
 use Rattle.cql_syntax.specs.TreeOf.{filter_tree, form_tree, filters_tree, played_tree}
 use Rattle.cql_syntax.specs.Trees.{filter_at, more_filters, no_filters}
-use Rattle.cql_eval.specs.Columns.{shown}
-use Rattle.cql_eval.specs.Moved.{AsksGoal}
-use Rattle.cql_eval.specs.Scopes.{tree_in}
-use Rattle.cql_eval.specs.Promoting.{ArePromoting}
-use Rattle.cql_eval.proofs.AttackLaw.{only_one}
+use Rattle.cql_columns.specs.Columns.{shown}
+use Rattle.cql_columns.specs.Moved.{AsksGoal}
+use Rattle.cql_columns.specs.Scopes.{tree_in}
+use Rattle.cql_columns.specs.Promoting.{ArePromoting}
+use Rattle.cql_columns.proofs.AttackLaw.{only_one}
 use Rattle.cql_eval.proofs.FlatLaw.{filter_flat}
-use Rattle.cql_eval.proofs.MovedLaw.{goal_alone, goal_chain, goal_form, goal_met_is}
+use Rattle.cql_columns.proofs.MovedLaw.{goal_alone, goal_chain, goal_form, goal_met_is}
 use Rattle.cql_eval.proofs.evaluate.+evaluate.Goals as goal
 
 pub goals::goal_truths-returns-in_ok-in_chain-in-Chain-clause-value : goal.goals::goal_truths-returns-in_ok-in_chain-in-Chain-clause-value

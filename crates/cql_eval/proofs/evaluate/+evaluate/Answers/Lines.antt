@@ -6,21 +6,21 @@ use Rattle.cql_syntax.specs.Meaning.{marked}
 use Rattle.cql_syntax.specs.TreeOf.{filter_tree, parts_tree, body_tree}
 use Rattle.cql_syntax.specs.Trees.{atom}
 use Rattle.cql_syntax.specs.declared.tree.Line.{out-Line}
-use Rattle.cql_eval.specs.Scopes.{tree_in, value_in, body_in}
-use Rattle.cql_eval.specs.Costs.{body_atoms, searched_len}
-use Rattle.cql_eval.specs.LineAtoms.{AreAllAsked, spot_at, body_numbered}
-use Rattle.cql_eval.specs.SpelledParts.{IsLive, EndsHere}
-use Rattle.cql_eval.proofs.SpelledAlike.{all_never, wide_leads_at, wide_ends_at, group_leads_at, leads_at, ends_at, onward_at, not_met, group_ends}
+use Rattle.cql_columns.specs.Scopes.{tree_in, value_in, body_in}
+use Rattle.cql_columns.specs.Costs.{body_atoms, searched_len}
+use Rattle.cql_columns.specs.LineAtoms.{AreAllAsked, spot_at, body_numbered}
+use Rattle.cql_columns.specs.SpelledParts.{IsLive, EndsHere}
+use Rattle.cql_columns.proofs.SpelledAlike.{all_never, wide_leads_at, wide_ends_at, group_leads_at, leads_at, ends_at, onward_at, not_met, group_ends}
 use Rattle.cql_lines.specs.PatternTrees.{pattern_tree}
 use Rattle.cql_lines.specs.Tables.{atoms_of}
 use Rattle.cql_lines.specs.Trees.{spots_of}
 use Rattle.std.proofs.lemmas.List.FromFn.{length-map-range_with_len}
-use Rattle.cql_eval.proofs.Filling.{live_below}
-use Rattle.cql_eval.proofs.LineAtoms.{few_atoms, few_places, atoms_below}
-use Rattle.cql_eval.proofs.LineTables.{table_begun, table_more, table_all, ends_all, filled_all, at_all, atom_tabled, atom_leads, atom_form, leads_form, ends_form, group_tabled, group_never, never_form, atom_never, not_some}
-use Rattle.cql_eval.proofs.LinesLaw.{held_put, no_line, line_flat, numbers_are, parts_cost_more, parts_cost_within, atoms_within, looks_within}
-use Rattle.cql_eval.proofs.LineAtoms.{part_flat}
-use Rattle.cql_eval.proofs.LineTables.{part_room}
+use Rattle.cql_columns.proofs.Filling.{live_below}
+use Rattle.cql_columns.proofs.LineAtoms.{few_atoms, few_places, atoms_below}
+use Rattle.cql_columns.proofs.LineTables.{table_begun, table_more, table_all, ends_all, filled_all, at_all, atom_tabled, atom_leads, atom_form, leads_form, ends_form, group_tabled, group_never, never_form, atom_never, not_some}
+use Rattle.cql_columns.proofs.LinesLaw.{held_put, no_line, line_flat, numbers_are, parts_cost_more, parts_cost_within, atoms_within, looks_within}
+use Rattle.cql_columns.proofs.LineAtoms.{part_flat}
+use Rattle.cql_columns.proofs.LineTables.{part_room}
 use Rattle.cql_eval.proofs.evaluate.+evaluate.Goals as goal
 
 pub lines::filled_row-returns-clause-never : goal.lines::filled_row-returns-clause-never

@@ -4,18 +4,18 @@ use Rattle.std.specs.Prelude.{IfOk}
 use Rattle.cql_syntax.specs.Meaning.{value}
 use Rattle.cql_syntax.specs.TreeOf.{filter_tree}
 use Rattle.cql_syntax.specs.Values.{holds}
-use Rattle.cql_eval.specs.Scopes.{tree_in}
-use Rattle.cql_eval.specs.Columns.{IsColumn, shown}
+use Rattle.cql_columns.specs.Scopes.{tree_in}
+use Rattle.cql_columns.specs.Columns.{IsColumn, shown}
 use Rattle.std.proofs.Math.Path.{fun_ext}
-use Rattle.cql_eval.specs.Columns.{AreTruths}
-use Rattle.cql_eval.proofs.AttackLaw.{attack_is}
-use Rattle.cql_eval.proofs.Chains.{left_begun, square_more, square_end, turn_all, turn_stop}
-use Rattle.cql_eval.specs.Costs.{filter_cost, searched_len}
-use Rattle.cql_eval.proofs.Costing.{square_cost}
-use Rattle.cql_eval.proofs.Wanting.{wanted_same, wanted_kept, turn_skip}
-use Rattle.cql_eval.specs.declared.filter_column.FilterColumn.TheVariants.{Sets}
-use Rattle.cql_eval.specs.Covers.{AreCut, AreWorthTrying, MayHold}
-use Rattle.cql_eval.proofs.CoverForms.{tried_same, worth_trying, written_sets}
+use Rattle.cql_columns.specs.Columns.{AreTruths}
+use Rattle.cql_columns.proofs.AttackLaw.{attack_is}
+use Rattle.cql_columns.proofs.Chains.{left_begun, square_more, square_end, turn_all, turn_stop}
+use Rattle.cql_columns.specs.Costs.{filter_cost, searched_len}
+use Rattle.cql_columns.proofs.Costing.{square_cost}
+use Rattle.cql_columns.proofs.Wanting.{wanted_same, wanted_kept, turn_skip}
+use Rattle.cql_columns.specs.declared.filter_column.FilterColumn.TheVariants.{Sets}
+use Rattle.cql_columns.specs.Covers.{AreCut, AreWorthTrying, MayHold}
+use Rattle.cql_columns.proofs.CoverForms.{tried_same, worth_trying, written_sets}
 use Rattle.cql_eval.proofs.evaluate.+evaluate.Goals as goal
 
 pub squares::square_truths-loop-number-init : goal.squares::square_truths-loop-number-init

@@ -1,0 +1,170 @@
+-- Columns that are filled node by node.
+use Rattle.std.proofs.Common.{◌≡◌, ℕ, zero, suc, ◌+◌, ◌<◌, ◌≤◌, ◌⊎◌, Bool, true, false, List, [], ◌∷◌, ◌++◌, length, get_or, ◌&&◌, refl, ap, sym, subst, ◌∙◌, arith, ⊎_elim, inl, inr, length-append}
+use Rattle.cq_position.specs.Search.{SearchedTree}
+use Rattle.std.specs.Prelude.{◌-◌, is_some, slice_set}
+use Rattle.cql_syntax.specs.Values.{amount}
+use Rattle.cql_columns.specs.Columns.{shown, IsNarrowed, IsNumbered, AreAsked}
+use Rattle.cql_columns.specs.declared.filter_column.FilterColumn.{FilterColumn}
+use Rattle.std.proofs.lemmas.Bool.{cases_order}
+use Rattle.std.proofs.lemmas.List.{get_or_append_left, get_or-set_same, get_or-set_other, length-set}
+use Rattle.std.proofs.Math.Seq.{get_or-append_seam}
+
+pub split_last : (n k : ℕ) → n < k + 1 → (n < k) ⊎ (n ≡ k)
+split_last n k h = ⊎_elim (λ same. inr same) (λ o. ⊎_elim (λ less. inl less) (λ more. absurd (omega (arith, h, more))) o) (cases_order n k)
+
+pub split_at : (n k : ℕ) → (n < k) ⊎ (k ≤ n)
+split_at n k = ⊎_elim (λ same. inr (omega (arith, same))) (λ o. ⊎_elim (λ less. inl less) (λ more. inr (omega (arith, more))) o) (cases_order n k)
+
+pub equal_or : (m n : ℕ) → (m ≡ n) ⊎ (m ≡ n → ⊥)
+equal_or m n = ⊎_elim (λ same. inl same) (λ o. inr (λ e. ⊎_elim (λ less. absurd (omega (arith, less, e))) (λ more. absurd (omega (arith, more, e))) o)) (cases_order m n)
+
+-- the first k nodes have their values where they are asked for
+pub record Filled {A B : Type 0} (show : A → B) (d : A) (live : List Bool) (v : ℕ → B) (k : ℕ) (items : List A) : Type 0 where
+  pub count : length items ≡ k
+  pub each : (n : ℕ) → n < k → get_or live n false ≡ true → show (get_or items n d) ≡ v n
+
+pub filled_none : {A B : Type 0} (show : A → B) (d : A) (live : List Bool) (v : ℕ → B) (items : List A) → items ≡ [] → Filled show d live v 0 items
+filled_none show d live v items is = record { count = ap length is; each = λ n h a. absurd (omega (arith, h)) }
+
+pub filled_more : {A B : Type 0} (show : A → B) (d : A) (live : List Bool) (v : ℕ → B) (k : ℕ) (items later : List A) (x : A)
+    → later ≡ items ++ x ∷ [] → (get_or live k false ≡ true → show x ≡ v k) → Filled show d live v k items → Filled show d live v (k + 1) later
+filled_more show d live v k items later x is new had = record {
+  count = ap length is ∙ length-append items (x ∷ []) ∙ ap (λ i. i + 1) had.count;
+  each = λ n h a. ⊎_elim
+      (λ less. ap show (ap (λ l. get_or l n d) is ∙ get_or_append_left items (x ∷ []) d n (omega (arith, less, had.count))) ∙ had.each n less a)
+      (λ same. let here : n ≡ length items = omega (arith, same, had.count) in
+      ap show (ap (λ l. get_or l n d) is ∙ ap (λ i. get_or (items ++ x ∷ []) i d) here ∙ get_or-append_seam items x [] d)
+      ∙ new (subst (λ i. get_or live i false ≡ true) (here ∙ had.count) a) ∙ ap v (sym (here ∙ had.count)))
+      (split_last n k h);
+}
+
+pub live_below : (live : List Bool) (n : ℕ) → get_or live n false ≡ true → n < length live
+live_below [] zero e = cc
+live_below [] (suc n) e = cc
+live_below (b ∷ live) zero e = omega arith
+live_below (b ∷ live) (suc n) e = omega (arith, live_below live n e)
+
+pub filled_all : {A B : Type 0} (show : A → B) (d : A) (live : List Bool) (v : ℕ → B) (k : ℕ) (items : List A) → length live ≤ k → Filled show d live v k items
+    → (n : ℕ) → get_or live n false ≡ true → show (get_or items n d) ≡ v n
+filled_all show d live v k items end had n a = had.each n (omega (arith, live_below live n a, end)) a
+
+-- a set has no node before one, and none past one
+pub none_before : (live : List Bool) (k : ℕ) → get_or live k false ≡ false → ((n : ℕ) → n < k → get_or live n false ≡ false) → (n : ℕ) → n < k + 1 → get_or live n false ≡ false
+none_before live k is had n h = ⊎_elim (had n) (λ same. ap (λ i. get_or live i false) same ∙ is) (split_last n k h)
+
+pub none_past : (live : List Bool) (end : ℕ) → 0 < end → get_or live (end - 1) false ≡ false → ((n : ℕ) → end ≤ n → get_or live n false ≡ false)
+    → (n : ℕ) → end - 1 ≤ n → get_or live n false ≡ false
+none_past live end some is had n h = ⊎_elim (λ same. ap (λ i. get_or live i false) (sym same) ∙ is) (λ away. had n (omega (arith, h, some, away))) (equal_or (end - 1) n)
+
+-- the same of a column that reaches as far as the nodes that are asked for, and is written over
+pub record FilledTo {A B : Type 0} (show : A → B) (d : A) (live : List Bool) (v : ℕ → B) (end k : ℕ) (items : List A) : Type 0 where
+  pub count : length items ≡ end
+  pub each : (n : ℕ) → n < k → get_or live n false ≡ true → show (get_or items n d) ≡ v n
+  pub past : (n : ℕ) → end ≤ n → get_or live n false ≡ false
+
+never_both : (b : Bool) → b ≡ false → b ≡ true → ⊥
+never_both true e h = cc
+never_both false e h = cc
+
+pub put_none : {A B : Type 0} (show : A → B) (d : A) (live : List Bool) (v : ℕ → B) (end k : ℕ) (items : List A) → length items ≡ end
+    → ((n : ℕ) → end ≤ n → get_or live n false ≡ false) → ((n : ℕ) → n < k → get_or live n false ≡ false) → FilledTo show d live v end k items
+put_none show d live v end k items size past before = record { count = size; each = λ n h a. absurd (never_both (get_or live n false) (before n h) a); past = past }
+
+pub put_more : {A B : Type 0} (show : A → B) (d : A) (live : List Bool) (v : ℕ → B) (end k : ℕ) (items later : List A) (x : A)
+    → k < end → later ≡ slice_set items k x → (get_or live k false ≡ true → show x ≡ v k) → FilledTo show d live v end k items → FilledTo show d live v end (k + 1) later
+put_more show d live v end k items later x low is new had = record {
+  count = ap length is ∙ length-set items k x ∙ had.count;
+  each = λ n h a. ap (λ l. show (get_or l n d)) is ∙ ⊎_elim
+      (λ less. ap show (get_or-set_other items k n x d (λ e. omega (arith, less, e))) ∙ had.each n less a)
+      (λ same. ap (λ i. show (get_or (slice_set items k x) i d)) same ∙ ap show (get_or-set_same items k x d (omega (arith, low, had.count)))
+      ∙ new (subst (λ i. get_or live i false ≡ true) same a) ∙ ap v (sym same))
+      (split_last n k h);
+  past = had.past;
+}
+
+pub put_all : {A B : Type 0} (show : A → B) (d : A) (live : List Bool) (v : ℕ → B) (end k : ℕ) (items : List A) → end ≤ k → FilledTo show d live v end k items
+    → (n : ℕ) → get_or live n false ≡ true → show (get_or items n d) ≡ v n
+put_all show d live v end k items done had n a = ⊎_elim (λ low. had.each n (omega (arith, low, done)) a) (λ far. absurd (never_both (get_or live n false) (had.past n far) a)) (split_at n end)
+
+-- beyond its end a list of truths has none
+pub past : (xs : List Bool) (n : ℕ) → length xs ≤ n → get_or xs n false ≡ false
+past [] zero h = refl
+past [] (suc n) h = refl
+past (x ∷ xs) zero h = absurd (omega (arith, h))
+past (x ∷ xs) (suc n) h = past xs n (omega (arith, h))
+
+-- a truth for each of the first k nodes
+pub record Told (test : ℕ → Bool) (k : ℕ) (items : List Bool) : Type 0 where
+  pub count : length items ≡ k
+  pub each : (n : ℕ) → n < k → get_or items n false ≡ test n
+
+pub told_none : (test : ℕ → Bool) (items : List Bool) → items ≡ [] → Told test 0 items
+told_none test items is = record { count = ap length is; each = λ n h. absurd (omega (arith, h)) }
+
+pub told_more : (test : ℕ → Bool) (k : ℕ) (items later : List Bool) (x : Bool) → later ≡ items ++ x ∷ [] → x ≡ test k → Told test k items → Told test (k + 1) later
+told_more test k items later x is new had = record {
+  count = ap length is ∙ length-append items (x ∷ []) ∙ ap (λ i. i + 1) had.count;
+  each = λ n h. ⊎_elim
+      (λ less. ap (λ l. get_or l n false) is ∙ get_or_append_left items (x ∷ []) false n (omega (arith, less, had.count)) ∙ had.each n less)
+      (λ same. let here : n ≡ length items = omega (arith, same, had.count) in
+      ap (λ l. get_or l n false) is ∙ ap (λ i. get_or (items ++ x ∷ []) i false) here ∙ get_or-append_seam items x [] false ∙ new ∙ ap test (sym (here ∙ had.count)))
+      (split_last n k h);
+}
+
+-- a list that reaches so far has an entry there, whatever stands for one past the end
+pub any_default : {A : Type 0} (l : List A) (k : ℕ) (d e : A) → k < length l → get_or l k d ≡ get_or l k e
+any_default [] k d e h = absurd (omega (arith, h))
+any_default (x ∷ l) zero d e h = refl
+any_default (x ∷ l) (suc k) d e h = any_default l k d e (omega (arith, h))
+
+-- the same of a list that is written over
+pub record ToldTo (test : ℕ → Bool) (end k : ℕ) (items : List Bool) : Type 0 where
+  pub count : length items ≡ end
+  pub each : (n : ℕ) → n < k → get_or items n false ≡ test n
+
+pub put_told : (test : ℕ → Bool) (end k : ℕ) (items later : List Bool) (x : Bool) → k < end → later ≡ slice_set items k x → x ≡ test k → ToldTo test end k items
+    → ToldTo test end (k + 1) later
+put_told test end k items later x low is new had = record {
+  count = ap length is ∙ length-set items k x ∙ had.count;
+  each = λ n h. ap (λ l. get_or l n false) is ∙ ⊎_elim
+      (λ less. get_or-set_other items k n x false (λ e. omega (arith, less, e)) ∙ had.each n less)
+      (λ same. ap (λ i. get_or (slice_set items k x) i false) same ∙ get_or-set_same items k x false (omega (arith, low, had.count)) ∙ new ∙ ap test (sym same))
+      (split_last n k h);
+}
+
+pub told_whole : (test : ℕ → Bool) (end k : ℕ) (items : List Bool) → end ≡ k → ToldTo test end k items → Told test k items
+told_whole test end k items same had = record { count = had.count ∙ same; each = had.each }
+
+-- the same of nodes of a set
+pub put_asked : (live : List Bool) (test : ℕ → Bool) (end k : ℕ) (items later : List Bool) (d x : Bool) → k < length live → k < end → later ≡ slice_set items k x
+    → x ≡ (get_or live k d && test k) → ToldTo (λ n. get_or live n false && test n) end k items → ToldTo (λ n. get_or live n false && test n) end (k + 1) later
+put_asked live test end k items later d x inside low is new had =
+    put_told (λ n. get_or live n false && test n) end k items later x low is (new ∙ ap (λ b. b && test k) (any_default live k d false inside)) had
+
+pub both_left : (a b : Bool) → (a && b) ≡ true → a ≡ true
+both_left true b e = refl
+both_left false b e = e
+
+-- the nodes of a set that pass a test, and those past the end
+pub told_live : (live : List Bool) (test : ℕ → Bool) (k : ℕ) (items : List Bool) → length live ≡ k → Told (λ n. get_or live n false && test n) k items
+    → (n : ℕ) → get_or items n false ≡ (get_or live n false && test n)
+told_live live test k items end had n = ⊎_elim (had.each n)
+    (λ far. past items n (omega (arith, far, had.count)) ∙ sym (ap (λ b. b && test n) (past live n (omega (arith, far, end)))))
+    (split_at n k)
+
+pub part_asked : (tree : SearchedTree) (live left : List Bool) (test : ℕ → Bool) → AreAsked tree live → length left ≡ length live
+    → ((n : ℕ) → get_or left n false ≡ (get_or live n false && test n)) → AreAsked tree left
+part_asked tree live left test asked count each = record {
+  count = count ∙ asked.count;
+  searched = λ n e. asked.searched n (both_left (get_or live n false) (test n) (sym (each n) ∙ e));
+}
+
+pub numbered_all : (live : List Bool) (c : FilterColumn) (k : ℕ) (items : List Bool) → length live ≡ k
+    → Told (λ n. get_or live n false && is_some (amount (shown c n))) k items → IsNumbered live c items
+numbered_all live c k items end had = record {
+  count = had.count ∙ sym end;
+  each = told_live live (λ n. is_some (amount (shown c n))) k items end had;
+}
+
+pub narrowed_asked : (tree : SearchedTree) (live left : List Bool) (c : FilterColumn) (want : Bool) → AreAsked tree live → IsNarrowed live c want left → AreAsked tree left
+narrowed_asked tree live left c want asked is = is.asked tree asked

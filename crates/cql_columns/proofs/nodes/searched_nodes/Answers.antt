@@ -1,0 +1,24 @@
+use Rattle.std.proofs.Common.{◌∷◌, [], ◌++◌, ◌∙◌, ap, sym, arith, length, map}
+use Rattle.std.specs.List.{range_with_len}
+use Rattle.std.proofs.lemmas.List.FromFn.{map-range_with_len_more}
+use Rattle.cq_position.specs.Games.{is_searched}
+use Rattle.cql_values.specs.Trees.{searched_tree}
+use Rattle.cql_columns.proofs.Ticks.{all_left, steps_next}
+use Rattle.cql_columns.proofs.nodes.searched_nodes.Goals as goal
+
+pub loop-k-init : goal.loop-k-init
+loop-k-init g c = record {
+  nodes = c.in_ok-all.ensures.items;
+  left = all_left (searched_tree c.args.game.now c.args.variations) _;
+  rises = omega arith;
+}
+
+pub loop-k-preserved : goal.loop-k-preserved
+loop-k-preserved g c = record {
+  nodes = c.in_ok-push.ensures.items ∙ ap (λ l. l ++ c.is_searched-there.result ∷ []) c.loop-k.invariant.nodes
+      ∙ ap (λ b. map (is_searched c.args.variations c.args.game.now.nodes) (range_with_len 0 c.loop-k.k) ++ b ∷ []) c.is_searched-there.ensures
+      ∙ sym (map-range_with_len_more (is_searched c.args.variations c.args.game.now.nodes) 0 c.loop-k.k c.loop-k.k (omega arith));
+  left = steps_next (is_searched c.args.variations c.args.game.now.nodes) c.loop-k.k (length c.args.game.now.nodes) _ c.loop-k.steps c.tick_if.new.steps
+      c.is_searched-there.result (omega (arith, c.loop-k-test.true, c.len-k-end.ensures.len)) c.is_searched-there.ensures c.tick_if.ensures c.loop-k.invariant.left;
+  rises = omega (arith, c.loop-k.invariant.rises, c.tick_if.ensures);
+}

@@ -1,0 +1,144 @@
+-- Squares that are worth trying for a name: those at which what is asked may hold.
+use Rattle.std.specs.Prelude.{◌≡◌, ℕ, ◌<◌, ◌==◌, ◌&&◌, not, [], Bool, true, false, List, Option, Some, option_map, length, get_or}
+use Rattle.cq_position.specs.Led.{PlainLed}
+use Rattle.cq_position.specs.Search.{SearchedTree}
+use Rattle.cq_symmetry.specs.Images.{is_in}
+use Rattle.cql_syntax.specs.Meaning.{Names, is_bound_to, value, values, played_value, written_value, meets}
+use Rattle.cql_syntax.specs.Trees.{FilterTree, FilterTrees, PlayedTree, WrittenTree, written}
+use Rattle.cql_syntax.specs.Values.{Value, holds, has, squares_where, pair_of}
+use Rattle.cql_syntax.specs.declared.leaves.Pair.{Pair}
+use Rattle.cq_position.specs.declared.men.Man.{Man}
+use Rattle.cql_columns.specs.Columns.{is_live, shown, AreAsked}
+use Rattle.cql_columns.specs.declared.filter_column.FilterColumn.{FilterColumn}
+use Rattle.cql_columns.specs.Costs.{filter_cost, filters_cost, played_cost, written_cost}
+
+-- a list binds the name to a square of the board
+abbrev pub is_open : Names → List ℕ → Bool
+is_open opened text = holds (squares_where (is_bound_to opened text))
+
+-- two lists bind alike all names that are not opened
+pub record Agree (opened inner outer : Names) : Type 0 where
+  pub each : (text : List ℕ) → is_open opened text ≡ false → (t : ℕ) → is_bound_to inner text t ≡ is_bound_to outer text t
+
+-- it has the same values whatever is bound to the opened names, and takes no steps
+pub record IsFree (opened : Names) (f : FilterTree) : Type 0 where
+  pub each : (tree : SearchedTree) (inner outer : Names) (n : ℕ)
+      → Agree opened inner outer → value tree [] inner f n ≡ value tree [] outer f n
+  pub cost : (nodes : ℕ) → filter_cost nodes f ≡ 0
+
+pub record AreFree (opened : Names) (fs : FilterTrees) : Type 0 where
+  pub each : (tree : SearchedTree) (inner outer : Names) (n : ℕ)
+      → Agree opened inner outer → values tree [] inner fs n ≡ values tree [] outer fs n
+  pub cost : (nodes : ℕ) → filters_cost nodes fs ≡ 0
+
+pub record IsFreeMove (opened : Names) (p : PlayedTree) : Type 0 where
+  pub each : (tree : SearchedTree) (inner outer : Names) (n : ℕ)
+      → Agree opened inner outer → played_value tree [] inner p n ≡ played_value tree [] outer p n
+  pub cost : (nodes : ℕ) → played_cost nodes p ≡ 0
+
+pub record IsFreePart (opened : Names) (w : WrittenTree) : Type 0 where
+  pub each : (tree : SearchedTree) (inner outer : Names) (n : ℕ)
+      → Agree opened inner outer → written_value tree [] inner w n ≡ written_value tree [] outer w n
+  pub cost : (nodes : ℕ) → written_cost nodes w ≡ 0
+
+-- a name is bound to this square
+abbrev pub Binds : Names → List ℕ → ℕ → Type 0
+Binds e name s = (t : ℕ) → is_bound_to e name t ≡ (s == t)
+
+-- with a square bound to a name these values have no other square, and hold only where they have it
+pub record IsOwn (name : List ℕ) (v : SearchedTree → Names → ℕ → Value) : Type 0 where
+  pub only : (tree : SearchedTree) (e : Names) (n s t : ℕ) → Binds e name s → has (v tree e n) t ≡ true → s ≡ t
+  pub some : (tree : SearchedTree) (e : Names) (n s : ℕ) → Binds e name s → holds (v tree e n) ≡ true → has (v tree e n) s ≡ true
+
+-- a part of a move is written, and with a square bound to a name it has no other, and holds only where it has that one
+pub record IsOwnPart (name : List ℕ) (w : WrittenTree) : Type 0 where
+  pub part : FilterTree
+  pub is : w ≡ written part
+  pub own : IsOwn name (λ tree e n. value tree [] e part n)
+
+-- of the sets of squares at the nodes some squares are left: at the nodes that are asked for all of which this is true
+pub record AreCut (live : List Bool) (P : ℕ → ℕ → Type 0) (old new : List ℕ) : Type 0 where
+  pub count : length new ≡ length old
+  pub within : (n s : ℕ) → is_in (get_or new n 0) s ≡ true → is_in (get_or old n 0) s ≡ true
+  pub keeps : (n s : ℕ) → is_live live n ≡ true → P n s → is_in (get_or old n 0) s ≡ true → is_in (get_or new n 0) s ≡ true
+
+-- with a name bound to this square, and with something bound to the other opened names, it holds, or has the square
+pub record MayHold (opened outer : Names) (name : List ℕ) (v : Names → ℕ → Value) (n s : ℕ) : Type 0 where
+  pub inner : Names
+  pub agree : Agree opened inner outer
+  pub binds : Binds inner name s
+  pub holds_there : holds (v inner n) ≡ true
+
+pub record MayHave (opened outer : Names) (name : List ℕ) (v : Names → ℕ → Value) (n s : ℕ) : Type 0 where
+  pub inner : Names
+  pub agree : Agree opened inner outer
+  pub binds : Binds inner name s
+  pub has_there : has (v inner n) s ≡ true
+
+-- with a name bound to this square, and another name to one that the values have, it holds
+pub record MayPair (name other : List ℕ) (x : ℕ → Value) (v : Names → ℕ → Value) (n s : ℕ) : Type 0 where
+  pub inner : Names
+  pub binds : Binds inner name s
+  pub t : ℕ
+  pub binds_other : Binds inner other t
+  pub has_other : has (x n) t ≡ true
+  pub holds_there : holds (v inner n) ≡ true
+
+-- to the sets are added those squares of others of which this is true at the nodes that are asked for
+pub record AreAdded (live : List Bool) (P : ℕ → ℕ → Type 0) (sets old new : List ℕ) : Type 0 where
+  pub count : length new ≡ length old
+  pub grows : (n s : ℕ) → is_in (get_or old n 0) s ≡ true → is_in (get_or new n 0) s ≡ true
+  pub adds : (n s : ℕ) → is_live live n ≡ true → P n s → is_in (get_or sets n 0) s ≡ true → is_in (get_or new n 0) s ≡ true
+
+-- to each of the sets are added the squares of another
+pub record AreJoined (more old new : List ℕ) : Type 0 where
+  pub count : length new ≡ length old
+  pub grows : (n s : ℕ) → is_in (get_or old n 0) s ≡ true → is_in (get_or new n 0) s ≡ true
+  pub adds : (n s : ℕ) → n < length old → is_in (get_or more n 0) s ≡ true → is_in (get_or new n 0) s ≡ true
+
+-- one set, of which some squares are left
+pub record IsCut (asked : Bool) (Q : ℕ → Type 0) (old new : ℕ) : Type 0 where
+  pub within : (s : ℕ) → is_in new s ≡ true → is_in old s ≡ true
+  pub keeps : (s : ℕ) → asked ≡ true → Q s → is_in old s ≡ true → is_in new s ≡ true
+
+-- the sets of a column
+pub record AreSetsOf (v : ℕ → Value) (live : List Bool) (sets : List ℕ) : Type 0 where
+  pub count : length sets ≡ length live
+  pub each : (n : ℕ) → is_live live n ≡ true → is_in (get_or sets n 0) ≡ has (v n)
+
+-- squares among which are those at the nodes of a set
+pub record AreAmong (live : List Bool) (sets : List ℕ) (among : ℕ) : Type 0 where
+  pub each : (n s : ℕ) → is_live live n ≡ true → is_in (get_or sets n 0) s ≡ true → is_in among s ≡ true
+
+-- the same squares at each node of a set
+pub record AreEverywhere (live : List Bool) (set : ℕ) (sets : List ℕ) : Type 0 where
+  pub count : length sets ≡ length live
+  pub each : (n : ℕ) → is_live live n ≡ true → get_or sets n 0 ≡ set
+
+-- a square is the one that a move came from, the one that it went to, and the one on which it took a man, as far as each is asked for
+pub record IsOfMove (l : Option PlainLed) (origin goal taken : Bool) (s : ℕ) : Type 0 where
+  pub led : PlainLed
+  pub is : l ≡ Some led
+  pub at_origin : origin ≡ true → led.origin ≡ s
+  pub at_goal : goal ≡ true → led.goal ≡ s
+  pub at_taken : taken ≡ true → led.taken ≡ Some s
+
+-- where a part of a move is met, with whatever is bound to the opened names, the column meets it too
+pub record AsksNoMore (tree : SearchedTree) (opened outer : Names) (w : WrittenTree) (live : List Bool) (c : Option FilterColumn) : Type 0 where
+  pub each : (n : ℕ) (inner : Names) → is_live live n ≡ true → Agree opened inner outer
+      → (q : Option ℕ) → meets (written_value tree [] inner w n) q ≡ true → meets (option_map (λ x. shown x n) c) q ≡ true
+
+-- the nodes of a set at which there are squares
+pub record HasSome (tree : SearchedTree) (live : List Bool) (sets : List ℕ) (some : List Bool) : Type 0 where
+  pub asked : AreAsked tree some
+  pub each : (n : ℕ) → is_live some n ≡ (is_live live n && not (get_or sets n 0 == 0))
+
+-- what the pair gives of some first value and of this one has the square
+pub record IsSoRelated (men : List Man) (pair : Pair) (y : Value) (s : ℕ) : Type 0 where
+  pub first : Value
+  pub has_there : has (pair_of men pair first y) s ≡ true
+
+-- of the squares of values at the nodes those with which something may hold
+pub record AreWorthTrying (v : ℕ → Value) (live : List Bool) (asked : ℕ → ℕ → Bool) (sets : List ℕ) : Type 0 where
+  pub within : (n s : ℕ) → is_live live n ≡ true → is_in (get_or sets n 0) s ≡ true → has (v n) s ≡ true
+  pub keeps : (n s : ℕ) → is_live live n ≡ true → s < 64 → asked n s ≡ true → has (v n) s ≡ true → is_in (get_or sets n 0) s ≡ true

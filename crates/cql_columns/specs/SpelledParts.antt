@@ -1,0 +1,77 @@
+-- What a table's atoms spell on the ways of a line that begin at some nodes, and where a way leads.
+use Rattle.std.specs.Prelude.{◌≡◌, ◌↔◌, ℕ, ◌<◌, ◌==◌, Bool, true, false, not, List, [], ◌∷◌}
+use Rattle.cq_outside.specs.Spelling.{Pattern, joined, Spells}
+use Rattle.cq_position.specs.Games.{is_below}
+use Rattle.cq_position.specs.Search.{SearchedTree, IsStep, Along}
+use Rattle.cql_lines.specs.Tables.{holds_in}
+use Rattle.cql_lines.specs.declared.table.AtomTable.{AtomTable}
+use Rattle.cql_syntax.specs.TabledLines.{IsAsked}
+use Rattle.cql_syntax.specs.Values.{Value, holds}
+use Rattle.cql_syntax.specs.declared.leaves.Mark.{Mark}
+use Rattle.cql_syntax.specs.declared.leaves.Mark.TheVariants.{Once, Star, Plus, Maybe, Times}
+use Rattle.cql_columns.specs.Columns.{is_live, AreAsked}
+
+-- a node of a set
+abbrev pub IsLive : List Bool → ℕ → Type 0
+IsLive live n = is_live live n ≡ true
+
+-- a way begins at one of some nodes, and goes on by steps
+abbrev pub IsWay : (ℕ → ℕ → Type 0) → (ℕ → Type 0) → List ℕ → Type 0
+IsWay Step In [] = Unit {0}
+IsWay Step In (n ∷ w) = In n × Along Step n w
+
+-- on these ways a pattern of numbers spells by a test what one of values spells
+abbrev pub AreAlike : (ℕ → ℕ → Type 0) → (ℕ → Type 0) → (ℕ → ℕ → Bool) → Pattern ℕ → Pattern (ℕ → Value) → Type 0
+AreAlike Step In test p r = (w : List ℕ) → IsWay Step In w → Spells test p w ↔ Spells (λ v m. holds (v m)) r w
+
+-- none of these ways is spelled
+abbrev pub IsNever : (ℕ → ℕ → Type 0) → (ℕ → Type 0) → Pattern (ℕ → Value) → Type 0
+IsNever Step In r = (w : List ℕ) → IsWay Step In w → Spells (λ v m. holds (v m)) r w → ⊥
+
+-- a test agrees with a table on the atoms below a number
+abbrev pub Agrees : {L : Type 0} {own : _} → (ℕ → ℕ → Bool) → AtomTable L own → ℕ → Type 0
+Agrees test table past = (a n : ℕ) → a < past → test a n ≡ holds_in table a n
+
+-- Whatever agrees with the table on the atoms below a number spells on the ways that begin at some nodes what the values spell.
+abbrev pub AreTabled :
+    {L : Type 0} {own : _} → SearchedTree → Bool → (ℕ → Type 0) → AtomTable L own → ℕ → Pattern ℕ → Pattern (ℕ → Value) → Type 0
+AreTabled tree back In table past p r =
+    (test : ℕ → ℕ → Bool) → Agrees test table past → AreAlike (IsStep tree back false) In test p r
+
+-- ways lead from a node to another
+abbrev pub Leads : SearchedTree → Bool → ℕ → ℕ → Type 0
+Leads tree true n m = is_below tree.game.nodes m n ≡ true
+Leads tree false n m = (is_below tree.game.nodes n m ≡ true) × IsAsked tree m
+
+-- searched nodes, among them all that a step leads to from those of a set
+pub record AreOnward (tree : SearchedTree) (back : Bool) (live next : List Bool) : Type 0 where
+  pub asked : AreAsked tree next
+  pub covers : (n m : ℕ) → IsLive live n → IsStep tree back false n m → IsLive next m
+
+-- searched nodes, among them all that ways lead to from those of a set
+pub record AreReached (tree : SearchedTree) (back : Bool) (live wide : List Bool) : Type 0 where
+  pub asked : AreAsked tree wide
+  pub covers : (n m : ℕ) → IsLive live n → Leads tree back n m → IsLive wide m
+
+-- What a part of a row and all that follows it spell on ways from the nodes of one set is right where what follows is right on ways from
+-- those of the next set.
+pub record LeadsOn {L : Type 0} {own : _} (tree : SearchedTree) (back : Bool) (old new : List Bool) (table : AtomTable L own) (past : ℕ)
+    (p : Pattern ℕ) (r : Pattern (ℕ → Value)) : Type 0 where
+  pub asked : AreAsked tree new
+  pub alike : (test : ℕ → ℕ → Bool) → Agrees test table past → (q : Pattern ℕ) (s : Pattern (ℕ → Value))
+      → AreAlike (IsStep tree back false) (IsLive new) test q s
+      → AreAlike (IsStep tree back false) (IsLive old) test (joined p q) (joined r s)
+  pub never : (s : Pattern (ℕ → Value)) → IsNever (IsStep tree back false) (IsLive new) s
+      → IsNever (IsStep tree back false) (IsLive old) (joined r s)
+
+-- no way from the nodes of a set is spelled by a part, whatever follows it
+abbrev pub EndsHere : SearchedTree → Bool → List Bool → Pattern (ℕ → Value) → Type 0
+EndsHere tree back live r = (s : Pattern (ℕ → Value)) → IsNever (IsStep tree back false) (IsLive live) (joined r s)
+
+-- whether a part with a mark stands at least once
+abbrev pub is_needed : Mark → Bool
+is_needed Once = true
+is_needed Star = false
+is_needed Plus = true
+is_needed Maybe = false
+is_needed (Times least most) = not (least == 0)

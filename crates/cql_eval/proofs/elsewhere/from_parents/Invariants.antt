@@ -1,7 +1,0 @@
-use Rattle.cq_position.specs.Games.{node_at}
-use Rattle.cql_eval.specs.Elsewhere.{set_of_node}
-use Rattle.cql_eval.proofs.ElsewhereLaw.{HaveSets}
-use Rattle.cql_eval.proofs.elsewhere.from_parents.Given as goal
-
-abbrev pub invariant-loop-k : goal.invariant-loop-k
-invariant-loop-k l = HaveSets (λ n. set_of_node l.there (node_at l.game.nodes n).parent) l.k l.back.items

@@ -1,6 +1,0 @@
-use Rattle.cql_eval.specs.Scopes.{tree_in}
-use Rattle.cql_eval.proofs.Widening.{Widened}
-use Rattle.cql_eval.proofs.tree.below.Given as goal
-
-abbrev pub invariant-loop-k : goal.invariant-loop-k
-invariant-loop-k l = Widened (tree_in l.scope) l.live l.k l.wide.items
