@@ -2,10 +2,12 @@
 ghost use Rattle.std.specs.Prelude.{◌≡◌, ◌++◌, ◌∷◌, [], ◌%◌, ◌<◌, IfOk, OnOk};
 ghost use Rattle.std.specs.Fmt.{decimal};
 ghost use Rattle.cql_rewrite.specs.FlatText as spec;
+ghost use Rattle.cql_syntax.specs.Words.{word_text};
+ghost use Rattle.cql_syntax.specs.declared.words.Word.TheVariants.{Comment, Elo, Result};
 
-use crate::words::{arrow_word, line_word};
+use crate::words::{arrow_word, field_word, line_word, outcome_word, whose_word};
 use cq_outside::{Bytes, NoMemory};
-use cql_syntax::{Designator, Extent, Mark, Sign, Word};
+use cql_syntax::{Designator, Extent, Field, Mark, Of, Outcome, Sign, Word};
 use std::alloc::Global;
 
 /// A word and its parts in parentheses.
@@ -45,6 +47,39 @@ pub(crate) fn quoted(alloc: Global, value: &Bytes) -> Result<Bytes, NoMemory>
     text.push_all(value.as_slice())?;
     text.push_all(b"\"")?;
     Ok(text)
+}
+
+/// A field of the game and its value.
+pub(crate) fn tagged(alloc: Global, field: Field, value: &Bytes) -> Result<Bytes, NoMemory>
+    ensures { IfOk result (λ t. t ≡ spec.in_parens (spec.field_word field) (spec.quoted value.now ∷ [])) }
+{
+    let word = field_word(alloc, field)?;
+    let value = quoted(alloc, value)?;
+    in_parens(alloc, word.as_slice(), &[value])
+}
+
+/// An outcome of the game.
+pub(crate) fn outcome(alloc: Global, outcome: Outcome) -> Result<Bytes, NoMemory>
+    ensures { IfOk result (λ t. t ≡ spec.in_parens (word_text Result) (spec.outcome_word outcome ∷ [])) }
+{
+    let outcome = Bytes::from_slice(alloc, outcome_word(outcome))?;
+    in_parens(alloc, Word::Result.text(), &[outcome])
+}
+
+/// The rating of a player.
+pub(crate) fn elo(alloc: Global, of: Of) -> Result<Bytes, NoMemory>
+    ensures { IfOk result (λ t. t ≡ spec.in_parens (spec.whose_word Elo of) []) }
+{
+    let word = whose_word(alloc, Word::Elo, of)?;
+    in_parens(alloc, word.as_slice(), &[])
+}
+
+/// A comment.
+pub(crate) fn comment(alloc: Global, note: &Bytes) -> Result<Bytes, NoMemory>
+    ensures { IfOk result (λ t. t ≡ spec.in_parens (word_text Comment) (spec.quoted note.now ∷ [])) }
+{
+    let note = quoted(alloc, note)?;
+    in_parens(alloc, Word::Comment.text(), &[note])
 }
 
 /// The digits of a number.

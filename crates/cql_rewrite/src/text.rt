@@ -1,15 +1,15 @@
 //! The text of a flat query: a line for each item.
-ghost use Rattle.std.specs.Prelude.{◌≡◌, IfOk, None, unwrap_or, false, []};
+ghost use Rattle.std.specs.Prelude.{◌≡◌, ◌∷◌, IfOk, None, unwrap_or, false, []};
+ghost use Rattle.std.specs.Fmt.{decimal};
 ghost use Rattle.cql_syntax.specs.TreeOf.{filter_tree, filters_tree, terms_tree, line_tree, played_tree, written_tree, parts_tree, body_tree};
 ghost use Rattle.cql_rewrite.specs.FlatText as spec;
 
 use crate::pieces::{
-    designator, in_move, in_parens, line_start, marked, number, push_each, quoted,
+    comment, designator, elo, in_move, in_parens, line_start, marked, number, outcome, push_each,
+    quoted, tagged,
 };
 use crate::sums::{push_term, sum_start};
-use crate::words::{
-    any_word, chain_word, field_word, outcome_word, pair_word, sort_word, square_word, whose_word,
-};
+use crate::words::{any_word, chain_word, pair_word, sort_word, square_word};
 use cq_outside::{Bytes, NoMemory};
 use cql_syntax::{Body, Constituents, Filter, Filters, FlatQuery, Form, Line, Played, Terms, Word};
 use std::alloc::Global;
@@ -47,33 +47,12 @@ pub(crate) fn text_of(alloc: Global, f: &Filter) -> Result<Bytes, NoMemory>
         Form::Number(n) => number(alloc, *n),
         Form::Name(name) => Bytes::from_slice(alloc, name.as_slice()),
         Form::Plain(word) => Bytes::from_slice(alloc, Word::Plain(*word).text()),
-        Form::Tagged(field, value) => {
-            let word = field_word(alloc, *field)?;
-            let value = quoted(alloc, value)?;
-            in_parens(alloc, word.as_slice(), &[value])
-        }
-        Form::Outcome(outcome) => {
-            let outcome = Bytes::from_slice(alloc, outcome_word(*outcome))?;
-            in_parens(alloc, Word::Result.text(), &[outcome])
-        }
-        Form::Elo(of) => {
-            let word = whose_word(alloc, Word::Elo, *of)?;
-            in_parens(alloc, word.as_slice(), &[])
-        }
-        Form::Unary(word, a) => {
-            let part = text_of(alloc, a)?;
-            in_parens(alloc, Word::Unary(*word).text(), &[part])
-        }
-        Form::Steps(way, m, n, a) => {
-            let least = number(alloc, *m)?;
-            let most = number(alloc, *n)?;
-            let part = text_of(alloc, a)?;
-            in_parens(alloc, Word::Way(*way).text(), &[least, most, part])
-        }
-        Form::Chain(chain, parts) => {
-            let texts = texts_of(alloc, parts)?;
-            in_parens(alloc, chain_word(*chain), texts.as_slice())
-        }
+        Form::Tagged(field, value) => tagged(alloc, *field, value),
+        Form::Outcome(result) => outcome(alloc, *result),
+        Form::Elo(of) => elo(alloc, *of),
+        Form::Unary(word, a) => part_of(alloc, Word::Unary(*word).text(), a),
+        Form::Steps(way, m, n, a) => steps_of(alloc, Word::Way(*way).text(), *m, *n, a),
+        Form::Chain(chain, parts) => parts_of(alloc, chain_word(*chain), parts),
         Form::Sum(terms) => sum_of(alloc, terms),
         Form::Pair(pair, a, b) => {
             let first = text_of(alloc, a)?;
@@ -95,25 +74,48 @@ pub(crate) fn text_of(alloc: Global, f: &Filter) -> Result<Bytes, NoMemory>
         }
         Form::Line(line) => line_of(alloc, line),
         Form::Played(played) => played_of(alloc, played),
-        Form::Transform(family, a) => {
-            let part = text_of(alloc, a)?;
-            in_parens(alloc, Word::Family(*family).text(), &[part])
-        }
-        Form::Sort(least, name, a) => {
-            let word = sort_word(alloc, *least)?;
-            let title = quoted(alloc, name)?;
-            let part = text_of(alloc, a)?;
-            in_parens(alloc, word.as_slice(), &[title, part])
-        }
-        Form::Comment(note) => {
-            let note = quoted(alloc, note)?;
-            in_parens(alloc, Word::Comment.text(), &[note])
-        }
-        Form::Any(kind, parts) => {
-            let texts = texts_of(alloc, parts)?;
-            in_parens(alloc, any_word(*kind), texts.as_slice())
-        }
+        Form::Transform(family, a) => part_of(alloc, Word::Family(*family).text(), a),
+        Form::Sort(least, name, a) => sort_of(alloc, *least, name, a),
+        Form::Comment(note) => comment(alloc, note),
+        Form::Any(kind, parts) => parts_of(alloc, any_word(*kind), parts),
     }
+}
+
+#[cycle(text)]
+fn part_of(alloc: Global, word: &[u8], a: &Filter) -> Result<Bytes, NoMemory>
+    ensures { IfOk result (λ t. t ≡ spec.in_parens word.now (spec.text (filter_tree a.now) ∷ [])) }
+{
+    let part = text_of(alloc, a)?;
+    in_parens(alloc, word, &[part])
+}
+
+#[cycle(text)]
+fn parts_of(alloc: Global, word: &[u8], parts: &Filters) -> Result<Bytes, NoMemory>
+    ensures { IfOk result (λ t. t ≡ spec.in_parens word.now (spec.texts (filters_tree parts.now))) }
+{
+    let texts = texts_of(alloc, parts)?;
+    in_parens(alloc, word, texts.as_slice())
+}
+
+#[cycle(text)]
+fn steps_of(alloc: Global, way: &[u8], m: u32, n: u32, a: &Filter) -> Result<Bytes, NoMemory>
+    ensures { IfOk result (λ t. t ≡ spec.in_parens way.now (decimal m ∷ decimal n ∷ spec.text (filter_tree a.now) ∷ [])) }
+{
+    let least = number(alloc, m)?;
+    let most = number(alloc, n)?;
+    let part = text_of(alloc, a)?;
+    in_parens(alloc, way, &[least, most, part])
+}
+
+#[cycle(text)]
+fn sort_of(alloc: Global, least: bool, name: &Bytes, a: &Filter) -> Result<Bytes, NoMemory>
+    ensures { IfOk result (λ t. t
+        ≡ spec.in_parens (spec.sort_word least) (spec.quoted name.now ∷ spec.text (filter_tree a.now) ∷ [])) }
+{
+    let word = sort_word(alloc, least)?;
+    let title = quoted(alloc, name)?;
+    let part = text_of(alloc, a)?;
+    in_parens(alloc, word.as_slice(), &[title, part])
 }
 
 #[cycle(text)]

@@ -1,8 +1,10 @@
-use Rattle.std.proofs.Common.{◌≡◌, ◌∙◌, sym, ap₂, length, ◌≤◌, arith}
+use Rattle.std.proofs.Common.{◌≡◌, ◌∙◌, sym, ap₂, length, ◌≤◌, arith, rules}
 use Rattle.cql_syntax.specs.Same as spec
 use Rattle.cql_syntax.specs.Unplaced.{all_with, terms_with, parts_with}
 use Rattle.cql_rewrite.proofs.Rows.{filter_rows, term_rows, part_rows, differed, stopped, moved, ended}
 use Rattle.cql_rewrite.proofs.PlayedParts.{same_parts_of, promoted_same, third_differs, fourth_decides}
+use Rattle.cql_syntax.specs.Same.{same_filter}
+use Rattle.cql_syntax.specs.Unplaced.{with_places}
 use Rattle.cql_rewrite.proofs.same.+same.Goals as goal
 
 pub same_filters-returns-then-first-second : goal.same_filters-returns-then-first-second
@@ -74,3 +76,83 @@ same_played-returns t c =
     ∙ sym (same_parts_of c.args.placed c.args.a.now c.args.b.now
     ∙ fourth_decides _ _ _ _ (sym c.same_written.ensures ∙ c.if-not-same_written.false)
     (sym c.same_written-else-not-same_written.ensures ∙ c.if-not-same_written-2.false) (sym c.same_written-2.ensures ∙ c.if-not-same_written-3.false))
+
+pub same_form-returns-in_default : goal.same_form-returns-in_default
+unfolding same_filter with_places
+same_form-returns-in_default t c = search rules
+
+pub same_form-returns-in_default-2 : goal.same_form-returns-in_default-2
+unfolding same_filter with_places
+same_form-returns-in_default-2 t c = search rules
+
+pub same_form-returns-in_default-3 : goal.same_form-returns-in_default-3
+unfolding same_filter with_places
+same_form-returns-in_default-3 t c = search rules
+
+pub same_form-returns-in_default-4 : goal.same_form-returns-in_default-4
+unfolding same_filter with_places
+same_form-returns-in_default-4 t c = search rules
+
+pub same_form-returns-in_default-5 : goal.same_form-returns-in_default-5
+unfolding same_filter with_places
+same_form-returns-in_default-5 t c = search rules
+
+pub same_form-returns-in_default-6 : goal.same_form-returns-in_default-6
+unfolding same_filter with_places
+same_form-returns-in_default-6 t c = search rules
+
+pub same_form-returns-in_default-7 : goal.same_form-returns-in_default-7
+unfolding same_filter with_places
+same_form-returns-in_default-7 t c = search rules
+
+pub same_form-returns-in_default-8 : goal.same_form-returns-in_default-8
+unfolding same_filter with_places
+same_form-returns-in_default-8 t c = search rules
+
+pub same_form-returns-in_default-9 : goal.same_form-returns-in_default-9
+unfolding same_filter with_places
+same_form-returns-in_default-9 t c = search rules
+
+pub same_form-returns-in_default-10 : goal.same_form-returns-in_default-10
+unfolding same_filter with_places
+same_form-returns-in_default-10 t c = search rules
+
+pub same_form-returns-in_default-11 : goal.same_form-returns-in_default-11
+unfolding same_filter with_places
+same_form-returns-in_default-11 t c = search rules
+
+pub same_form-returns-in_default-12 : goal.same_form-returns-in_default-12
+unfolding same_filter with_places
+same_form-returns-in_default-12 t c = search rules
+
+pub same_form-returns-in_default-13 : goal.same_form-returns-in_default-13
+unfolding same_filter with_places
+same_form-returns-in_default-13 t c = search rules
+
+pub same_form-returns-in_default-14 : goal.same_form-returns-in_default-14
+unfolding same_filter with_places
+same_form-returns-in_default-14 t c = search rules
+
+pub same_form-returns-in_default-15 : goal.same_form-returns-in_default-15
+unfolding same_filter with_places
+same_form-returns-in_default-15 t c = search rules
+
+pub same_form-returns-in_default-16 : goal.same_form-returns-in_default-16
+unfolding same_filter with_places
+same_form-returns-in_default-16 t c = search rules
+
+pub same_form-returns-in_default-17 : goal.same_form-returns-in_default-17
+unfolding same_filter with_places
+same_form-returns-in_default-17 t c = search rules
+
+pub same_form-returns-in_default-18 : goal.same_form-returns-in_default-18
+unfolding same_filter with_places
+same_form-returns-in_default-18 t c = search rules
+
+pub same_form-returns-in_default-19 : goal.same_form-returns-in_default-19
+unfolding same_filter with_places
+same_form-returns-in_default-19 t c = search rules
+
+pub same_form-returns-in_default-20 : goal.same_form-returns-in_default-20
+unfolding same_filter with_places
+same_form-returns-in_default-20 t c = search rules

@@ -1,4 +1,4 @@
-use Rattle.std.proofs.Common.{◌≡◌, ◌++◌, ◌∷◌, [], take, ap}
+use Rattle.std.proofs.Common.{◌≡◌, ◌++◌, ◌∷◌, [], take, ap, rules}
 use Rattle.cql_syntax.specs.TreeOf.{filter_tree, body_tree, filter_trees, part_trees}
 use Rattle.cql_syntax.proofs.Lists.{filter_trees_more, part_trees_more}
 use Rattle.cql_rewrite.specs.FlatText as spec
@@ -18,3 +18,71 @@ part_texts-loop-part-preserved t c =
     let more = ap spec.part_texts (part_trees_more xs i x c.loop-part-test.true c.part-item.is) in
     let snoc = part_texts_snoc (part_trees (take i xs)) (body_tree x.body) x.mark in
     cc (more, snoc, c.in_ok-push.ensures.items, c.in_ok-text.ensures, c.in_ok-body.ensures, c.loop-part.invariant)
+
+pub text_of-returns-in-Squares : goal.text_of-returns-in-Squares
+unfolding spec.text
+text_of-returns-in-Squares t c = search rules
+
+pub text_of-returns-in-Number : goal.text_of-returns-in-Number
+unfolding spec.text
+text_of-returns-in-Number t c = search rules
+
+pub text_of-returns-in-Name : goal.text_of-returns-in-Name
+unfolding spec.text
+text_of-returns-in-Name t c = search rules
+
+pub text_of-returns-in-Plain : goal.text_of-returns-in-Plain
+unfolding spec.text
+text_of-returns-in-Plain t c = search rules
+
+pub text_of-returns-in-Tagged : goal.text_of-returns-in-Tagged
+unfolding spec.text
+text_of-returns-in-Tagged t c = search rules
+
+pub text_of-returns-in-Outcome : goal.text_of-returns-in-Outcome
+unfolding spec.text
+text_of-returns-in-Outcome t c = search rules
+
+pub text_of-returns-in-Elo : goal.text_of-returns-in-Elo
+unfolding spec.text
+text_of-returns-in-Elo t c = search rules
+
+pub text_of-returns-in-Unary : goal.text_of-returns-in-Unary
+unfolding spec.text
+text_of-returns-in-Unary t c = search rules
+
+pub text_of-returns-in-Steps : goal.text_of-returns-in-Steps
+unfolding spec.text
+text_of-returns-in-Steps t c = search rules
+
+pub text_of-returns-in-Chain : goal.text_of-returns-in-Chain
+unfolding spec.text
+text_of-returns-in-Chain t c = search rules
+
+pub text_of-returns-in-Sum : goal.text_of-returns-in-Sum
+unfolding spec.text
+text_of-returns-in-Sum t c = search rules
+
+pub text_of-returns-in-Line : goal.text_of-returns-in-Line
+unfolding spec.text
+text_of-returns-in-Line t c = search rules
+
+pub text_of-returns-in-Played : goal.text_of-returns-in-Played
+unfolding spec.text
+text_of-returns-in-Played t c = search rules
+
+pub text_of-returns-in-Transform : goal.text_of-returns-in-Transform
+unfolding spec.text
+text_of-returns-in-Transform t c = search rules
+
+pub text_of-returns-in-Sort : goal.text_of-returns-in-Sort
+unfolding spec.text
+text_of-returns-in-Sort t c = search rules
+
+pub text_of-returns-in-Comment : goal.text_of-returns-in-Comment
+unfolding spec.text
+text_of-returns-in-Comment t c = search rules
+
+pub text_of-returns-in-Any : goal.text_of-returns-in-Any
+unfolding spec.text
+text_of-returns-in-Any t c = search rules
