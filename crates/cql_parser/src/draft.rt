@@ -5,13 +5,15 @@ ghost use Rattle.cql_syntax.specs.TreeOf.{filter_tree, form_tree, body_tree, par
 ghost use Rattle.cql_syntax.specs.Trees.{move_of};
 ghost use Rattle.cql_parser.specs.Drafts.{name_of, draft_of, say_word, next_part, say_sign, extent_of, say_number, say, take, need, field_of, search_of, form, form_of, with_body, node_of, filter_of, body_of as body_by};
 ghost use Rattle.cql_parser.specs.Shown.{node_shown, draft_shown};
+ghost use Rattle.cql_parser.specs.declared.maker.Maker.TheVariants as makers;
 
 use crate::maker::{Maker, maker_of};
 use crate::place::Place;
 use cq_outside::{Bytes, NoMemory};
+use cq_symmetry::Family;
 use cql_syntax::{
     Body, Chain, Constituent, Constituents, Extent, Field, Filter, Filters, Form, Line, Mark, Of,
-    Outcome, Pair, PathLength, Played, QueryToken, QueryTokenKind, Sign, Unary, Word, sign_of,
+    Outcome, Pair, PathLength, Played, QueryToken, QueryTokenKind, Sign, Unary, Way, Word, sign_of,
     word_of,
 };
 use std::alloc::Global;
@@ -212,61 +214,150 @@ impl Draft {
         Ok(())
     }
 
+    // The text along the rule.
+    fn into_text(self) -> Bytes
+        ensures { result ≡ self.text }
+    {
+        let Draft { text, .. } = self;
+        text
+    }
+
+    // The filters that have their places.
+    fn into_slots(self) -> Slots
+        ensures { result ≡ self.slots }
+    {
+        let Draft { slots, .. } = self;
+        slots
+    }
+
+    // The filters in a row.
+    fn into_row(self) -> Filters
+        ensures { result ≡ self.row }
+    {
+        let Draft { row, .. } = self;
+        row
+    }
+
+    // The parts of a line.
+    fn into_parts(self) -> Parts
+        ensures { result ≡ self.line }
+    {
+        let Draft { line, .. } = self;
+        line
+    }
+
+    // A word before one filter.
+    fn unary(self, alloc: Global, unary: Unary) -> Result<Form, NoMemory>
+        ensures { IfOk result (λ f. form_tree f ≡ form_of (draft_shown self) (makers.Unary unary)) }
+    {
+        let unary = search_of(unary, self.back);
+        Ok(Form::Unary(unary, self.into_slots().last(alloc)?))
+    }
+
+    // Steps in a direction.
+    fn steps(self, alloc: Global, way: Way) -> Result<Form, NoMemory>
+        ensures { IfOk result (λ f. form_tree f ≡ form_of (draft_shown self) (makers.Direction way)) }
+    {
+        let least = self.least;
+        let most = self.most;
+        Ok(Form::Steps(way, least, most, self.into_slots().last(alloc)?))
+    }
+
+    // A filter under a family of transformations.
+    fn transform(self, alloc: Global, family: Family) -> Result<Form, NoMemory>
+        ensures { IfOk result (λ f. form_tree f ≡ form_of (draft_shown self) (makers.Family family)) }
+    {
+        Ok(Form::Transform(family, self.into_slots().last(alloc)?))
+    }
+
+    // A condition and both filters between which it decides.
+    fn choice(self, alloc: Global) -> Result<Form, NoMemory>
+        ensures { IfOk result (λ f. form_tree f ≡ form_of (draft_shown self) makers.If) }
+    {
+        let (condition, then, otherwise) = self.into_slots().three(alloc)?;
+        Ok(Form::If(condition, then, otherwise))
+    }
+
+    // A filter for each square of a set, or for one.
+    fn square(self, alloc: Global) -> Result<Form, NoMemory>
+        ensures { IfOk result (λ f. form_tree f ≡ form_of (draft_shown self) makers.Square) }
+    {
+        let Draft {
+            flag,
+            text,
+            slots,
+            ..
+        } = self;
+        let (squares, filter) = slots.first_and_last(alloc)?;
+        Ok(Form::Square(flag, text, squares, filter))
+    }
+
+    // A filter by which what matches is sorted.
+    fn sort(self, alloc: Global) -> Result<Form, NoMemory>
+        ensures { IfOk result (λ f. form_tree f ≡ form_of (draft_shown self) makers.Sort) }
+    {
+        let Draft {
+            flag,
+            text,
+            slots,
+            ..
+        } = self;
+        Ok(Form::Sort(flag, text, slots.last(alloc)?))
+    }
+
+    // The squares between those of two filters.
+    fn between(self, alloc: Global) -> Result<Form, NoMemory>
+        ensures { IfOk result (λ f. form_tree f ≡ form_of (draft_shown self) makers.Between) }
+    {
+        let (first, second) = self.into_slots().two(alloc)?;
+        Ok(Form::Pair(Pair::Between, first, second))
+    }
+
+    // A line of positions.
+    fn path(self) -> Result<Form, NoMemory>
+        ensures { IfOk result (λ f. form_tree f ≡ form_of (draft_shown self) makers.Line) }
+    {
+        let back = self.back;
+        let primary = self.flag;
+        let extent = self.extent;
+        let parts = self.into_parts().whole()?;
+        Ok(Form::Line(Line {
+            back,
+            primary,
+            extent,
+            parts,
+        }))
+    }
+
     // The form that the rule makes.
     fn form(self, alloc: Global) -> Result<Form, NoMemory>
         ensures { IfOk result (λ f. form_tree f ≡ form_of (draft_shown self) self.maker) }
     {
-        let Draft {
-            maker,
-            flag,
-            back,
-            side,
-            result,
-            text,
-            least,
-            most,
-            extent,
-            slots,
-            row,
-            line,
-            ..
-        } = self;
-        Ok(match maker {
-            Maker::Designator(designator) => Form::Squares(designator),
-            Maker::Number(number) => Form::Number(number),
-            Maker::Name => Form::Name(text),
-            Maker::Plain(word) => Form::Plain(word),
-            Maker::Outcome => Form::Outcome(result),
-            Maker::Tagged(field) => Form::Tagged(field_of(field, side), text),
-            Maker::Elo => Form::Elo(side),
-            Maker::Comment => Form::Comment(text),
-            Maker::Unary(unary) => Form::Unary(search_of(unary, back), slots.last(alloc)?),
-            Maker::Direction(way) => Form::Steps(way, least, most, slots.last(alloc)?),
-            Maker::Family(family) => Form::Transform(family, slots.last(alloc)?),
-            Maker::If => {
-                let (condition, then, otherwise) = slots.three(alloc)?;
-                Form::If(condition, then, otherwise)
+        match self.maker {
+            Maker::Designator(designator) => Ok(Form::Squares(designator)),
+            Maker::Number(number) => Ok(Form::Number(number)),
+            Maker::Name => Ok(Form::Name(self.into_text())),
+            Maker::Plain(word) => Ok(Form::Plain(word)),
+            Maker::Outcome => Ok(Form::Outcome(self.result)),
+            Maker::Tagged(field) => {
+                let field = field_of(field, self.side);
+                Ok(Form::Tagged(field, self.into_text()))
             }
-            Maker::Square => {
-                let (squares, filter) = slots.first_and_last(alloc)?;
-                Form::Square(flag, text, squares, filter)
-            }
-            Maker::Sort => Form::Sort(flag, text, slots.last(alloc)?),
-            Maker::Between => {
-                let (first, second) = slots.two(alloc)?;
-                Form::Pair(Pair::Between, first, second)
-            }
-            Maker::List(chain) => Form::Chain(chain, row),
-            Maker::Parens => slots.inner(),
-            Maker::Line => Form::Line(Line {
-                back,
-                primary: flag,
-                extent,
-                parts: line.whole()?,
-            }),
-            Maker::Group => Form::Number(0),
-            Maker::Move => Form::Played(slots.played()),
-        })
+            Maker::Elo => Ok(Form::Elo(self.side)),
+            Maker::Comment => Ok(Form::Comment(self.into_text())),
+            Maker::Unary(unary) => self.unary(alloc, unary),
+            Maker::Direction(way) => self.steps(alloc, way),
+            Maker::Family(family) => self.transform(alloc, family),
+            Maker::If => self.choice(alloc),
+            Maker::Square => self.square(alloc),
+            Maker::Sort => self.sort(alloc),
+            Maker::Between => self.between(alloc),
+            Maker::List(chain) => Ok(Form::Chain(chain, self.into_row())),
+            Maker::Parens => Ok(self.into_slots().inner()),
+            Maker::Line => self.path(),
+            Maker::Group => Ok(Form::Number(0)),
+            Maker::Move => Ok(Form::Played(self.into_slots().played())),
+        }
     }
 
     /// What the rule makes at its end.
@@ -274,10 +365,7 @@ impl Draft {
         ensures { IfOk result (λ n. node_shown n ≡ node_of (draft_shown self)) }
     {
         match self.maker {
-            Maker::Group => {
-                let Draft { line, .. } = self;
-                Ok(Node::Group(line.whole()?))
-            }
+            Maker::Group => Ok(Node::Group(self.into_parts().whole()?)),
             _ => {
                 let at = self.at;
                 Ok(Node::Filter(Filter {

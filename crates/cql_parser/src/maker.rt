@@ -9,7 +9,7 @@ use cql_syntax::{
 };
 
 /// What a rule of the grammar makes of its parts.
-#[derive(Clone, Copy, Debug, PartialEq, Eq)]
+#[derive(Clone, Copy)]
 pub enum Maker {
     Designator(Designator),
     Number(u32),

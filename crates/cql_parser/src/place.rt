@@ -7,7 +7,7 @@ use crate::role::Role;
 use cql_syntax::{Sign, Unary, Word};
 
 /// A place in a rule of the grammar.
-#[derive(Clone, Copy, Debug, PartialEq, Eq)]
+#[derive(Clone, Copy)]
 pub enum Place {
     /// After a filter without parts.
     Leaf,
@@ -122,7 +122,7 @@ pub enum Place {
 }
 
 /// A place in the head of a query, `cql ( {param} )`.
-#[derive(Clone, Copy, Debug, PartialEq, Eq)]
+#[derive(Clone, Copy)]
 pub enum Heading {
     /// Before `cql`.
     Start,
@@ -139,7 +139,7 @@ pub enum Heading {
 }
 
 /// What is around a place at which a filter is due.
-#[derive(Clone, Copy, Debug, PartialEq, Eq)]
+#[derive(Clone, Copy)]
 pub enum Context {
     Within,
     /// The filter begins with no number.
@@ -244,11 +244,17 @@ fn begin(role: Role) -> Option<Place>
 pub fn opens(context: Context, role: Role) -> Option<Place>
     ensures { result ≡ opens context role }
 {
-    match (context, role) {
-        (Context::Nowhere, _) => None,
-        (Context::NoNumber, Role::Number(_)) => None,
-        (Context::Along(back), Role::Sign(Sign::Open)) => Some(Place::Part(true, back)),
-        _ => begin(role),
+    match context {
+        Context::Nowhere => None,
+        Context::NoNumber => match role {
+            Role::Number(_) => None,
+            _ => begin(role),
+        },
+        Context::Along(back) => match role {
+            Role::Sign(Sign::Open) => Some(Place::Part(true, back)),
+            _ => begin(role),
+        },
+        Context::Within => begin(role),
     }
 }
 

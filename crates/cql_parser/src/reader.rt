@@ -31,7 +31,7 @@ pub struct Reader {
 }
 
 /// Where reading stands.
-#[derive(Clone, Copy, Debug, PartialEq, Eq)]
+#[derive(Clone, Copy)]
 pub enum Reached {
     /// In the head of the query.
     Opening(Heading),

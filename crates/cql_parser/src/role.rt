@@ -5,7 +5,7 @@ ghost use Rattle.cql_parser.specs.Places.{role, word_role, sign_role, joint, joi
 use cql_syntax::{Chain, LONGEST_PATH, Pair, QueryTokenKind, Sign, Word, sign_of, word_of};
 
 /// What a token between two filters makes of them.
-#[derive(Clone, Copy, Debug, PartialEq, Eq)]
+#[derive(Clone, Copy)]
 pub enum Joint {
     Chained(Chain),
     /// A sum; whether the filter after the token is subtracted.
@@ -14,7 +14,7 @@ pub enum Joint {
 }
 
 /// What the grammar sees of a token.
-#[derive(Clone, Copy, Debug, PartialEq, Eq)]
+#[derive(Clone, Copy)]
 pub enum Role {
     Word(Word),
     Sign(Sign),

@@ -3,40 +3,56 @@ ghost use Rattle.std.specs.Prelude.{◌≡◌, ◌==◌, IfOk};
 ghost use Rattle.cql_syntax.specs.TreeOf.{filter_tree, form_tree};
 ghost use Rattle.cql_parser.specs.Drafts.{new_row, longer_row, row_of as row_by, subtracts, joined_node};
 ghost use Rattle.cql_parser.specs.Shown.{node_shown};
+ghost use Rattle.cql_parser.specs.declared.role.Joint.TheVariants.{Chained, Added, Paired};
 
 use crate::draft::{Node, filter_in};
 use crate::role::{Joint, joint_level};
 use cq_outside::NoMemory;
-use cql_syntax::{Filter, Filters, Form, Term, Terms};
+use cql_syntax::{Chain, Filter, Filters, Form, Pair, Term, Terms};
 use std::alloc::Global;
+
+// Two filters in a chain.
+fn new_chain(alloc: Global, first: Filter, chain: Chain, second: Filter) -> Result<Form, NoMemory>
+    ensures { IfOk result (λ f. form_tree f ≡ new_row (filter_tree first) (Chained chain) (filter_tree second)) }
+{
+    let mut parts = Filters::new(alloc);
+    parts.push(first)?;
+    parts.push(second)?;
+    Ok(Form::Chain(chain, parts))
+}
+
+// A sum of two filters; whether the second is subtracted.
+fn new_sum(alloc: Global, first: Filter, minus: bool, second: Filter) -> Result<Form, NoMemory>
+    ensures { IfOk result (λ f. form_tree f ≡ new_row (filter_tree first) (Added minus) (filter_tree second)) }
+{
+    let mut terms = Terms::new(alloc);
+    terms.push(Term {
+        minus: false,
+        filter: first,
+    })?;
+    terms.push(Term {
+        minus,
+        filter: second,
+    })?;
+    Ok(Form::Sum(terms))
+}
+
+// Two filters that are set against each other.
+fn new_pair(alloc: Global, first: Filter, pair: Pair, second: Filter) -> Result<Form, NoMemory>
+    ensures { IfOk result (λ f. form_tree f ≡ new_row (filter_tree first) (Paired pair) (filter_tree second)) }
+{
+    let first = Box::new(alloc, first)?;
+    Ok(Form::Pair(pair, first, Box::new(alloc, second)?))
+}
 
 // A row of two filters.
 fn new_row(alloc: Global, first: Filter, joint: Joint, second: Filter) -> Result<Form, NoMemory>
     ensures { IfOk result (λ f. form_tree f ≡ new_row (filter_tree first) joint (filter_tree second)) }
 {
     match joint {
-        Joint::Chained(chain) => {
-            let mut parts = Filters::new(alloc);
-            parts.push(first)?;
-            parts.push(second)?;
-            Ok(Form::Chain(chain, parts))
-        }
-        Joint::Added(minus) => {
-            let mut terms = Terms::new(alloc);
-            terms.push(Term {
-                minus: false,
-                filter: first,
-            })?;
-            terms.push(Term {
-                minus,
-                filter: second,
-            })?;
-            Ok(Form::Sum(terms))
-        }
-        Joint::Paired(pair) => {
-            let first = Box::new(alloc, first)?;
-            Ok(Form::Pair(pair, first, Box::new(alloc, second)?))
-        }
+        Joint::Chained(chain) => new_chain(alloc, first, chain, second),
+        Joint::Added(minus) => new_sum(alloc, first, minus, second),
+        Joint::Paired(pair) => new_pair(alloc, first, pair, second),
     }
 }
 

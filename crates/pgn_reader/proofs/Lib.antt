@@ -13,6 +13,7 @@ pub mod Answer
 pub mod Groups
 pub mod Moves
 pub mod Ends
+pub mod Opens
 pub mod Symbols
 pub mod Strings
 pub mod Low
