@@ -9,19 +9,10 @@ use Rattle.std.proofs.Math.Bool.{or_comm}
 use Rattle.cq_geometry.specs.Squares.{file_of, rank_of, squares}
 use Rattle.cq_geometry.specs.Steps.{distance}
 use Rattle.cq_geometry.specs.Directions.{direction_to}
-use Rattle.cq_geometry.specs.Lines.{between_squares, lies_between, is_inside, rising_of, falling_of}
+use Rattle.cq_geometry.specs.Lines.{between_squares, lies_between, all_same, is_inside, rising_of, falling_of}
 use Rattle.cq_geometry.specs.Expansions.{steps_between}
 use Rattle.cq_geometry.proofs.Board.{squares_board}
 use Rattle.cq_geometry.proofs.Tables.{at_square, at_squares}
-
-between_table : map (λ a. map (between_squares a) squares) squares
-    ≡ map (λ a. map (λ b. steps_between a (direction_to a b) (distance a b)) squares) squares
-unfolding squares between_squares direction_to
-between_table = refl
-
-pub between_by_steps : (a b : ℕ) → a < 64 → b < 64 → steps_between a (direction_to a b) (distance a b) ≡ between_squares a b
-between_by_steps a b h k =
-    sym (at_squares between_squares (λ p q. steps_between p (direction_to p q) (distance p q)) between_table a b h k)
 
 filter_one : {X : Type 0} (p : X → Bool) (x : X) → filter p (x ∷ []) ≡ reverse (filter p (x ∷ []))
 filter_one p x = elim (p x) as (λ b. cond b (x ∷ []) [] ≡ reverse (cond b (x ∷ []) [])) [ true ↦ refl | false ↦ refl ]
@@ -35,6 +26,94 @@ filter_reverse p (x ∷ xs) =
     ∙ ap (λ ys. reverse (filter p xs) ++ ys) (filter_one p x)
     ∙ sym (reverse-append (filter p (x ∷ [])) (filter p xs))
     ∙ ap reverse (sym (filter-append p (x ∷ []) xs))
+
+-- what two squares have in common, as their file
+abbrev in_common : (ℕ → ℕ) → ℕ → ℕ → Bool
+in_common line a b = line a == line b
+
+-- two squares are on one file, rank or diagonal
+abbrev aligned : ℕ → ℕ → Bool
+aligned a b = in_common file_of a b || in_common rank_of a b || in_common rising_of a b || in_common falling_of a b
+
+guarded : (f r u d w x y z inside : Bool)
+    → (f && w || r && x || u && y || d && z) && inside
+    ≡ (f || r || u || d) && ((f && w || r && x || u && y || d && z) && inside)
+guarded true r u d w x y z inside = refl
+guarded false true u d w x y z inside = refl
+guarded false false true d w x y z inside = refl
+guarded false false false true w x y z inside = refl
+guarded false false false false w x y z inside = refl
+
+-- what is between two squares is on one line with the first
+between_aligned : (a b square : ℕ) → lies_between a b square ≡ aligned a square && lies_between a b square
+between_aligned a b square =
+    guarded (in_common file_of a square) (in_common rank_of a square) (in_common rising_of a square) (in_common falling_of a square)
+    (in_common file_of square b) (in_common rank_of square b) (in_common rising_of square b) (in_common falling_of square b)
+    (is_inside (file_of a) (file_of square) (file_of b) || is_inside (rank_of a) (rank_of square) (rank_of b))
+
+through : (m n k : ℕ) → (m == n && n == k) ≡ (m == k) && (m == n && n == k)
+through m n k = grind (arith, nat_tests)
+
+-- there is a square between two squares only where they are on one line
+ends_aligned : (a b square : ℕ) → lies_between a b square ≡ aligned a b && lies_between a b square
+ends_aligned a b square =
+    let inside = is_inside (file_of a) (file_of square) (file_of b) || is_inside (rank_of a) (rank_of square) (rank_of b) in
+    let file = through (file_of a) (file_of square) (file_of b) in
+    let rank = through (rank_of a) (rank_of square) (rank_of b) in
+    let up = through (rising_of a) (rising_of square) (rising_of b) in
+    let down = through (falling_of a) (falling_of square) (falling_of b) in
+    let joined = ap₂ (λ x y. x || y) (ap₂ (λ x y. x || y) (ap₂ (λ x y. x || y) file rank) up) down in
+    ap (λ x. x && inside) joined
+    ∙ guarded (in_common file_of a b) (in_common rank_of a b) (in_common rising_of a b) (in_common falling_of a b)
+    (all_same file_of a square b) (all_same rank_of a square b) (all_same rising_of a square b) (all_same falling_of a square b) inside
+    ∙ ap (λ x. aligned a b && (x && inside)) (sym joined)
+
+filter_both : {X : Type 0} (p q : X → Bool) (xs : List X) → filter (λ x. q x && p x) xs ≡ filter p (filter q xs)
+filter_both p q [] = refl
+filter_both p q (x ∷ xs) =
+    elim (q x) as (λ b. cond (b && p x) (x ∷ filter (λ y. q y && p y) xs) (filter (λ y. q y && p y) xs) ≡ filter p (cond b (x ∷ filter q xs) (filter q xs))) [
+      | true ↦ ap (λ ys. cond (p x) (x ∷ ys) ys) (filter_both p q xs)
+      | false ↦ filter_both p q xs
+    ]
+
+filter_nothing : {X : Type 0} (xs : List X) → filter (λ _. false) xs ≡ []
+filter_nothing [] = refl
+filter_nothing (x ∷ xs) = filter_nothing xs
+
+-- the squares on one line with a square, and those of them that are between it and another
+near : ℕ → List ℕ
+near a = filter (aligned a) squares
+
+among : List ℕ → ℕ → ℕ → List ℕ
+among candidates a b =
+    cond (aligned a b) (filter (lies_between a b) (cond (ltb a b) candidates (reverse candidates))) []
+
+between_among : (a b : ℕ) → between_squares a b ≡ among (near a) a b
+unfolding between_squares near among
+between_among a b =
+    let ordered = cond (ltb a b) (near a) (reverse (near a)) in
+    filter_agree (lies_between a b) (λ s. aligned a s && lies_between a b s) (between_aligned a b) (cond (ltb a b) squares (reverse squares))
+    ∙ filter_both (lies_between a b) (aligned a) (cond (ltb a b) squares (reverse squares))
+    ∙ ap (filter (lies_between a b))
+    (elim (ltb a b) as (λ t. filter (aligned a) (cond t squares (reverse squares)) ≡ cond t (near a) (reverse (near a))) [
+      | true ↦ refl
+      | false ↦ filter_reverse (aligned a) squares
+    ])
+    ∙ filter_agree (lies_between a b) (λ s. aligned a b && lies_between a b s) (ends_aligned a b) ordered
+    ∙ elim (aligned a b) as (λ t. filter (λ s. t && lies_between a b s) ordered ≡ cond t (filter (lies_between a b) ordered) []) [
+      | true ↦ refl
+      | false ↦ filter_nothing ordered
+    ]
+
+between_table : map (λ a. map (among (near a) a) squares) squares
+    ≡ map (λ a. map (λ b. steps_between a (direction_to a b) (distance a b)) squares) squares
+unfolding squares near among direction_to
+between_table = refl
+
+pub between_by_steps : (a b : ℕ) → a < 64 → b < 64 → steps_between a (direction_to a b) (distance a b) ≡ between_squares a b
+between_by_steps a b h k =
+    sym (between_among a b
+    ∙ at_squares (λ p. among (near p) p) (λ p q. steps_between p (direction_to p q) (distance p q)) between_table a b h k)
 
 same_both_ways : (m n k : ℕ) → (m == n && n == k) ≡ (k == n && n == m)
 same_both_ways m n k = grind (arith, nat_tests)

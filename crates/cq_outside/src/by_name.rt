@@ -1,5 +1,5 @@
 //! What has a name, as a list of names in no order. Contracts see the finite map that it is.
-ghost use Rattle.std.specs.Prelude.{◌≡◌, ◌≢◌, ◌<◌, List, ℕ, length, take, slice_index_or, All, IfNone, IfSome, OnOk, OnErr};
+ghost use Rattle.std.specs.Prelude.{◌≡◌, ◌≢◌, ◌<◌, ◌++◌, ◌∷◌, [], List, ℕ, length, take, slice_index_or, All, IfNone, IfSome, OnOk, OnErr};
 ghost use Rattle.std.specs.Ordering.{nat_cmp};
 ghost use Rattle.std.specs.Cmp.Lexicographic.{slice_cmp};
 ghost use Rattle.std.specs.FinMap as map;
@@ -39,5 +39,14 @@ pub(crate) fn put<X: Drop>(
         Some(place) => entries[place] = entry,
         None => entries.push(entry)?,
     }
+    Ok(())
+}
+
+// Adds a copy of a name at the end.
+pub(crate) fn push_name(alloc: Global, names: &mut Vec<Bytes>, name: &[u8]) -> Result<(), NoMemory>
+    ensures ok { OnOk result (names.new.items ≡ names.old.items ++ name.now ∷ []) }
+    ensures err { OnErr result (names.new.items ≡ names.old.items) }
+{
+    names.push(Bytes::from_slice(alloc, name)?)?;
     Ok(())
 }

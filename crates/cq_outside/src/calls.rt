@@ -1,6 +1,6 @@
 //! Numbers of calls, by which a form in memory is told which of them fail.
-ghost use Rattle.std.specs.Prelude.{◌≡◌, ◌↔◌, List, [], ℕ, Contains, IfOk, IsTrue};
-ghost use Rattle.cq_outside.specs.Calls.{is_listed};
+ghost use Rattle.std.specs.Prelude.{◌≡◌, ◌↔◌, List, [], ℕ, Contains, IfOk, IsTrue, if◌then◌else◌};
+ghost use Rattle.cq_outside.specs.Calls.{is_listed, one_more};
 
 use crate::faults::NoMemory;
 use std::alloc::Global;
@@ -51,4 +51,19 @@ impl Calls {
     {
         self.numbers.contains(&number)
     }
+}
+
+// Counts a call, and answers whether it is among those that fail; where it is, one fault more is counted too.
+pub(crate) fn fails_next(fails: &Calls, calls: &mut u64, faults: &mut u64) -> bool
+    ensures value { result ≡ is_listed fails.now (one_more calls.old) }
+    ensures found { IsTrue result ↔ Contains fails.now (one_more calls.old) }
+    ensures counted { calls.new ≡ one_more calls.old }
+    ensures failed { faults.new ≡ (if result then one_more faults.old else faults.old) }
+{
+    *calls = calls.saturating_add(1);
+    let has_failed = fails.has(*calls);
+    if has_failed {
+        *faults = faults.saturating_add(1);
+    }
+    has_failed
 }

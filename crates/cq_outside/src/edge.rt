@@ -1,6 +1,6 @@
 //! The trusted edge: a desk over the real files, and a sink over a real stream. They tell their bytes as far as the
 //! readers and the writer that they stand on tell theirs. Each call answers what one call of the system gave.
-ghost use Rattle.std.specs.Prelude.{◌≡◌, ◌≤◌, ◌<◌, None, length, codes, IfOk, IfSome, IsOk, IsNone, OnOk, OnErr, IsUtf8};
+ghost use Rattle.std.specs.Prelude.{◌≡◌, ◌≤◌, ◌<◌, ◌↔◌, None, length, codes, IsTrue, IfOk, IfSome, IsOk, IsNone, OnOk, OnErr, IsUtf8};
 ghost use Rattle.std.specs.Io.KnownBytes.{ReadConsumes, WriteAppends};
 ghost use Rattle.cq_outside.specs.Edge.{left_of, open_stream, with_stream, IsAskedOnce, IsOneMore, IsOpened, IsReadOf, IsOpenedBy, IsWriteOf, ReadsOn};
 ghost use Rattle.cq_outside.specs.Faults.{HasCause, counted};
@@ -24,6 +24,15 @@ enum Current<F> {
     Nothing,
     Input,
     File(F),
+}
+
+impl<F: Drop> Current<F> {
+    // Reads this from now on.
+    fn set(&mut self, next: Current<F>)
+        ensures { self.new ≡ next }
+    {
+        *self = next;
+    }
 }
 
 /// A desk over the real files, which opens the name `-` as standard input. A name that is not UTF-8 has no
@@ -137,12 +146,12 @@ impl<R: Folder, I: Reader> Desk for FileDesk<R, I> {
         ensures kept { OnErr result (self.new.current ≡ self.old.current) }
         ensures gave { IsOpenedBy R.opened R.refused name.now self.new result }
     {
-        if name == STANDARD_INPUT {
-            self.current = Current::Input;
+        if is_standard_input(name) {
+            self.current.set(Current::Input);
             return Ok(());
         }
         if let Some(file) = file_named(&mut self.files, name) {
-            self.current = Current::File(file);
+            self.current.set(Current::File(file));
             return Ok(());
         }
         self.open_faults = self.open_faults.saturating_add(1);
@@ -155,6 +164,13 @@ impl<R: Folder, I: Reader> Desk for FileDesk<R, I> {
     ghost keeps_told = { λ s t f. refl };
 
     ghost keeps_open_faults = { same_open_faults };
+}
+
+// Whether a name stands for standard input.
+fn is_standard_input(name: &[u8]) -> bool
+    ensures { IsTrue result ↔ (name.now ≡ codes "-") }
+{
+    name == STANDARD_INPUT
 }
 
 // The file of this name, opened for reading. A name that is not UTF-8 has none.

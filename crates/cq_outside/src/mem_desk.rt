@@ -9,7 +9,7 @@ ghost use Rattle.cq_outside.specs.MemSource.{after_read, answer_of};
 ghost use Rattle.cq_outside.specs.MemDesk.{FailingDesk, ReadsOn, files_of, told_of, fails_next, just_opened, after_open};
 ghost use Rattle.cq_outside.specs.declared.faults.OpenFault.TheVariants.{Failed as failed, NoMemory as no_memory};
 
-use crate::by_name::{place_of, put};
+use crate::by_name::{place_of, push_name, put};
 use crate::bytes::Bytes;
 use crate::calls::Calls;
 use crate::desk::Desk;
@@ -41,6 +41,18 @@ impl Model for StoredFile {
 }
 
 impl StoredFile {
+    // A file of copies of these bytes and these numbers.
+    fn new(alloc: Global, bytes: &[u8], piece: usize, fails: &[u64]) -> Result<StoredFile, NoMemory>
+        requires { 1 ≤ piece }
+        ensures { IfOk result (λ file. file ≡ record { bytes = bytes.now; piece = piece; fails = fails.now }) }
+    {
+        Ok(StoredFile {
+            bytes: Bytes::from_slice(alloc, bytes)?,
+            piece,
+            fails: Calls::of(alloc, fails)?,
+        })
+    }
+
     // The file once it was opened, at a desk so many of whose reads have failed.
     fn opened(&self, alloc: Global, faults: u64) -> Result<MemSource, NoMemory>
         ensures { IfOk result (λ source. source ≡ just_opened faults self.now) }
@@ -127,11 +139,7 @@ impl MemDesk {
         }) }
         ensures err { OnErr result (self.new ≡ self.old) }
     {
-        let file = StoredFile {
-            bytes: Bytes::from_slice(self.alloc, bytes)?,
-            piece,
-            fails: Calls::of(self.alloc, fails)?,
-        };
+        let file = StoredFile::new(self.alloc, bytes, piece, fails)?;
         put(self.alloc, &mut self.files, name, file)
     }
 }
@@ -211,7 +219,7 @@ impl Desk for MemDesk {
             return Err(OpenFault::Failed);
         };
         let source = file.opened(alloc, self.current.faults())?;
-        self.opened.push(Bytes::from_slice(alloc, name)?)?;
+        push_name(alloc, &mut self.opened, name)?;
         self.current = source;
         Ok(())
     }

@@ -6,7 +6,7 @@ ghost use Rattle.cq_outside.specs.Flow.{WriteTakes};
 ghost use Rattle.cq_outside.specs.Calls.{one_more};
 ghost use Rattle.cq_outside.specs.MemSink.{after_write, answer_of};
 
-use crate::calls::Calls;
+use crate::calls::{Calls, fails_next};
 use crate::faults::{Failed, NoMemory};
 use crate::sink::Sink;
 use crate::sure_sink::SureSink;
@@ -89,9 +89,7 @@ impl Sink for MemSink {
         ensures bytes { WriteTakes self.old.taken self.new.taken result bytes.now }
         ensures cause { HasCause self.old.faults self.new.faults result }
     {
-        self.writes = self.writes.saturating_add(1);
-        if self.fails.has(self.writes) {
-            self.faults = self.faults.saturating_add(1);
+        if fails_next(&self.fails, &mut self.writes, &mut self.faults) {
             return Err(Failed);
         }
         let most = self.piece.min(bytes.len());

@@ -6,7 +6,7 @@ ghost use Rattle.cq_outside.specs.Calls.{one_more};
 ghost use Rattle.cq_outside.specs.MemSource.{Follows, after_read, answer_of};
 
 use crate::bytes::Bytes;
-use crate::calls::Calls;
+use crate::calls::{Calls, fails_next};
 use crate::faults::{Failed, NoMemory};
 use crate::source::Source;
 use crate::sure_source::SureSource;
@@ -108,9 +108,7 @@ impl Source for MemSource {
         ensures cause { HasCause self.old.faults self.new.faults result }
         ensures next { Follows self.old self.new }
     {
-        self.reads = self.reads.saturating_add(1);
-        if self.fails.has(self.reads) {
-            self.faults = self.faults.saturating_add(1);
+        if fails_next(&self.fails, &mut self.reads, &mut self.faults) {
             return Err(Failed);
         }
         let most = self.piece.min(buf.len());

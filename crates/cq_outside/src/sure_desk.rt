@@ -5,7 +5,7 @@ ghost use Rattle.std.specs.FinMap as map;
 ghost use Rattle.cq_outside.specs.Faults.{HasCause};
 ghost use Rattle.cq_outside.specs.Told.{KnownDesk, told_of, bytes_of};
 
-use crate::by_name::{place_of, put};
+use crate::by_name::{place_of, push_name, put};
 use crate::bytes::Bytes;
 use crate::desk::Desk;
 use crate::faults::{Failed, NoMemory, OpenFault};
@@ -103,7 +103,7 @@ impl Desk for SureDesk {
 
     fn open(&mut self, alloc: Global, name: &[u8]) -> Result<(), OpenFault> {
         let bytes = copy_of(alloc, self.files.as_slice(), name)?;
-        self.opened.push(Bytes::from_slice(alloc, name)?)?;
+        push_name(alloc, &mut self.opened, name)?;
         self.current = SureSource::new(bytes);
         Ok(())
     }

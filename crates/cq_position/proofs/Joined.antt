@@ -1,5 +1,5 @@
 -- Texts joined by a byte come apart again.
-use Rattle.std.proofs.Common.{◌≡◌, ℕ, Bool, true, false, not, ◌&&◌, eqb, ◌≤◌, length, List, [], ◌∷◌, ◌++◌, refl, sym, ap, ◌∙◌, arith}
+use Rattle.std.proofs.Common.{◌≡◌, ℕ, Bool, true, false, not, ◌&&◌, eqb, ◌≤◌, length, List, [], ◌∷◌, ◌++◌, refl, sym, ap, ◌∙◌, append_assoc, arith}
 use Rattle.std.specs.List.{list_all, filter, join_with_byte}
 use Rattle.std.proofs.lemmas.List.Folds.{list_all-append}
 use Rattle.std.proofs.lemmas.List.Splits.{slice_split_none, slice_split_at}
@@ -64,3 +64,7 @@ is_not_empty-append (x ∷ xs) y ys = refl
 pub some_letters : (t : Bool) (text : List ℕ) → 1 ≤ length text → (is_not_empty text && t) ≡ t
 some_letters t [] some = absurd (omega arith)
 some_letters t (x ∷ xs) some = refl
+
+-- four texts that were written one after another
+pub in_a_row : (s a b c d : List ℕ) → (((s ++ a) ++ b) ++ c) ++ d ≡ s ++ (a ++ (b ++ (c ++ d)))
+in_a_row s a b c d = simp append_assoc

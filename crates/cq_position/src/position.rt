@@ -155,12 +155,7 @@ impl Position {
         ensures right { result ≡ castling_right self.now.rights side kingside }
         ensures kept { IsPosition self.now }
     {
-        match (side, kingside) {
-            (Side::White, true) => self.rights.white_kingside,
-            (Side::White, false) => self.rights.white_queenside,
-            (Side::Black, true) => self.rights.black_kingside,
-            (Side::Black, false) => self.rights.black_queenside,
-        }
+        right_of(self.rights, side, kingside)
     }
 
     /// The rights to castle.
@@ -177,6 +172,19 @@ impl Position {
         ensures kept { IsPosition self.now }
     {
         self.number
+    }
+}
+
+// Whether a side has kept its right to castle on the king's side, or on the queen's side.
+#[inline]
+fn right_of(rights: Rights, side: Side, kingside: bool) -> bool
+    ensures { result ≡ castling_right rights side kingside }
+{
+    match (side, kingside) {
+        (Side::White, true) => rights.white_kingside,
+        (Side::White, false) => rights.white_queenside,
+        (Side::Black, true) => rights.black_kingside,
+        (Side::Black, false) => rights.black_queenside,
     }
 }
 

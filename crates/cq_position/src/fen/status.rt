@@ -1,11 +1,12 @@
 //! The fields of a FEN text after its men.
-ghost use Rattle.std.specs.Prelude.{◌≡◌, ◌-◌, ◌&&◌, true};
+ghost use Rattle.std.specs.Prelude.{◌≡◌, ◌<◌, ◌-◌, ◌&&◌, true};
 ghost use Rattle.std.specs.List.{list_all};
 ghost use Rattle.cq_position.specs.Fen.{is_side, side_named, is_number, value_of_digits};
 ghost use Rattle.cq_position.specs.Fen as fen;
 ghost use Rattle.cq_position.specs.FenBytes.{digit_zero};
 ghost use Rattle.cq_position.specs.Board as board;
 ghost use Rattle.cq_position.specs.Reading.{SomeIfTrue};
+ghost use Rattle.cq_position.specs.declared.men.Man.TheVariants.{Empty};
 
 use crate::fen::bytes::{DASH, right_letter, side_letter};
 use crate::home::{king_home, rook_home};
@@ -96,7 +97,15 @@ fn are_home(men: &[Man; 64], side: Side, kingside: bool) -> bool
 fn holds(men: &[Man; 64], square: Square, man: Man) -> bool
     ensures { result ≡ board.stands men.now square man }
 {
-    men[usize::from(square.number())] == man
+    stands_at(men, usize::from(square.number()), man)
+}
+
+// The same of a square's number.
+fn stands_at(men: &[Man; 64], at: usize, man: Man) -> bool
+    requires { at < 64 }
+    ensures { result ≡ board.stands men.now at man }
+{
+    men[at] == man
 }
 
 fn is_byte_alone(text: &[u8], byte: u8) -> bool
@@ -147,19 +156,22 @@ fn was_passed(men: &[Man; 64], side: Side, square: Square) -> bool
 {
     let at = usize::from(square.number());
     match side {
-        Side::White => {
-            rank(square) == 5
-                && men[at] == Man::Empty
-                && men[at - 8] == Man::BlackP
-                && men[at + 8] == Man::Empty
-        }
-        Side::Black => {
-            rank(square) == 2
-                && men[at] == Man::Empty
-                && men[at + 8] == Man::P
-                && men[at - 8] == Man::Empty
-        }
+        Side::White => rank(square) == 5 && has_passed(men, Man::BlackP, at - 8, at, at + 8),
+        Side::Black => rank(square) == 2 && has_passed(men, Man::P, at + 8, at, at - 8),
     }
+}
+
+// Whether a pawn stands on one square, and nothing on the two behind it.
+fn has_passed(men: &[Man; 64], pawn: Man, at: usize, passed: usize, home: usize) -> bool
+    requires at { at < 64 }
+    requires passed { passed < 64 }
+    requires home { home < 64 }
+    ensures { result
+        ≡ (board.stands men.now passed Empty && board.stands men.now at pawn && board.stands men.now home Empty) }
+{
+    stands_at(men, passed, Man::Empty)
+        && stands_at(men, at, pawn)
+        && stands_at(men, home, Man::Empty)
 }
 
 /// The number that 1 to 9 digits write, from 0 to 999,999,999 (PGN standard, sections 16.1.3.5 and 16.1.3.6); None for any other text.

@@ -1,8 +1,9 @@
 //! Writing the FEN text of a position.
-ghost use Rattle.std.specs.Prelude.{◌≡◌, ◌++◌, ◌∷◌, [], ◌≤◌, IfOk, OnOk, length, if◌then◌else◌};
+ghost use Rattle.std.specs.Prelude.{◌≡◌, ◌++◌, ◌∷◌, [], ◌≤◌, IfOk, OnOk, decimal, drop, length, if◌then◌else◌};
+ghost use Rattle.std.specs.List.{join_with_byte};
 ghost use Rattle.cq_position.specs.Men.{letter_of_man};
 ghost use Rattle.cq_position.specs.Fen.{fen_meaning};
-ghost use Rattle.cq_position.specs.FenBytes.{slash};
+ghost use Rattle.cq_position.specs.FenBytes.{digit_zero, slash, space};
 ghost use Rattle.cq_position.specs.FenText as fen_text;
 ghost use Rattle.cq_position.specs.Position.{IsPosition};
 
@@ -30,13 +31,32 @@ fn written(alloc: Global, position: &Position) -> Result<Bytes, NoMemory>
 {
     let mut text = Bytes::new(alloc);
     push_placement(&mut text, &position.men().listed())?;
+    push_side_and_rights(&mut text, position)?;
+    push_passant_and_numbers(&mut text, position)?;
+    Ok(text)
+}
+
+// The side to move and the rights, each after a space.
+fn push_side_and_rights(text: &mut Bytes, position: &Position) -> Result<(), NoMemory>
+    ensures { OnOk result (text.new
+        ≡ text.old ++ (space ∷ fen_text.side_text position.now.side ++ space ∷ fen_text.castling_text position.now.rights)) }
+{
     text.push_all(&[SPACE, side_letter(position.side()), SPACE])?;
-    push_rights(&mut text, position.rights())?;
-    push_byte(&mut text, SPACE)?;
-    push_passant(&mut text, position.passant())?;
+    push_rights(text, position.rights())?;
+    Ok(())
+}
+
+// The en passant square, the halfmove clock and the number of the move, each after a space.
+fn push_passant_and_numbers(text: &mut Bytes, position: &Position) -> Result<(), NoMemory>
+    ensures { OnOk result (text.new
+        ≡ text.old ++ (space ∷ fen_text.passant_text position.now.passant
+        ++ space ∷ digit_zero ∷ space ∷ decimal position.now.number)) }
+{
+    push_byte(text, SPACE)?;
+    push_passant(text, position.passant())?;
     text.push_all(&[SPACE, b'0', SPACE])?;
     text.push_number(i64::from(position.number()))?;
-    Ok(text)
+    Ok(())
 }
 
 // Writes a slash and a rank for each range of squares.
@@ -51,7 +71,16 @@ fn push_placement(text: &mut Bytes, men: &[Man; 64]) -> Result<(), NoMemory>
     ensures { OnOk result (text.new ≡ text.old ++ fen_text.placement_text men.now) }
 {
     push_rank(text, &men[56..64])?;
-    push_ranks!(text, men; 48..56, 40..48, 32..40, 24..32, 16..24, 8..16, 0..8);
+    push_ranks!(text, men; 48..56, 40..48, 32..40);
+    push_lower_half(text, men)?;
+    Ok(())
+}
+
+// The ranks from the fourth down, each after a slash.
+fn push_lower_half(text: &mut Bytes, men: &[Man; 64]) -> Result<(), NoMemory>
+    ensures { OnOk result (text.new ≡ text.old ++ slash ∷ join_with_byte slash (drop 4 (fen_text.rank_texts men.now))) }
+{
+    push_ranks!(text, men; 24..32, 16..24, 8..16, 0..8);
     Ok(())
 }
 

@@ -15,5 +15,5 @@ returns-clause-opened c =
       opens = c.self.inside.opens;
       open_faults = c.self.inside.open_faults;
     } in
-    opened_tells c.args.self.now inside c.push.new.self.items c.args.name.now c.in-Some.file.now c.in_ok-source.source c.self.view_is (search rules)
+    opened_tells c.args.self.now inside c.push_name.new.names.items c.args.name.now c.in-Some.file.now c.in_ok-source.source c.self.view_is (search rules)
     (search rules) (ap (λ (s : FailingSource). s.left) c.in_ok-source.ensures)
