@@ -6,6 +6,7 @@ mod NumberRows
 mod PositionRows
 mod LineRows
 mod LongestPaths
+mod Images
 mod FamilyRows
 mod FaultRows
 mod HitRows

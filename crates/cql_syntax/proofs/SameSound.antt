@@ -1,7 +1,7 @@
 -- Two filters that the test takes for the same are, and each is the same as itself.
 use Rattle.std.proofs.Common.{◌≡◌, ℕ, true, List, refl, sym, ap, ap₂, ◌∙◌}
 use Rattle.std.specs.Str.{bytes_eq}
-use Rattle.std.proofs.lemmas.Bool.{eqb-true}
+use Rattle.std.proofs.lemmas.Bool.{eqb-true, true≢false}
 use Rattle.std.proofs.lemmas.Slice.Eq.{bytes_eq-Decides}
 use Rattle.cql_syntax.specs.Leaves.{plain_number, of_number, outcome_number, unary_number, way_number, chain_number, pair_number, family_number, kind_number}
 use Rattle.cql_syntax.specs.Same.{same_filter, same_form, same_filters, same_terms, same_line, same_played, same_written, same_parts, same_body}
@@ -49,18 +49,18 @@ mutual
       let p = flags least lowest (left _ _ (left _ _ e)) in let q = texts a b (right _ _ (left _ _ e)) in let r = filter_is f g (right _ _ e) in cc
   form_is (comment a) (comment b) e = ap comment (texts a b e)
   form_is (any k fs) (any l gs) e = ap₂ any (kinds k l (left _ _ e)) (filters_are fs gs (right _ _ e))
-  form_is _ _ e = cc
+  form_is _ _ e = absurd (true≢false (sym e))
 
   filters_are : (fs gs : FilterTrees) → same_filters fs gs ≡ true → fs ≡ gs
   filters_are no_filters no_filters e = refl
   filters_are (more_filters f fs) (more_filters g gs) e = ap₂ more_filters (filter_is f g (left _ _ e)) (filters_are fs gs (right _ _ e))
-  filters_are _ _ e = cc
+  filters_are _ _ e = absurd (true≢false (sym e))
 
   terms_are : (ts us : TermTrees) → same_terms ts us ≡ true → ts ≡ us
   terms_are no_terms no_terms e = refl
   terms_are (more_terms minus f ts) (more_terms less g us) e =
       let p = flags minus less (left _ _ (left _ _ e)) in let q = filter_is f g (right _ _ (left _ _ e)) in let r = terms_are ts us (right _ _ e) in cc
-  terms_are _ _ e = cc
+  terms_are _ _ e = absurd (true≢false (sym e))
 
   line_is : (l m : LineTree) → same_line l m ≡ true → l ≡ m
   line_is (path back primary extent cs) (path up first lengths ds) e =
@@ -75,18 +75,18 @@ mutual
   written_is : (a b : WrittenTree) → same_written a b ≡ true → a ≡ b
   written_is left_out left_out e = refl
   written_is (written f) (written g) e = ap written (filter_is f g e)
-  written_is _ _ e = cc
+  written_is _ _ e = absurd (true≢false (sym e))
 
   parts_are : (cs ds : PartTrees) → same_parts cs ds ≡ true → cs ≡ ds
   parts_are no_parts no_parts e = refl
   parts_are (more_parts a m cs) (more_parts b n ds) e =
       let p = body_is a b (left _ _ (left _ _ e)) in let q = marks m n (right _ _ (left _ _ e)) in let r = parts_are cs ds (right _ _ e) in cc
-  parts_are _ _ e = cc
+  parts_are _ _ e = absurd (true≢false (sym e))
 
   body_is : (a b : BodyTree) → same_body a b ≡ true → a ≡ b
   body_is (atom f) (atom g) e = ap atom (filter_is f g e)
   body_is (group cs) (group ds) e = ap group (parts_are cs ds e)
-  body_is _ _ e = cc
+  body_is _ _ e = absurd (true≢false (sym e))
 
 mutual
   unfolding same_filter
