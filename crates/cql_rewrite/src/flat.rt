@@ -1,5 +1,5 @@
 //! The flat form of a query.
-ghost use Rattle.std.specs.Prelude.{◌≡◌, [], map, option_map, IfOk, OnOk};
+ghost use Rattle.std.specs.Prelude.{◌≡◌, [], map, option_map, Some, IfOk, OnOk};
 ghost use Rattle.cq_symmetry.specs.Families.{members};
 ghost use Rattle.cql_syntax.specs.Flat as spec;
 ghost use Rattle.cql_syntax.specs.Meaning.{fitting};
@@ -173,9 +173,16 @@ fn flat_member(
 fn keep_new(kept: &mut Filters, found: Option<Filter>) -> Result<(), NoMemory>
     ensures { OnOk result (filters_tree kept.new ≡ with_new (filters_tree kept.old) (option_map filter_tree found)) }
 {
-    let Some(filter) = found else {
-        return Ok(());
-    };
+    match found {
+        Some(filter) => keep_filter(kept, filter),
+        None => Ok(()),
+    }
+}
+
+// Adds a filter, where it isn't there yet.
+fn keep_filter(kept: &mut Filters, filter: Filter) -> Result<(), NoMemory>
+    ensures { OnOk result (filters_tree kept.new ≡ with_new (filters_tree kept.old) (Some (filter_tree filter))) }
+{
     if is_known(kept, &filter) {
         return Ok(());
     }

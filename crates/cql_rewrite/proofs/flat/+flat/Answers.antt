@@ -1,4 +1,5 @@
-use Rattle.std.proofs.Common.{◌≡◌, ◌∙◌, sym, take, ap, ap₂, length, ◌≤◌, arith}
+use Rattle.std.proofs.Common.{◌≡◌, ◌∙◌, sym, take, ap, ap₂, length, ◌≤◌, arith, rules}
+use Rattle.std.proofs.lemmas.Grind.{common_steps}
 use Rattle.std.proofs.lemmas.List.{take_all}
 use Rattle.cq_symmetry.specs.Families.{members}
 use Rattle.cql_syntax.specs.Flat as spec
@@ -49,3 +50,39 @@ flat_form-returns-in_ok-members-in-Transform t c =
     ap form_tree c.in-Transform.is ∙ ap (λ p. transform c.in-Transform.family (filter_tree p)) (sym c.deref-in-Transform.ensures) in
     ap₂ any (c.kind_of.ensures ∙ ap (λ p. filter_kind (filter_tree p)) same) c.in_ok-members-in-Transform.ensures
     ∙ family_flat c.args.context.now c.in-Transform.family (filter_tree part) (form_tree c.args.f.now) is
+
+pub flat_all-loop-filter-init : goal.flat_all-loop-filter-init
+unfolding spec.flat
+flat_all-loop-filter-init t c = search rules
+
+pub flat_terms-loop-term-init : goal.flat_terms-loop-term-init
+unfolding spec.flat
+flat_terms-loop-term-init t c = search rules
+
+pub flat_parts-loop-part-init : goal.flat_parts-loop-part-init
+unfolding spec.flat
+flat_parts-loop-part-init t c = search rules
+
+pub flat_all-returns : goal.flat_all-returns
+unfolding spec.flat
+flat_all-returns t c = grind (arith, common_steps)
+
+pub flat_terms-returns : goal.flat_terms-returns
+unfolding spec.flat
+flat_terms-returns t c = grind (arith, common_steps)
+
+pub flat_parts-returns : goal.flat_parts-returns
+unfolding spec.flat
+flat_parts-returns t c = grind (arith, common_steps)
+
+pub flat_member-returns : goal.flat_member-returns
+flat_member-returns t c = search rules
+
+pub flat_member-returns-then-not-branch : goal.flat_member-returns-then-not-branch
+flat_member-returns-then-not-branch t c = search rules
+
+pub flat_box-returns : goal.flat_box-returns
+flat_box-returns t c = search rules
+
+pub flat_members-loop-k-init : goal.flat_members-loop-k-init
+flat_members-loop-k-init t c = search rules
