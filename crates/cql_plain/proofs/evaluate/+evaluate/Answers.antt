@@ -108,6 +108,21 @@ lines::repeat-loop-times-init t c =
     turns_begun c.args.steps.now (meaning.body_pattern (tree_in c.args.scope.now) c.args.scope.now.context.now c.args.scope.now.names.now (body_tree c.args.body.now)) c.args.least c.args.starts.now
     c.in_ok-here.here.items c.in_ok-ends.ends.items c.in_ok-here.ensures c.in_ok-ends.ensures
 
+pub lines::repeat-body_ends-requires : goal.lines::repeat-body_ends-requires
+lines::repeat-body_ends-requires t c = (
+  search rules,
+  (
+    c.requires.tree,
+    (
+      c.requires.nodes,
+      (
+        c.requires.steps,
+        ap length c.deref-in-loop-times.ensures.value ∙ c.loop-times.invariant.here_count ∙ c.requires.starts,
+      ),
+    ),
+  ),
+)
+
 pub lines::repeat-loop-times-preserved : goal.lines::repeat-loop-times-preserved
 lines::repeat-loop-times-preserved t c =
     turns_next c.args.steps.now (meaning.body_pattern (tree_in c.args.scope.now) c.args.scope.now.context.now c.args.scope.now.names.now (body_tree c.args.body.now)) c.args.least c.args.starts.now
@@ -129,6 +144,11 @@ lines::repeat-returns-then-not-has_some t c =
     let p = meaning.body_pattern (tree_in c.args.scope.now) c.args.scope.now.context.now c.args.scope.now.names.now (body_tree c.args.body.now) in
     turns_stop c.args.steps.now p c.args.least c.args.starts.now c.loop-times.times c.args.most c.loop-times.here.items c.loop-times.ends.items
     (ap (list_any (λ x. x)) (sym c.deref.ensures.value) ∙ sym c.has_some.ensures ∙ c.if-not-has_some.true) (omega arith) c.loop-times.invariant
+
+pub lines::atom_ends-passes-requires : goal.lines::atom_ends-passes-requires
+lines::atom_ends-passes-requires t c =
+    let low : c.loop-k.k < length c.args.scope.now.game.now.nodes = omega (arith, c.loop-k-test.true, c.len-k-end.ensures.len) in
+    (search rules, (c.requires.tree, (low, (c.requires.nodes, (c.requires.steps, c.requires.starts)))))
 
 pub lines::atom_ends-loop-k-preserved : goal.lines::atom_ends-loop-k-preserved
 lines::atom_ends-loop-k-preserved t c =
