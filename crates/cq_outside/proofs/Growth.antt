@@ -27,6 +27,12 @@ consumed_on (Some os) None c xs ys f g = absurd f
 consumed_on (Some os) (Some bs) None xs ys f g = absurd g
 consumed_on (Some os) (Some bs) (Some cs) xs ys f g = f ∙ ap (λ l. xs ++ l) g ∙ sym (append_assoc xs ys cs)
 
+pub read_on : (a b c : Option (List ℕ)) (xs ys zs : List ℕ) → zs ≡ xs ++ ys → Consumes a b xs → Consumes b c ys → Consumes a c zs
+read_on a b c xs ys zs e f g = subst (Consumes a c) (sym e) (consumed_on a b c xs ys f g)
+
+pub joined_length : (xs ys zs : List ℕ) → zs ≡ xs ++ ys → length zs ≡ length xs + length ys
+joined_length xs ys zs e = ap length e ∙ length-append xs ys
+
 -- what a read that was refused has taken, after what was read before it
 pub took_more : {F : Type 0} (a b c : Option (List ℕ)) (read : List ℕ) (refusal : Refusal F) (limit room : ℕ) → Consumes a b read → length read ≤ limit → room ≤ (limit + 1) - length read
     → TakesAtMost (most_taken refusal 0 room) b c → TakesAtMost (most_taken refusal limit (limit + 1)) a c

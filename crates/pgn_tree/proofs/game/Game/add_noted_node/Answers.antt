@@ -1,7 +1,10 @@
-use Rattle.std.proofs.Common.{◌++◌, ◌∷◌, [], Some, refl, sym, ap, ◌∙◌, subst, List, arith}
+use Rattle.std.proofs.Common.{◌≡◌, ◌++◌, ◌∷◌, [], Some, Ok, Err, refl, sym, ap, ◌∙◌, subst, List, length, length-append, arith}
+use Rattle.std.specs.Prelude.{Result, OnErr}
 use Rattle.cq_position.specs.Games.{Node, Game, HaveNotes}
+use Rattle.pgn_tree.specs.Links.{IsKept, Linked, nodes_of}
 use Rattle.pgn_tree.specs.Notes.{noted_node}
 use Rattle.pgn_tree.proofs.Linked.{grown, last_within}
+use Rattle.pgn_tree.proofs.Linking.{length_nodes_of}
 use Rattle.pgn_tree.proofs.NodeNotes.{new_notes}
 use Rattle.pgn_tree.proofs.game.Game.add_noted_node.Goals as goal
 
@@ -33,3 +36,29 @@ returns-clause-ok c =
     (record { number = c.args.parent; move = c.args.m; parent = refl; led_by = refl; within = c.requires.node; leads = c.requires.leads; preorder = c.requires.preorder })
     refl c.index.ensures c.begins_main_line-main.ensures c.self.invariant.linked).nodes_are
     ∙ ap {A = Game} {B = Game} (λ g. record g { nodes = c.args.self.now.nodes ++ noted_node (Some c.args.parent) (Some c.args.m) c.args.p c.args.notes ∷ [] }) c.self.view_is
+
+pub returns-clause-number : goal.returns-clause-number
+returns-clause-number c =
+    let number : c.len-number.result ≡ length c.self.inside.nodes.items = omega (arith, c.len-number.ensures) in
+    number ∙ sym (length_nodes_of c.self.inside.nodes.items) ∙ ap (λ g. length g.nodes) c.self.view_is
+
+pub link-requires-clause-parent : goal.link-requires-clause-parent
+link-requires-clause-parent c =
+    let items = c.self.inside.nodes.items in
+    let longer = ap length c.in_ok-push.ensures.items ∙ length-append items (c.new.result ∷ []) in
+    omega (arith, c.requires.node, length_nodes_of items, ap (λ g. length g.nodes) c.self.view_is, longer)
+
+-- where there was no memory, nothing has changed
+pub invariant_of-self : goal.invariant_of-self
+invariant_of-self c = subst IsKept (sym c.in_err-push.ensures.items) c.self.invariant
+
+in_any_case : {T E : Type 0} (r : Result T E) (P : Type 0) → P → OnErr r P
+in_any_case (Ok x) P p = tt
+in_any_case (Err e) P p = p
+
+pub returns-in_err-push-clause-err : goal.returns-in_err-push-clause-err
+returns-in_err-push-clause-err c =
+    in_any_case c.from_residual.result _
+    (ap {A = List Linked} {B = Game} (λ items. record { tags = c.self.inside.tags; result = c.self.inside.result; nodes = nodes_of items })
+    c.in_err-push.ensures.items
+    ∙ c.self.view_is)
