@@ -22,7 +22,7 @@ use Rattle.cql_values.specs.Shown.{meant}
 use Rattle.cql_here.specs.Moves.{AreEnds, IsSought}
 use Rattle.cql_here.specs.Places.{tree_of, value_at, values_at, holds_at}
 use Rattle.cql_here.proofs.Children.{child_found, child_passed}
-use Rattle.cql_here.proofs.Cutting.{goal_of, not_led, promoted_of, standing_is, taken_of}
+use Rattle.cql_here.proofs.Cutting.{goal_of, not_led, promoted_of, taken_of}
 use Rattle.cql_here.proofs.Loops.{all_values, any_values, all_stop, all_end, any_stop, any_end, settled_first, none_settles, settling, not_settling, by_found, rebound_again, rebound_outer, rebound_some, rebound_length, square_value, union_whole, common_whole}
 use Rattle.cql_here.proofs.Meeting.{no_move, origin_fails, goal_fails, no_more_asked, taken_fails, promoted_decides}
 use Rattle.cql_here.proofs.Seeking.{not_held}
@@ -156,11 +156,6 @@ common_of-returns-clause-value t c =
     common_whole (tree_of c.args.place.now) c.args.names.now c.args.place.now.node c.as_slice-part-items.result.now (filters_tree c.args.parts.now) c.loop-part.part-index c.loop-part.mask
     (omega arith) c.loop-part-test.false c.as_slice-part-items.ensures.tree c.loop-part.invariant.mask
 
-pub evaluate-returns-in-Squares-clause-value : goal.evaluate-returns-in-Squares-clause-value
-evaluate-returns-in-Squares-clause-value t c =
-    standing_is (tree_of c.args.place.now) c.args.names.now c.args.place.now.node c.args.f.now c.in-Squares.d c.standing_on.result
-    c.in-Squares.is (omega arith) (rw c.position.ensures at c.standing_on.ensures)
-
 pub evaluate-returns-in_ok-holds-in-Square-clause-value : goal.evaluate-returns-in_ok-holds-in-Square-clause-value
 evaluate-returns-in_ok-holds-in-Square-clause-value t c =
     let place = c.args.place.now in
@@ -170,7 +165,7 @@ evaluate-returns-in_ok-holds-in-Square-clause-value t c =
     let b = filter_tree c.deref-in-Square-2.result.now in
     let v : as_truth c.in_ok-holds-in-Square.holds ≡ square_of c.in-Square.every (as_squares (is_in c.squares.result)) (holds_at place c.in-Square.name e b)
     = c.in_ok-holds-in-Square.ensures.value ∙ ap₂ (λ text names. square_of c.in-Square.every (as_squares (is_in c.squares.result)) (holds_at place text names b))
-    c.as_slice-in-Square.ensures c.evaluate-in-Square.ensures.names in
+    c.as_slice.ensures c.evaluate-in-Square.ensures.names in
     let whole = ap (λ form. filter_at f.at (form_tree form)) c.in-Square.is
     ∙ sym (ap₂ (λ p q. filter_at f.at (square c.in-Square.every c.in-Square.name (filter_tree p) (filter_tree q))) c.deref-in-Square.ensures c.deref-in-Square-2.ensures) in
     v ∙ square_value (tree_of place) e place.node f.at c.in-Square.every c.in-Square.name a b c.squares.result (meant c.in_ok-squares-in-Square.squares)
