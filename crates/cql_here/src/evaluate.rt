@@ -18,7 +18,7 @@ ghost use Rattle.cql_values.specs.Shown.{meant};
 
 use crate::ends::ends_of;
 use crate::halt::{Elsewhere, Halt};
-use crate::leaves::word_here;
+use crate::leaves::leaf_here;
 use crate::place::Place;
 use crate::sought::{Sought, may_hold, moves_sought};
 use crate::worth::tried;
@@ -27,34 +27,22 @@ use cq_sets::lowest_square;
 use cql_played::Led;
 use cql_syntax::{Chain, Filter, Filters, Form, Kind, Played, Unary};
 use cql_values::combine::{if_of, pair_of, unary_here};
-use cql_values::headers::{has_text, is_result, rating};
 use cql_values::led::led_to;
 use cql_values::names::Names;
-use cql_values::numbers::counted;
 use cql_values::sets::{has_square, reached};
 use cql_values::value::Value;
 use cql_values::walks::is_searched;
-use cql_values::words::{directions, standing_on};
+use cql_values::words::directions;
 
 /// What a filter gives at a node.
 #[cycle(evaluate)]
-#[tactic(auto, unfolding(cql_syntax::specs::Meaning::value, cql_syntax::specs::Contexts::designator_image))]
+#[tactic(auto, unfolding(cql_syntax::specs::Meaning::value))]
 pub(crate) fn evaluate(f: &Filter, place: &Place, names: &mut Names) -> Result<Value, Halt>
     requires { IsAt place.now }
     ensures value { IfOk result (λ v. meant v ≡ value_at place.now names.old (filter_tree f.now) place.now.node) }
     ensures names { names.new ≡ names.old }
 {
     match &f.form {
-        Form::Squares(d) => Ok(Value::Set(standing_on(place.game.position(place.node), d))),
-        Form::Number(number) => Ok(counted(*number)),
-        Form::Name(name) => Ok(names.squares_of(name.as_slice())),
-        Form::Plain(word) => word_here(*word, place).ok_or(Halt::Fault(Elsewhere)),
-        Form::Tagged(field, text) => {
-            let there = has_text(place.game, *field, text.as_slice());
-            Ok(Value::Truth(there))
-        }
-        Form::Outcome(outcome) => Ok(Value::Truth(is_result(*outcome, place.game.result()))),
-        Form::Elo(of) => Ok(Value::Number(rating(place.game, *of))),
         Form::Unary(word, part) => unary_at(*word, part, place, names),
         Form::Steps(way, m, n, part) => {
             let value = evaluate(part, place, names)?;
@@ -92,9 +80,8 @@ pub(crate) fn evaluate(f: &Filter, place: &Place, names: &mut Names) -> Result<V
             let value = evaluate(part, place, names)?;
             Ok(Value::Truth(value.number().is_some()))
         }
-        Form::Comment(_) => Ok(Value::Truth(true)),
         Form::Any(kind, parts) => any_at(*kind, parts, place, names),
-        Form::Sum(_) | Form::Line(_) | Form::Transform(..) => Err(Halt::Fault(Elsewhere)),
+        _ => leaf_here(f, place, &*names),
     }
 }
 

@@ -49,38 +49,38 @@ impl Form {
     fn copy(&self, alloc: Global) -> Result<Form, NoMemory>
         ensures { IfOk result (λ f. form_tree f ≡ form_tree self.now) }
     {
-        Ok(match self {
-            Form::Squares(designator) => Form::Squares(*designator),
-            Form::Number(number) => Form::Number(*number),
-            Form::Name(name) => Form::Name(Bytes::from_slice(alloc, name.as_slice())?),
-            Form::Plain(word) => Form::Plain(*word),
-            Form::Tagged(field, text) => Form::Tagged(
+        match self {
+            Form::Squares(designator) => Ok(Form::Squares(*designator)),
+            Form::Number(number) => Ok(Form::Number(*number)),
+            Form::Name(name) => Ok(Form::Name(Bytes::from_slice(alloc, name.as_slice())?)),
+            Form::Plain(word) => Ok(Form::Plain(*word)),
+            Form::Tagged(field, text) => Ok(Form::Tagged(
                 *field,
                 Bytes::from_slice(alloc, text.as_slice())?,
-            ),
-            Form::Outcome(outcome) => Form::Outcome(*outcome),
-            Form::Elo(of) => Form::Elo(*of),
-            Form::Unary(unary, a) => Form::Unary(*unary, a.boxed(alloc)?),
-            Form::Steps(way, m, n, a) => Form::Steps(*way, *m, *n, a.boxed(alloc)?),
-            Form::Chain(chain, parts) => Form::Chain(*chain, parts.copy(alloc)?),
-            Form::Sum(terms) => Form::Sum(terms.copy(alloc)?),
-            Form::Pair(pair, a, b) => Form::Pair(*pair, a.boxed(alloc)?, b.boxed(alloc)?),
-            Form::If(a, b, c) => Form::If(a.boxed(alloc)?, b.boxed(alloc)?, c.boxed(alloc)?),
+            )),
+            Form::Outcome(outcome) => Ok(Form::Outcome(*outcome)),
+            Form::Elo(of) => Ok(Form::Elo(*of)),
+            Form::Unary(unary, a) => Ok(Form::Unary(*unary, a.boxed(alloc)?)),
+            Form::Steps(way, m, n, a) => Ok(Form::Steps(*way, *m, *n, a.boxed(alloc)?)),
+            Form::Chain(chain, parts) => Ok(Form::Chain(*chain, parts.copy(alloc)?)),
+            Form::Sum(terms) => Ok(Form::Sum(terms.copy(alloc)?)),
+            Form::Pair(pair, a, b) => Ok(Form::Pair(*pair, a.boxed(alloc)?, b.boxed(alloc)?)),
+            Form::If(a, b, c) => Ok(Form::If(a.boxed(alloc)?, b.boxed(alloc)?, c.boxed(alloc)?)),
             Form::Square(every, name, a, b) => {
                 let name = Bytes::from_slice(alloc, name.as_slice())?;
-                Form::Square(*every, name, a.boxed(alloc)?, b.boxed(alloc)?)
+                Ok(Form::Square(*every, name, a.boxed(alloc)?, b.boxed(alloc)?))
             }
-            Form::Line(line) => Form::Line(line.copy(alloc)?),
-            Form::Played(played) => Form::Played(played.copy(alloc)?),
-            Form::Transform(family, a) => Form::Transform(*family, a.boxed(alloc)?),
-            Form::Sort(least, name, a) => Form::Sort(
+            Form::Line(line) => Ok(Form::Line(line.copy(alloc)?)),
+            Form::Played(played) => Ok(Form::Played(played.copy(alloc)?)),
+            Form::Transform(family, a) => Ok(Form::Transform(*family, a.boxed(alloc)?)),
+            Form::Sort(least, name, a) => Ok(Form::Sort(
                 *least,
                 Bytes::from_slice(alloc, name.as_slice())?,
                 a.boxed(alloc)?,
-            ),
-            Form::Comment(text) => Form::Comment(Bytes::from_slice(alloc, text.as_slice())?),
-            Form::Any(kind, parts) => Form::Any(*kind, parts.copy(alloc)?),
-        })
+            )),
+            Form::Comment(text) => Ok(Form::Comment(Bytes::from_slice(alloc, text.as_slice())?)),
+            Form::Any(kind, parts) => Ok(Form::Any(*kind, parts.copy(alloc)?)),
+        }
     }
 }
 

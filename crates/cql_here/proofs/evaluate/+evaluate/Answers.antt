@@ -1,13 +1,14 @@
-use Rattle.std.proofs.Common.{rules, ◌≡◌, ℕ, ◌^◌, ◌<◌, ◌∷◌, Bool, true, false, ◌&&◌, ◌||◌, refl, drop, length, ap, ap₂, sym, ◌∙◌, subst, arith, Some}
-use Rattle.std.specs.Prelude.{filter, IfOk, IfSome}
+use Rattle.std.proofs.Common.{rules, ◌≡◌, ℕ, ◌^◌, ◌<◌, [], ◌∷◌, Bool, true, false, ◌&&◌, ◌||◌, refl, drop, length, ap, ap₂, sym, ◌∙◌, subst, arith, Some}
+use Rattle.std.specs.Prelude.{filter, not, IfOk, IfSome, IsNone}
 use Rattle.std.specs.List.{list_any, list_all}
 use Rattle.cq_bits.proofs.Gathering.{cleared, smaller}
 use Rattle.cq_geometry.specs.Squares.{squares}
 use Rattle.cq_position.specs.Games.{node_at, is_searched, next_sibling, way_up}
+use Rattle.cq_position.specs.Led.{led_to}
 use Rattle.cq_position.specs.Search.{children_in}
 use Rattle.cq_position.proofs.WaysUp.{way_from, way_on}
 use Rattle.cq_symmetry.specs.Images.{is_in}
-use Rattle.cql_syntax.specs.Meaning.{meets}
+use Rattle.cql_syntax.specs.Meaning.{meets, written_value}
 use Rattle.cql_syntax.specs.TreeOf.{filter_tree, filters_tree, form_tree}
 use Rattle.cql_syntax.specs.Trees.{filter_at, square}
 use Rattle.cql_syntax.specs.Values.{holds, has, as_truth, as_squares, square_of}
@@ -18,11 +19,12 @@ use Rattle.cql_values.proofs.Ways.{within_up, children_from, all_children, paren
 use Rattle.cql_values.specs.Asked.{settles, of_value}
 use Rattle.cql_values.specs.Bindings.{rebound}
 use Rattle.cql_values.specs.Shown.{meant}
-use Rattle.cql_here.specs.Moves.{IsSought}
+use Rattle.cql_here.specs.Moves.{AreEnds, IsSought}
 use Rattle.cql_here.specs.Places.{tree_of, value_at, values_at, holds_at}
 use Rattle.cql_here.proofs.Children.{child_found, child_passed}
-use Rattle.cql_here.proofs.Cutting.{standing_is}
+use Rattle.cql_here.proofs.Cutting.{goal_of, not_led, promoted_of, taken_of}
 use Rattle.cql_here.proofs.Loops.{all_values, any_values, all_stop, all_end, any_stop, any_end, settled_first, none_settles, settling, not_settling, by_found, rebound_again, rebound_outer, rebound_some, rebound_length, square_value, union_whole, common_whole}
+use Rattle.cql_here.proofs.Meeting.{no_move, origin_fails, goal_fails, no_more_asked, taken_fails, promoted_decides}
 use Rattle.cql_here.proofs.Seeking.{not_held}
 use Rattle.cql_here.proofs.evaluate.+evaluate.Goals as goal
 
@@ -154,11 +156,6 @@ common_of-returns-clause-value t c =
     common_whole (tree_of c.args.place.now) c.args.names.now c.args.place.now.node c.as_slice-part-items.result.now (filters_tree c.args.parts.now) c.loop-part.part-index c.loop-part.mask
     (omega arith) c.loop-part-test.false c.as_slice-part-items.ensures.tree c.loop-part.invariant.mask
 
-pub evaluate-returns-in-Squares-clause-value : goal.evaluate-returns-in-Squares-clause-value
-evaluate-returns-in-Squares-clause-value t c =
-    standing_is (tree_of c.args.place.now) c.args.names.now c.args.place.now.node c.args.f.now c.in-Squares.d c.standing_on.result
-    c.in-Squares.is (omega arith) (rw c.position.ensures at c.standing_on.ensures)
-
 pub evaluate-returns-in_ok-holds-in-Square-clause-value : goal.evaluate-returns-in_ok-holds-in-Square-clause-value
 evaluate-returns-in_ok-holds-in-Square-clause-value t c =
     let place = c.args.place.now in
@@ -168,7 +165,7 @@ evaluate-returns-in_ok-holds-in-Square-clause-value t c =
     let b = filter_tree c.deref-in-Square-2.result.now in
     let v : as_truth c.in_ok-holds-in-Square.holds ≡ square_of c.in-Square.every (as_squares (is_in c.squares.result)) (holds_at place c.in-Square.name e b)
     = c.in_ok-holds-in-Square.ensures.value ∙ ap₂ (λ text names. square_of c.in-Square.every (as_squares (is_in c.squares.result)) (holds_at place text names b))
-    c.as_slice-in-Square.ensures c.evaluate-in-Square.ensures.names in
+    c.as_slice.ensures c.evaluate-in-Square.ensures.names in
     let whole = ap (λ form. filter_at f.at (form_tree form)) c.in-Square.is
     ∙ sym (ap₂ (λ p q. filter_at f.at (square c.in-Square.every c.in-Square.name (filter_tree p) (filter_tree q))) c.deref-in-Square.ensures c.deref-in-Square-2.ensures) in
     v ∙ square_value (tree_of place) e place.node f.at c.in-Square.every c.in-Square.name a b c.squares.result (meant c.in_ok-squares-in-Square.squares)
@@ -294,3 +291,79 @@ unary_at-returns-in_ok-value-in_default t c =
           c.in_default.not-Parent c.in_ok-value-in_default.ensures.value;
       names = c.evaluate.ensures.names;
     }
+
+pub played_at-returns-in_default-clause-value : goal.played_at-returns-in_default-clause-value
+played_at-returns-in_default-clause-value t c =
+    let place = c.args.place.now in
+    let tree = tree_of place in
+    let p = c.args.played.now in
+    no_move tree c.args.names.now place.node p (c.ends_of.ensures.none (subst IsNone (sym c.in_default.is) refl))
+
+pub played_at-returns-then-not-branch-clause-value : goal.played_at-returns-then-not-branch-clause-value
+played_at-returns-then-not-branch-clause-value t c =
+    let place = c.args.place.now in
+    let tree = tree_of place in
+    let p = c.args.played.now in
+    let ends = subst (λ o. IfSome o (AreEnds place.game.now.nodes place.node)) c.in-Some.is c.ends_of.ensures.some in
+    origin_fails tree c.args.names.now place.node p c.in-Some.ends ends (sym c.in_ok-is_met.ensures.value ∙ c.if-not-branch.true)
+
+pub played_at-returns-then-not-branch-2-clause-value : goal.played_at-returns-then-not-branch-2-clause-value
+played_at-returns-then-not-branch-2-clause-value t c =
+    let place = c.args.place.now in
+    let tree = tree_of place in
+    let p = c.args.played.now in
+    let ends = subst (λ o. IfSome o (AreEnds place.game.now.nodes place.node)) c.in-Some.is c.ends_of.ensures.some in
+    let origin = sym c.in_ok-is_met.ensures.value ∙ c.if-not-branch.false in
+    let goal = sym (ap (λ (b : _). meets (written_value tree [] b (goal_of p) place.node) (Some c.in-Some.ends.goal)) c.is_met.ensures.names)
+    ∙ sym c.in_ok-is_met-2.ensures.value ∙ c.if-not-branch-2.true in
+    goal_fails tree c.args.names.now place.node p c.in-Some.ends ends origin goal
+
+pub played_at-returns-then-is_none-2-clause-value : goal.played_at-returns-then-is_none-2-clause-value
+played_at-returns-then-is_none-2-clause-value t c =
+    let place = c.args.place.now in
+    let tree = tree_of place in
+    let p = c.args.played.now in
+    let ends = subst (λ o. IfSome o (AreEnds place.game.now.nodes place.node)) c.in-Some.is c.ends_of.ensures.some in
+    let origin = sym c.in_ok-is_met.ensures.value ∙ c.if-not-branch.false in
+    let goal = sym (ap (λ (b : _). meets (written_value tree [] b (goal_of p) place.node) (Some c.in-Some.ends.goal)) c.is_met.ensures.names)
+    ∙ sym c.in_ok-is_met-2.ensures.value ∙ c.if-not-branch-2.false in
+    no_more_asked tree c.args.names.now place.node p c.in-Some.ends ends origin goal (c.is_none.ensures ∙ ap not c.if-is_none.true)
+    (c.is_none-then-is_none.ensures ∙ ap not c.if-is_none-2.true)
+
+pub played_at-returns-in_default-led_to-clause-value : goal.played_at-returns-in_default-led_to-clause-value
+played_at-returns-in_default-led_to-clause-value t c =
+    let place = c.args.place.now in
+    let tree = tree_of place in
+    let p = c.args.played.now in
+    no_move tree c.args.names.now place.node p (not_led (led_to place.game.now.nodes place.node) c.led_to.result c.led_to.ensures c.in_default-led_to.is)
+
+pub played_at-returns-then-not-branch-3-clause-value : goal.played_at-returns-then-not-branch-3-clause-value
+played_at-returns-then-not-branch-3-clause-value t c =
+    let place = c.args.place.now in
+    let tree = tree_of place in
+    let p = c.args.played.now in
+    let ends = subst (λ o. IfSome o (AreEnds place.game.now.nodes place.node)) c.in-Some.is c.ends_of.ensures.some in
+    let origin = sym c.in_ok-is_met.ensures.value ∙ c.if-not-branch.false in
+    let goal = sym (ap (λ (b : _). meets (written_value tree [] b (goal_of p) place.node) (Some c.in-Some.ends.goal)) c.is_met.ensures.names)
+    ∙ sym c.in_ok-is_met-2.ensures.value ∙ c.if-not-branch-2.false in
+    let led = sym c.in-Some-led_to.is ∙ c.led_to.ensures in
+    let names = c.is_met-2.ensures.names ∙ c.is_met.ensures.names in
+    let taken = sym (ap (λ (b : _). meets (written_value tree [] b (taken_of p) c.in-Some.ends.before) c.in-Some-led_to.led.taken) names)
+    ∙ sym c.in_ok-is_met-3.ensures.value ∙ c.if-not-branch-3.true in
+    taken_fails tree c.args.names.now place.node p c.in-Some.ends ends c.in-Some-led_to.led led origin goal taken
+
+pub played_at-returns-clause-value : goal.played_at-returns-clause-value
+played_at-returns-clause-value t c =
+    let place = c.args.place.now in
+    let tree = tree_of place in
+    let p = c.args.played.now in
+    let ends = subst (λ o. IfSome o (AreEnds place.game.now.nodes place.node)) c.in-Some.is c.ends_of.ensures.some in
+    let origin = sym c.in_ok-is_met.ensures.value ∙ c.if-not-branch.false in
+    let goal = sym (ap (λ (b : _). meets (written_value tree [] b (goal_of p) place.node) (Some c.in-Some.ends.goal)) c.is_met.ensures.names)
+    ∙ sym c.in_ok-is_met-2.ensures.value ∙ c.if-not-branch-2.false in
+    let led = sym c.in-Some-led_to.is ∙ c.led_to.ensures in
+    let names = c.is_met-2.ensures.names ∙ c.is_met.ensures.names in
+    let taken = sym (ap (λ (b : _). meets (written_value tree [] b (taken_of p) c.in-Some.ends.before) c.in-Some-led_to.led.taken) names)
+    ∙ sym c.in_ok-is_met-3.ensures.value ∙ c.if-not-branch-3.false in
+    let promoted = c.in_ok-promoted.ensures.value ∙ ap₂ (λ (b : _) s. meets (written_value tree [] b (promoted_of p) place.node) s) (c.is_met-3.ensures.names ∙ names) c.promoted_on.ensures in
+    promoted ∙ promoted_decides tree c.args.names.now place.node p c.in-Some.ends ends c.in-Some-led_to.led led origin goal taken

@@ -1,4 +1,7 @@
+use Rattle.std.proofs.Common.{ap, ap₂, sym, ◌∙◌}
 use Rattle.cql_syntax.proofs.Lists.{filter_trees_more, term_trees_more, part_trees_more}
+use Rattle.cql_syntax.specs.TreeOf.{filter_tree, form_tree}
+use Rattle.cql_syntax.specs.Trees.{if_, pair, sort, square}
 use Rattle.cql_syntax.proofs.tree.+copy.Goals as goal
 
 pub Constituents::copy-loop-part-preserved : goal.Constituents::copy-loop-part-preserved
@@ -15,3 +18,31 @@ pub Terms::copy-loop-term-preserved : goal.Terms::copy-loop-term-preserved
 Terms::copy-loop-term-preserved t c =
     let more = term_trees_more c.as_slice-term-items.result.now c.loop-term.term-index c.term-item.result c.loop-term-test.true c.term-item.is in
     cc (more, c.in_ok-push.ensures.tree, c.in_ok-copy.ensures, c.loop-term.invariant)
+
+pub Form::copy-returns-in_ok-boxed-in-Pair-2 : goal.Form::copy-returns-in_ok-boxed-in-Pair-2
+Form::copy-returns-in_ok-boxed-in-Pair-2 t c =
+    let first = c.in_ok-boxed-in-Pair.ensures ∙ ap filter_tree c.deref-in-Pair.ensures in
+    let second = c.in_ok-boxed-in-Pair-2.ensures ∙ ap filter_tree c.deref-in-Pair-2.ensures in
+    ap₂ (pair c.in-Pair.pair) first second ∙ sym (ap form_tree c.in-Pair.is)
+
+pub Form::copy-returns-in_ok-boxed-in-If-3 : goal.Form::copy-returns-in_ok-boxed-in-If-3
+Form::copy-returns-in_ok-boxed-in-If-3 t c =
+    let first = c.in_ok-boxed-in-If.ensures ∙ ap filter_tree c.deref-in-If.ensures in
+    let second = c.in_ok-boxed-in-If-2.ensures ∙ ap filter_tree c.deref-in-If-2.ensures in
+    let third = c.in_ok-boxed-in-If-3.ensures ∙ ap filter_tree c.deref-in-If-3.ensures in
+    ap₂ (λ f g. if_ f g (filter_tree c.in_ok-boxed-in-If-3.field-0.value)) first second
+    ∙ ap (if_ (filter_tree c.in-If.a.value) (filter_tree c.in-If.b.value)) third ∙ sym (ap form_tree c.in-If.is)
+
+pub Form::copy-returns-in_ok-boxed-in-Square-2 : goal.Form::copy-returns-in_ok-boxed-in-Square-2
+Form::copy-returns-in_ok-boxed-in-Square-2 t c =
+    let name = c.in_ok-name-in-Square.ensures ∙ c.as_slice-in-Square.ensures in
+    let first = c.in_ok-boxed-in-Square.ensures ∙ ap filter_tree c.deref-in-Square.ensures in
+    let second = c.in_ok-boxed-in-Square-2.ensures ∙ ap filter_tree c.deref-in-Square-2.ensures in
+    ap₂ (λ text f. square c.in-Square.every text f (filter_tree c.in_ok-boxed-in-Square-2.field-0.value)) name first
+    ∙ ap (square c.in-Square.every c.in-Square.name (filter_tree c.in-Square.a.value)) second ∙ sym (ap form_tree c.in-Square.is)
+
+pub Form::copy-returns-in_ok-boxed-in-Sort : goal.Form::copy-returns-in_ok-boxed-in-Sort
+Form::copy-returns-in_ok-boxed-in-Sort t c =
+    let name = c.in_ok-from_slice-in-Sort.ensures ∙ c.as_slice-in-Sort.ensures in
+    let part = c.in_ok-boxed-in-Sort.ensures ∙ ap filter_tree c.deref-in-Sort.ensures in
+    ap₂ (sort c.in-Sort.least) name part ∙ sym (ap form_tree c.in-Sort.is)
