@@ -1,4 +1,5 @@
-use Rattle.std.proofs.Common.{◌≡◌, ◌++◌, ◌∷◌, [], take, ap, rules}
+use Rattle.std.proofs.Common.{◌≡◌, ◌++◌, ◌∷◌, [], take, ap, rules, arith}
+use Rattle.std.proofs.lemmas.Grind.{common_steps}
 use Rattle.cql_syntax.specs.TreeOf.{filter_tree, body_tree, filter_trees, part_trees}
 use Rattle.cql_syntax.proofs.Lists.{filter_trees_more, part_trees_more}
 use Rattle.cql_rewrite.specs.FlatText as spec
@@ -86,3 +87,47 @@ text_of-returns-in-Comment t c = search rules
 pub text_of-returns-in-Any : goal.text_of-returns-in-Any
 unfolding spec.text
 text_of-returns-in-Any t c = search rules
+
+pub text_of-returns-in_ok-second-in-Pair : goal.text_of-returns-in_ok-second-in-Pair
+unfolding spec.text
+text_of-returns-in_ok-second-in-Pair t c = search rules
+
+pub text_of-returns-in_ok-otherwise-in-If : goal.text_of-returns-in_ok-otherwise-in-If
+unfolding spec.text
+text_of-returns-in_ok-otherwise-in-If t c = search rules
+
+pub text_of-returns-in_ok-asked-in-Square : goal.text_of-returns-in_ok-asked-in-Square
+unfolding spec.text
+text_of-returns-in_ok-asked-in-Square t c = search rules
+
+pub body_of-returns-in-Atom : goal.body_of-returns-in-Atom
+unfolding spec.text
+body_of-returns-in-Atom t c = search rules
+
+pub body_of-returns-in_ok-texts-in-Group : goal.body_of-returns-in_ok-texts-in-Group
+unfolding spec.text
+body_of-returns-in_ok-texts-in-Group t c = search rules
+
+pub written_of-returns-in_ok-text_of-in-Some : goal.written_of-returns-in_ok-text_of-in-Some
+unfolding spec.text
+written_of-returns-in_ok-text_of-in-Some t c = search rules
+
+pub written_of-returns-in-None : goal.written_of-returns-in-None
+unfolding spec.text
+written_of-returns-in-None t c = search rules
+
+pub texts_of-loop-filter-init : goal.texts_of-loop-filter-init
+unfolding spec.text
+texts_of-loop-filter-init t c = search rules
+
+pub part_texts-loop-part-init : goal.part_texts-loop-part-init
+unfolding spec.text
+part_texts-loop-part-init t c = search rules
+
+pub texts_of-returns : goal.texts_of-returns
+unfolding spec.text
+texts_of-returns t c = grind (arith, common_steps)
+
+pub part_texts-returns : goal.part_texts-returns
+unfolding spec.text
+part_texts-returns t c = grind (arith, common_steps)
