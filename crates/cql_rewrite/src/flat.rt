@@ -1,8 +1,10 @@
 //! The flat form of a query.
 ghost use Rattle.std.specs.Prelude.{◌≡◌, [], map, option_map, Some, IfOk, OnOk};
 ghost use Rattle.cq_symmetry.specs.Families.{members};
+ghost use Rattle.cql_syntax.specs.Contexts as contexts;
 ghost use Rattle.cql_syntax.specs.Flat as spec;
 ghost use Rattle.cql_syntax.specs.Meaning.{fitting};
+ghost use Rattle.cql_syntax.specs.Trees.{any, chain, comment, direction, line, name, played, sort, sum_of, tagged, transform, unary};
 ghost use Rattle.cql_syntax.specs.TreeOf.{filter_tree, form_tree, filters_tree, terms_tree, line_tree, played_tree, written_tree, parts_tree, body_tree, query_tree};
 ghost use Rattle.cql_rewrite.specs.Meant.{MeansTheSame};
 ghost use Rattle.cql_rewrite.specs.Kept.{with_new, some_same, flat_if_fits};
@@ -16,8 +18,8 @@ use crate::same::same_filter;
 use cq_outside::{Bytes, NoMemory};
 use cq_symmetry::{Family, Mapping, SquarePart, member, size};
 use cql_syntax::{
-    Body, Constituent, Constituents, Designator, Filter, Filters, FlatQuery, Form, Line, Played,
-    Term, Terms, TypedQuery, kind_of,
+    Body, Chain, Constituent, Constituents, Designator, Field, Filter, Filters, FlatQuery, Form,
+    Kind, Line, Played, Term, Terms, TypedQuery, Unary, Way, kind_of,
 };
 use std::alloc::Global;
 
@@ -66,24 +68,15 @@ fn flat_form(alloc: Global, f: &Form, context: &[Mapping]) -> Result<Form, NoMem
     match f {
         Form::Squares(d) => Ok(Form::Squares(image_or_nothing(designator_image(context, d)))),
         Form::Number(number) => Ok(Form::Number(*number)),
-        Form::Name(name) => Ok(Form::Name(Bytes::from_slice(alloc, name.as_slice())?)),
+        Form::Name(text) => flat_name(alloc, text),
         Form::Plain(word) => Ok(Form::Plain(word_image(context, *word))),
-        Form::Tagged(field, text) => {
-            let text = Bytes::from_slice(alloc, text.as_slice())?;
-            Ok(Form::Tagged(field_image(context, *field), text))
-        }
+        Form::Tagged(field, text) => flat_tagged(alloc, *field, text, context),
         Form::Outcome(outcome) => Ok(Form::Outcome(outcome_image(context, *outcome))),
         Form::Elo(of) => Ok(Form::Elo(of_image(context, *of))),
-        Form::Unary(word, a) => {
-            let part = flat_box(alloc, a, context)?;
-            Ok(Form::Unary(unary_image(context, *word), part))
-        }
-        Form::Steps(way, m, n, a) => {
-            let part = flat_box(alloc, a, context)?;
-            Ok(Form::Steps(way_image(context, *way), *m, *n, part))
-        }
-        Form::Chain(chain, parts) => Ok(Form::Chain(*chain, flat_all(alloc, parts, context)?)),
-        Form::Sum(terms) => Ok(Form::Sum(flat_terms(alloc, terms, context)?)),
+        Form::Unary(word, a) => flat_unary(alloc, *word, a, context),
+        Form::Steps(way, m, n, a) => flat_steps(alloc, *way, *m, *n, a, context),
+        Form::Chain(word, parts) => flat_chain(alloc, *word, parts, context),
+        Form::Sum(terms) => flat_sum(alloc, terms, context),
         Form::Pair(pair, a, b) => {
             let first = flat_box(alloc, a, context)?;
             let second = flat_box(alloc, b, context)?;
@@ -101,19 +94,119 @@ fn flat_form(alloc: Global, f: &Form, context: &[Mapping]) -> Result<Form, NoMem
             let asked = flat_box(alloc, b, context)?;
             Ok(Form::Square(*every, name, squares, asked))
         }
-        Form::Line(line) => Ok(Form::Line(flat_line(alloc, line, context)?)),
-        Form::Played(played) => Ok(Form::Played(flat_played(alloc, played, context)?)),
-        Form::Transform(family, part) => {
-            let members = flat_members(alloc, *family, part, context)?;
-            Ok(Form::Any(kind_of(part), members))
-        }
-        Form::Sort(least, name, a) => {
-            let name = Bytes::from_slice(alloc, name.as_slice())?;
-            Ok(Form::Sort(*least, name, flat_box(alloc, a, context)?))
-        }
-        Form::Comment(text) => Ok(Form::Comment(Bytes::from_slice(alloc, text.as_slice())?)),
-        Form::Any(kind, parts) => Ok(Form::Any(*kind, flat_all(alloc, parts, context)?)),
+        Form::Line(line) => flat_line(alloc, line, context),
+        Form::Played(played) => flat_played(alloc, played, context),
+        Form::Transform(family, part) => flat_family(alloc, *family, part, context),
+        Form::Sort(least, text, a) => flat_sort(alloc, *least, text, a, context),
+        Form::Comment(text) => flat_comment(alloc, text),
+        Form::Any(kind, parts) => flat_any(alloc, *kind, parts, context),
     }
+}
+
+fn flat_name(alloc: Global, text: &Bytes) -> Result<Form, NoMemory>
+    ensures { IfOk result (λ r. form_tree r ≡ name text.now) }
+{
+    Ok(Form::Name(Bytes::from_slice(alloc, text.as_slice())?))
+}
+
+fn flat_tagged(
+    alloc: Global,
+    field: Field,
+    text: &Bytes,
+    context: &[Mapping],
+) -> Result<Form, NoMemory>
+    ensures { IfOk result (λ r. form_tree r ≡ tagged (contexts.field_image context.now field) text.now) }
+{
+    let text = Bytes::from_slice(alloc, text.as_slice())?;
+    Ok(Form::Tagged(field_image(context, field), text))
+}
+
+fn flat_comment(alloc: Global, text: &Bytes) -> Result<Form, NoMemory>
+    ensures { IfOk result (λ r. form_tree r ≡ comment text.now) }
+{
+    Ok(Form::Comment(Bytes::from_slice(alloc, text.as_slice())?))
+}
+
+#[cycle(flat)]
+fn flat_unary(alloc: Global, word: Unary, a: &Filter, context: &[Mapping]) -> Result<Form, NoMemory>
+    ensures { IfOk result (λ r. form_tree r ≡ unary (contexts.unary_image context.now word) (spec.flat context.now (filter_tree a.now))) }
+{
+    let part = flat_box(alloc, a, context)?;
+    Ok(Form::Unary(unary_image(context, word), part))
+}
+
+#[cycle(flat)]
+fn flat_steps(
+    alloc: Global,
+    way: Way,
+    m: u32,
+    n: u32,
+    a: &Filter,
+    context: &[Mapping],
+) -> Result<Form, NoMemory>
+    ensures { IfOk result (λ r. form_tree r ≡ direction (contexts.way_image context.now way) m n (spec.flat context.now (filter_tree a.now))) }
+{
+    let part = flat_box(alloc, a, context)?;
+    Ok(Form::Steps(way_image(context, way), m, n, part))
+}
+
+#[cycle(flat)]
+fn flat_sort(
+    alloc: Global,
+    least: bool,
+    text: &Bytes,
+    a: &Filter,
+    context: &[Mapping],
+) -> Result<Form, NoMemory>
+    ensures { IfOk result (λ r. form_tree r ≡ sort least text.now (spec.flat context.now (filter_tree a.now))) }
+{
+    let text = Bytes::from_slice(alloc, text.as_slice())?;
+    Ok(Form::Sort(least, text, flat_box(alloc, a, context)?))
+}
+
+#[cycle(flat)]
+fn flat_chain(
+    alloc: Global,
+    word: Chain,
+    parts: &Filters,
+    context: &[Mapping],
+) -> Result<Form, NoMemory>
+    ensures { IfOk result (λ r. form_tree r ≡ chain word (spec.flat_all context.now (filters_tree parts.now))) }
+{
+    Ok(Form::Chain(word, flat_all(alloc, parts, context)?))
+}
+
+#[cycle(flat)]
+fn flat_any(
+    alloc: Global,
+    kind: Kind,
+    parts: &Filters,
+    context: &[Mapping],
+) -> Result<Form, NoMemory>
+    ensures { IfOk result (λ r. form_tree r ≡ any kind (spec.flat_all context.now (filters_tree parts.now))) }
+{
+    Ok(Form::Any(kind, flat_all(alloc, parts, context)?))
+}
+
+#[cycle(flat)]
+fn flat_sum(alloc: Global, terms: &Terms, context: &[Mapping]) -> Result<Form, NoMemory>
+    ensures { IfOk result (λ r. form_tree r ≡ sum_of (spec.flat_terms context.now (terms_tree terms.now))) }
+{
+    Ok(Form::Sum(flat_terms(alloc, terms, context)?))
+}
+
+// A family: any of the flat forms of its part.
+#[cycle(flat)]
+fn flat_family(
+    alloc: Global,
+    family: Family,
+    part: &Filter,
+    context: &[Mapping],
+) -> Result<Form, NoMemory>
+    ensures { IfOk result (λ r. form_tree r ≡ spec.flat_form context.now (transform family (filter_tree part.now))) }
+{
+    let members = flat_members(alloc, family, part, context)?;
+    Ok(Form::Any(kind_of(part), members))
 }
 
 // Where a designator has no image, which happens in no filter that fits, no men on no squares.
@@ -230,28 +323,28 @@ fn flat_terms(alloc: Global, terms: &Terms, context: &[Mapping]) -> Result<Terms
 
 #[cycle(flat)]
 #[tactic(auto, unfolding(cql_syntax::specs::Flat::flat))]
-fn flat_line(alloc: Global, line: &Line, context: &[Mapping]) -> Result<Line, NoMemory>
-    ensures { IfOk result (λ l. line_tree l ≡ spec.flat_line context.now (line_tree line.now)) }
+fn flat_line(alloc: Global, path: &Line, context: &[Mapping]) -> Result<Form, NoMemory>
+    ensures { IfOk result (λ r. form_tree r ≡ line (spec.flat_line context.now (line_tree path.now))) }
 {
-    Ok(Line {
-        back: line.back,
-        primary: line.primary,
-        extent: line.extent,
-        parts: flat_parts(alloc, &line.parts, context)?,
-    })
+    Ok(Form::Line(Line {
+        back: path.back,
+        primary: path.primary,
+        extent: path.extent,
+        parts: flat_parts(alloc, &path.parts, context)?,
+    }))
 }
 
 #[cycle(flat)]
 #[tactic(auto, unfolding(cql_syntax::specs::Flat::flat))]
-fn flat_played(alloc: Global, played: &Played, context: &[Mapping]) -> Result<Played, NoMemory>
-    ensures { IfOk result (λ p. played_tree p ≡ spec.flat_played context.now (played_tree played.now)) }
+fn flat_played(alloc: Global, asked: &Played, context: &[Mapping]) -> Result<Form, NoMemory>
+    ensures { IfOk result (λ r. form_tree r ≡ played (spec.flat_played context.now (played_tree asked.now))) }
 {
-    Ok(Played {
-        origin: flat_written(alloc, &played.origin, context)?,
-        goal: flat_written(alloc, &played.goal, context)?,
-        taken: flat_written(alloc, &played.taken, context)?,
-        promoted: flat_written(alloc, &played.promoted, context)?,
-    })
+    Ok(Form::Played(Played {
+        origin: flat_written(alloc, &asked.origin, context)?,
+        goal: flat_written(alloc, &asked.goal, context)?,
+        taken: flat_written(alloc, &asked.taken, context)?,
+        promoted: flat_written(alloc, &asked.promoted, context)?,
+    }))
 }
 
 #[cycle(flat)]

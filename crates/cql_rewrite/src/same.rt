@@ -12,7 +12,7 @@ use crate::leaves::{
 };
 use cq_outside::Bytes;
 use cql_syntax::{
-    Body, Constituent, Constituents, Filter, Filters, Form, Line, Played, Term, Terms,
+    Body, Constituent, Constituents, Field, Filter, Filters, Form, Line, Played, Term, Terms, Way,
 };
 
 /// Whether two filters are the same.
@@ -59,41 +59,81 @@ fn same_form(placed: bool, f: &Form, g: &Form) -> bool
         (Form::Number(m), Form::Number(n)) => *m == *n,
         (Form::Name(a), Form::Name(b)) => same_text(a, b),
         (Form::Plain(v), Form::Plain(w)) => same_plain(*v, *w),
-        (Form::Tagged(c, a), Form::Tagged(d, b)) => same_field(*c, *d) && same_text(a, b),
+        (Form::Tagged(c, a), Form::Tagged(d, b)) => same_tagged(*c, a, *d, b),
         (Form::Outcome(o), Form::Outcome(p)) => same_outcome(*o, *p),
         (Form::Elo(v), Form::Elo(w)) => same_of(*v, *w),
-        (Form::Unary(u, a), Form::Unary(v, b)) => same_unary(*u, *v) && same_as(placed, a, b),
+        (Form::Unary(u, a), Form::Unary(v, b)) => same_next(same_unary(*u, *v), placed, a, b),
         (Form::Steps(v, m, n, a), Form::Steps(w, i, j, b)) => {
-            same_way(*v, *w) && *m == *i && *n == *j && same_as(placed, a, b)
+            same_next(same_steps(*v, *m, *n, *w, *i, *j), placed, a, b)
         }
-        (Form::Chain(c, a), Form::Chain(d, b)) => same_chain(*c, *d) && same_filters(placed, a, b),
+        (Form::Chain(c, a), Form::Chain(d, b)) => same_rest(same_chain(*c, *d), placed, a, b),
         (Form::Sum(a), Form::Sum(b)) => same_terms(placed, a, b),
         (Form::Pair(c, a, b), Form::Pair(d, x, y)) => {
-            same_pair(*c, *d) && same_as(placed, a, x) && same_as(placed, b, y)
+            let first = same_next(same_pair(*c, *d), placed, a, x);
+            same_next(first, placed, b, y)
         }
-        (Form::If(a, b, c), Form::If(x, y, z)) => same_as(placed, a, x)
-            && same_as(placed, b, y)
-            && same_as(placed, c, z),
+        (Form::If(a, b, c), Form::If(x, y, z)) => {
+            let both = same_next(same_as(placed, a, x), placed, b, y);
+            same_next(both, placed, c, z)
+        }
         (Form::Square(c, s, a, b), Form::Square(d, t, x, y)) => {
-            same_flag(*c, *d) && same_text(s, t) && same_as(placed, a, x) && same_as(placed, b, y)
+            let squares = same_next(same_named(*c, s, *d, t), placed, a, x);
+            same_next(squares, placed, b, y)
         }
         (Form::Line(a), Form::Line(b)) => same_line(placed, a, b),
         (Form::Played(a), Form::Played(b)) => same_played(placed, a, b),
-        (Form::Transform(c, a), Form::Transform(d, b)) => same_family(*c, *d)
-            && same_as(placed, a, b),
+        (Form::Transform(c, a), Form::Transform(d, b)) => {
+            same_next(same_family(*c, *d), placed, a, b)
+        }
         (Form::Sort(c, s, a), Form::Sort(d, t, b)) => {
-            same_flag(*c, *d) && same_text(s, t) && same_as(placed, a, b)
+            same_next(same_named(*c, s, *d, t), placed, a, b)
         }
         (Form::Comment(a), Form::Comment(b)) => same_text(a, b),
-        (Form::Any(c, a), Form::Any(d, b)) => same_kind(*c, *d) && same_filters(placed, a, b),
+        (Form::Any(c, a), Form::Any(d, b)) => same_rest(same_kind(*c, *d), placed, a, b),
         _ => false,
     }
+}
+
+// Whether what stands before two filters is the same, and then they are.
+#[cycle(same)]
+fn same_next(before: bool, placed: bool, f: &Filter, g: &Filter) -> bool
+    ensures { result
+        ≡ (before && spec.same_filter (places.with_places placed (filter_tree f.now)) (places.with_places placed (filter_tree g.now))) }
+{
+    before && same_as(placed, f, g)
+}
+
+// Whether what stands before two rows of filters is the same, and then they are.
+#[cycle(same)]
+fn same_rest(before: bool, placed: bool, a: &Filters, b: &Filters) -> bool
+    ensures { result
+        ≡ (before && spec.same_filters (places.all_with placed (filters_tree a.now)) (places.all_with placed (filters_tree b.now))) }
+{
+    before && same_filters(placed, a, b)
 }
 
 fn same_text(a: &Bytes, b: &Bytes) -> bool
     ensures { result ≡ bytes_eq a.now b.now }
 {
     *a == *b
+}
+
+fn same_tagged(c: Field, a: &Bytes, d: Field, b: &Bytes) -> bool
+    ensures { result ≡ (leaves.same_field c d && bytes_eq a.now b.now) }
+{
+    same_field(c, d) && same_text(a, b)
+}
+
+fn same_named(c: bool, a: &Bytes, d: bool, b: &Bytes) -> bool
+    ensures { result ≡ (leaves.same_flag c d && bytes_eq a.now b.now) }
+{
+    same_flag(c, d) && same_text(a, b)
+}
+
+fn same_steps(v: Way, m: u32, n: u32, w: Way, i: u32, j: u32) -> bool
+    ensures { result ≡ (leaves.same_way v w && (m == i) && (n == j)) }
+{
+    same_way(v, w) && m == i && n == j
 }
 
 #[cycle(same)]

@@ -1,10 +1,9 @@
-use Rattle.std.proofs.Common.{◌≡◌, ◌∙◌, sym, take, ap, ap₂, length, ◌≤◌, arith, rules}
+use Rattle.std.proofs.Common.{◌≡◌, ◌∙◌, refl, sym, take, ap, ap₂, length, ◌≤◌, arith, rules}
 use Rattle.std.proofs.lemmas.Grind.{common_steps}
 use Rattle.std.proofs.lemmas.List.{take_all}
 use Rattle.cq_symmetry.specs.Families.{members}
 use Rattle.cql_syntax.specs.Flat as spec
-use Rattle.cql_syntax.specs.TreeOf.{filter_tree, form_tree, body_tree, filter_trees, term_trees, part_trees, filters_tree}
-use Rattle.cql_syntax.specs.Kinds.{filter_kind}
+use Rattle.cql_syntax.specs.TreeOf.{filter_tree, body_tree, filter_trees, term_trees, part_trees, filters_tree}
 use Rattle.cql_syntax.specs.Trees.{transform, any}
 use Rattle.cql_syntax.proofs.Lists.{filter_trees_more, term_trees_more, part_trees_more}
 use Rattle.cql_rewrite.proofs.Made.{flat_all_snoc, flat_terms_snoc, flat_parts_snoc, members_made, flats, family_flat}
@@ -42,14 +41,11 @@ flat_members-returns t c =
     let all : length ms ≤ c.loop-k.k = omega (arith, c.loop-k-test.false, c.size-k-end.ensures) in
     c.loop-k.invariant ∙ ap (λ l. spec.distinct (flats c.args.context.now (filter_tree c.args.part.now) l)) (take_all c.loop-k.k ms all)
 
-pub flat_form-returns-in_ok-members-in-Transform : goal.flat_form-returns-in_ok-members-in-Transform
-flat_form-returns-in_ok-members-in-Transform t c =
-    let part = c.deref-in-Transform.result.now in
-    let same = c.deref-in-Transform-2.ensures ∙ sym c.deref-in-Transform.ensures in
-    let is : form_tree c.args.f.now ≡ transform c.in-Transform.family (filter_tree part) =
-    ap form_tree c.in-Transform.is ∙ ap (λ p. transform c.in-Transform.family (filter_tree p)) (sym c.deref-in-Transform.ensures) in
-    ap₂ any (c.kind_of.ensures ∙ ap (λ p. filter_kind (filter_tree p)) same) c.in_ok-members-in-Transform.ensures
-    ∙ family_flat c.args.context.now c.in-Transform.family (filter_tree part) (form_tree c.args.f.now) is
+pub flat_family-returns : goal.flat_family-returns
+flat_family-returns t c =
+    let part = filter_tree c.args.part.now in
+    ap₂ any c.kind_of.ensures c.in_ok-members.ensures
+    ∙ family_flat c.args.context.now c.args.family part (transform c.args.family part) refl
 
 pub flat_all-loop-filter-init : goal.flat_all-loop-filter-init
 unfolding spec.flat
@@ -86,3 +82,79 @@ flat_box-returns t c = search rules
 
 pub flat_members-loop-k-init : goal.flat_members-loop-k-init
 flat_members-loop-k-init t c = search rules
+
+pub flat_form-returns-in-Squares : goal.flat_form-returns-in-Squares
+unfolding spec.flat
+flat_form-returns-in-Squares t c = search rules
+
+pub flat_form-returns-in-Number : goal.flat_form-returns-in-Number
+unfolding spec.flat
+flat_form-returns-in-Number t c = search rules
+
+pub flat_form-returns-in-Name : goal.flat_form-returns-in-Name
+unfolding spec.flat
+flat_form-returns-in-Name t c = search rules
+
+pub flat_form-returns-in-Plain : goal.flat_form-returns-in-Plain
+unfolding spec.flat
+flat_form-returns-in-Plain t c = search rules
+
+pub flat_form-returns-in-Tagged : goal.flat_form-returns-in-Tagged
+unfolding spec.flat
+flat_form-returns-in-Tagged t c = search rules
+
+pub flat_form-returns-in-Outcome : goal.flat_form-returns-in-Outcome
+unfolding spec.flat
+flat_form-returns-in-Outcome t c = search rules
+
+pub flat_form-returns-in-Elo : goal.flat_form-returns-in-Elo
+unfolding spec.flat
+flat_form-returns-in-Elo t c = search rules
+
+pub flat_form-returns-in-Unary : goal.flat_form-returns-in-Unary
+unfolding spec.flat
+flat_form-returns-in-Unary t c = search rules
+
+pub flat_form-returns-in-Steps : goal.flat_form-returns-in-Steps
+unfolding spec.flat
+flat_form-returns-in-Steps t c = search rules
+
+pub flat_form-returns-in-Chain : goal.flat_form-returns-in-Chain
+unfolding spec.flat
+flat_form-returns-in-Chain t c = search rules
+
+pub flat_form-returns-in-Sum : goal.flat_form-returns-in-Sum
+unfolding spec.flat
+flat_form-returns-in-Sum t c = search rules
+
+pub flat_form-returns-in-Line : goal.flat_form-returns-in-Line
+unfolding spec.flat
+flat_form-returns-in-Line t c = search rules
+
+pub flat_form-returns-in-Played : goal.flat_form-returns-in-Played
+unfolding spec.flat
+flat_form-returns-in-Played t c = search rules
+
+pub flat_form-returns-in-Sort : goal.flat_form-returns-in-Sort
+unfolding spec.flat
+flat_form-returns-in-Sort t c = search rules
+
+pub flat_form-returns-in-Comment : goal.flat_form-returns-in-Comment
+unfolding spec.flat
+flat_form-returns-in-Comment t c = search rules
+
+pub flat_form-returns-in-Any : goal.flat_form-returns-in-Any
+unfolding spec.flat
+flat_form-returns-in-Any t c = search rules
+
+pub flat_form-returns-in_ok-second-in-Pair : goal.flat_form-returns-in_ok-second-in-Pair
+unfolding spec.flat
+flat_form-returns-in_ok-second-in-Pair t c = search rules
+
+pub flat_form-returns-in_ok-otherwise-in-If : goal.flat_form-returns-in_ok-otherwise-in-If
+unfolding spec.flat
+flat_form-returns-in_ok-otherwise-in-If t c = search rules
+
+pub flat_form-returns-in_ok-asked-in-Square : goal.flat_form-returns-in_ok-asked-in-Square
+unfolding spec.flat
+flat_form-returns-in_ok-asked-in-Square t c = search rules
