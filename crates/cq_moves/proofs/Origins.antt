@@ -1,8 +1,8 @@
 -- From where a man goes to a square, seen from there.
-use Rattle.std.proofs.Common.{◌≡◌, ℕ, ◌<◌, Bool, true, false, ◌&&◌, ◌||◌, ◌==◌, map, refl, inl, inr, sym, ap, ap₂, ◌∙◌, Some}
+use Rattle.std.proofs.Common.{◌≡◌, ℕ, ◌+◌, ◌<◌, max, Bool, true, false, ◌&&◌, ◌||◌, ◌==◌, map, refl, inl, inr, sym, ap, ap₂, ◌∙◌, Some, arith}
 use Rattle.std.proofs.lemmas.Bool.{or_cases, or_left, or_right, eqb-true, eq-eqb}
-use Rattle.cq_geometry.specs.Squares.{squares}
-use Rattle.cq_geometry.specs.Steps.{is_king_step, is_knight_step}
+use Rattle.cq_geometry.specs.Squares.{squares, file_of, rank_of}
+use Rattle.cq_geometry.specs.Steps.{apart, files_apart, ranks_apart, is_king_step, is_knight_step}
 use Rattle.cq_geometry.proofs.Tables.{at_squares}
 use Rattle.cq_position.specs.declared.men.Man.{Man}
 use Rattle.cq_position.specs.declared.men.Piece.{Piece}
@@ -21,23 +21,33 @@ use Rattle.cq_moves.proofs.Targets.{own_reaches}
 use Rattle.cq_moves.proofs.Candidates.{pawn_goes, four_parts, first_of}
 
 -- steps lead back
-king_back : map (λ a. map (is_king_step a) squares) squares ≡ map (λ a. map (λ b. is_king_step b a) squares) squares
-unfolding squares
-king_back = refl
+apart_back : (m n : ℕ) → apart m n ≡ apart n m
+apart_back m n = omega arith
 
-knight_back : map (λ a. map (is_knight_step a) squares) squares ≡ map (λ a. map (λ b. is_knight_step b a) squares) squares
-unfolding squares
-knight_back = refl
+files_back : (a b : ℕ) → files_apart a b ≡ files_apart b a
+files_back a b = apart_back (file_of a) (file_of b)
 
-pawn_back : (side : Side) → map (λ a. map (is_pawn_attack side a) squares) squares ≡ map (λ a. map (λ b. is_pawn_attack (opponent side) b a) squares) squares
-unfolding squares
-pawn_back White = refl
-pawn_back Black = refl
+ranks_back : (a b : ℕ) → ranks_apart a b ≡ ranks_apart b a
+ranks_back a b = apart_back (rank_of a) (rank_of b)
 
-ahead_back : (side : Side) → map (λ a. map (is_ahead side a) squares) squares ≡ map (λ a. map (λ b. is_ahead (opponent side) b a) squares) squares
+king_back : (a b : ℕ) → is_king_step a b ≡ is_king_step b a
+king_back a b = ap₂ (λ files ranks. max files ranks == 1) (files_back a b) (ranks_back a b)
+
+knight_back : (a b : ℕ) → is_knight_step a b ≡ is_knight_step b a
+knight_back a b =
+    ap₂ (λ files ranks. files == 1 && ranks == 2 || files == 2 && ranks == 1) (files_back a b) (ranks_back a b)
+
+pawn_back : (side : Side) (a b : ℕ) → is_pawn_attack side a b ≡ is_pawn_attack (opponent side) b a
+pawn_back White a b = ap (λ files. (rank_of b == rank_of a + 1) && (files == 1)) (files_back a b)
+pawn_back Black a b = ap (λ files. (rank_of a == rank_of b + 1) && (files == 1)) (files_back a b)
+
+ahead_table : map (λ a. map (is_ahead White a) squares) squares ≡ map (λ a. map (λ b. is_ahead Black b a) squares) squares
 unfolding squares
-ahead_back White = refl
-ahead_back Black = refl
+ahead_table = refl
+
+ahead_back : (side : Side) (a b : ℕ) → a < 64 → b < 64 → is_ahead side a b ≡ is_ahead (opponent side) b a
+ahead_back White a b h k = at_squares (is_ahead White) (λ x y. is_ahead Black y x) ahead_table a b h k
+ahead_back Black a b h k = sym (at_squares (is_ahead White) (λ x y. is_ahead Black y x) ahead_table b a k h)
 
 abbrev back : ℕ → (ℕ → ℕ → Bool) → ℕ → Bool
 back a f b = f b a
@@ -45,8 +55,8 @@ back a f b = f b a
 -- all pieces but pawns attack both ways
 both_ways : (side : Side) (piece : Piece) (occupied : ℕ → Bool) (a b : ℕ) → a < 64 → b < 64 → (piece ≡ Pawn → ⊥)
     → piece_attacks side piece occupied a b ≡ piece_attacks side piece occupied b a
-both_ways side King occupied a b h k other = at_squares is_king_step (λ x y. is_king_step y x) king_back a b h k
-both_ways side Knight occupied a b h k other = at_squares is_knight_step (λ x y. is_knight_step y x) knight_back a b h k
+both_ways side King occupied a b h k other = king_back a b
+both_ways side Knight occupied a b h k other = knight_back a b
 both_ways side Bishop occupied a b h k other = ap₂ (λ x y. x && y) (diagonal_both_ways a b) (open_both_ways occupied a b k)
 both_ways side Rook occupied a b h k other = ap₂ (λ x y. x && y) (orthogonal_both_ways a b) (open_both_ways occupied a b k)
 both_ways side Queen occupied a b h k other =
@@ -113,12 +123,10 @@ module _ (p : Board) (a b : ℕ) (h : a < 64) (k : b < 64) where
   pawn_seen : (side : Side) → side ≡ p.side → pawn_moves p a b ≡ true
       → (attacks_as (man_of (opponent side) Pawn) (is_occupied p.men) b a || is_ahead (opponent side) b a) ≡ true
   pawn_seen White s g =
-      ap₂ (λ x y. x || y) (sym (at_squares (is_pawn_attack White) (λ x y. is_pawn_attack Black y x) (pawn_back White) a b h k))
-      (sym (at_squares (is_ahead White) (λ x y. is_ahead Black y x) (ahead_back White) a b h k))
+      ap₂ (λ x y. x || y) (sym (pawn_back White a b)) (sym (ahead_back White a b h k))
       ∙ ap (λ t. is_pawn_attack t a b || is_ahead t a b) s ∙ pawn_goes p a b h k g
   pawn_seen Black s g =
-      ap₂ (λ x y. x || y) (sym (at_squares (is_pawn_attack Black) (λ x y. is_pawn_attack White y x) (pawn_back Black) a b h k))
-      (sym (at_squares (is_ahead Black) (λ x y. is_ahead White y x) (ahead_back Black) a b h k))
+      ap₂ (λ x y. x || y) (sym (pawn_back Black a b)) (sym (ahead_back Black a b h k))
       ∙ ap (λ t. is_pawn_attack t a b || is_ahead t a b) s ∙ pawn_goes p a b h k g
 
   comes : (side : Side) (piece : Piece) → side ≡ p.side → man_at p.men a ≡ man_of side piece → goes_as (man_of side piece) p a b ≡ true

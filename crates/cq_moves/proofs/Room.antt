@@ -1,5 +1,5 @@
 -- There are at most 512 legal moves: at most 32 from each square with a man of the side to move.
-use Rattle.std.proofs.Common.{◌≡◌, ℕ, ◌+◌, ◌*◌, ◌<◌, ◌≤◌, Bool, true, false, cond, ◌&&◌, ◌||◌, ◌==◌, leb, ltb, List, [], ◌∷◌, map, length, refl, inl, inr, sym, ap, ◌∙◌, arith}
+use Rattle.std.proofs.Common.{◌≡◌, ℕ, ◌+◌, ◌*◌, ◌<◌, ◌≤◌, Bool, true, false, cond, not, ◌&&◌, ◌||◌, ◌==◌, leb, ltb, List, [], ◌∷◌, map, length, refl, inl, inr, sym, ap, ◌∙◌, arith}
 use Rattle.std.specs.List.{All, filter, sum_by, count_by, list_any}
 use Rattle.std.proofs.lemmas.Bool.{and_from, or_left, or_right, or_parts, leb-true, ltb-false, cases_Bool, false≢true, false_from_ne_true}
 use Rattle.std.proofs.lemmas.List.Concat.{length-flat_map}
@@ -7,7 +7,7 @@ use Rattle.std.proofs.lemmas.List.Elements.{All-weaker}
 use Rattle.std.proofs.lemmas.List.Folds.{fold-map, list_any_none}
 use Rattle.std.proofs.lemmas.List.FromFn.{fill_by_all}
 use Rattle.std.proofs.lemmas.List.Sums.{sum_by-cons, sum_by-le-sum_by}
-use Rattle.cq_geometry.specs.Squares.{squares}
+use Rattle.cq_geometry.specs.Squares.{squares, rank_of}
 use Rattle.cq_geometry.specs.Steps.{is_king_step, is_knight_step}
 use Rattle.cq_geometry.specs.Lines.{is_orthogonal, is_diagonal}
 use Rattle.cq_geometry.proofs.Tables.{at_square}
@@ -20,10 +20,10 @@ use Rattle.cq_position.specs.Men.{is_of_side}
 use Rattle.cq_position.specs.Board.{Board, man_at, count_of_side, has_too_many_men, king_home, is_pawn}
 use Rattle.cq_position.specs.Position.{IsPosition}
 use Rattle.cq_position.specs.Attacks.{is_occupied, attacks, attacks_as, is_pawn_attack}
-use Rattle.cq_position.specs.Legal.{goes_as, is_none, pawn_promotion_is_right, is_single_step, is_double_step, castling_goal, castles, pawn_moves}
+use Rattle.cq_position.specs.Legal.{goes_as, is_none, last_rank, pawn_promotion_is_right, is_single_step, is_double_step, castling_goal, castles, pawn_moves}
 use Rattle.cq_position.specs.Legality.{legal_test}
-use Rattle.cq_moves.specs.LegalMoves.{moves_from, legal_from, legal_list}
-use Rattle.cq_moves.proofs.Lists.{filter-none, length-filter-within}
+use Rattle.cq_moves.specs.LegalMoves.{moves_between, moves_from, legal_from, legal_list}
+use Rattle.cq_moves.proofs.Lists.{filter-none, filter-flat_map, length-filter-within}
 use Rattle.cq_moves.proofs.Law.{what_moves, owned_on_board}
 use Rattle.cq_moves.proofs.Order.{from_goes}
 use Rattle.cq_moves.proofs.Parts.{legal_list_parts}
@@ -63,48 +63,88 @@ may BlackP side m = pawn_may side m
 may Empty side m = false
 may _ side m = queen_may m
 
--- at most 32 of them from each square
-abbrev is_few : (Move → Bool) → ℕ → Bool
-is_few t a = leb (length (filter t (moves_from a))) 32
+-- at most 32 of them from each square: so many for each goal
+abbrev is_few : ℕ → (ℕ → ℕ → Bool) → ℕ → Bool
+is_few each goes a = leb (sum_by (λ b. cond (goes a b) each 0) squares) 32
 
 abbrev always : ℕ → Bool
 always a = true
 
-king_table : (side : Side) → map (is_few (king_may side)) squares ≡ map always squares
-unfolding squares moves_from
+king_table : (side : Side) → map (is_few 1 (king_goes side)) squares ≡ map always squares
+unfolding squares
 king_table White = refl
 king_table Black = refl
 
-queen_table : map (is_few queen_may) squares ≡ map always squares
-unfolding squares moves_from
+queen_table : map (is_few 1 queen_goes) squares ≡ map always squares
+unfolding squares
 queen_table = refl
 
-knight_table : map (is_few knight_may) squares ≡ map always squares
-unfolding squares moves_from
+knight_table : map (is_few 1 is_knight_step) squares ≡ map always squares
+unfolding squares
 knight_table = refl
 
-pawn_table : (side : Side) → map (is_few (pawn_may side)) squares ≡ map always squares
-unfolding squares moves_from
+pawn_table : (side : Side) → map (is_few 4 (pawn_goes side)) squares ≡ map always squares
+unfolding squares
 pawn_table White = refl
 pawn_table Black = refl
 
-few_by : (t : Move → Bool) → map (is_few t) squares ≡ map always squares
+-- one move to a goal where nothing promotes, and at most four of a pawn
+one_between : (goes : ℕ → ℕ → Bool) (a b : ℕ)
+    → length (filter (λ m. goes m.from m.to && is_none m.promotion) (moves_between a b)) ≤ cond (goes a b) 1 0
+one_between goes a b =
+    elim (goes a b) as (λ g. length (filter (λ m. g && is_none m.promotion) (moves_between a b)) ≤ cond g 1 0) [
+      | true ↦ omega arith
+      | false ↦ omega arith
+    ]
+
+four_between : (side : Side) (a b : ℕ) → length (filter (pawn_may side) (moves_between a b)) ≤ cond (pawn_goes side a b) 4 0
+four_between side a b =
+    elim (pawn_goes side a b) as (λ g. length (filter (λ m. g && pawn_promotion_is_right side m) (moves_between a b)) ≤ cond g 4 0) [
+      | true ↦ elim (rank_of b == last_rank side)
+          as (λ l. length (filter (λ m. cond l (not (is_none m.promotion)) (is_none m.promotion)) (moves_between a b)) ≤ 4) [
+            | true ↦ omega arith
+            | false ↦ omega arith
+          ]
+      | false ↦ omega arith
+    ]
+
+few_by : (t : Move → Bool) (each : ℕ) (goes : ℕ → ℕ → Bool)
+    → ((a b : ℕ) → length (filter t (moves_between a b)) ≤ cond (goes a b) each 0)
+    → map (is_few each goes) squares ≡ map always squares
     → (a : ℕ) → a < 64 → length (filter t (moves_from a)) ≤ 32
-few_by t table a h = leb-true (length (filter t (moves_from a))) 32 (at_square (is_few t) always table a h)
+unfolding moves_from
+few_by t each goes between table a h =
+    let room = λ (b : ℕ). cond (goes a b) each 0 in
+    let parts = ap length (filter-flat_map t (moves_between a) squares) ∙ length-flat_map (λ b. filter t (moves_between a b)) squares in
+    let within = sum_by-le-sum_by (λ b. length (filter t (moves_between a b))) room squares (between a) in
+    let few = leb-true (sum_by room squares) 32 (at_square (is_few each goes) always table a h) in
+    omega (arith, parts, within, few)
+
+few_king : (side : Side) (a : ℕ) → a < 64 → length (filter (king_may side) (moves_from a)) ≤ 32
+few_king side a h = few_by (king_may side) 1 (king_goes side) (one_between (king_goes side)) (king_table side) a h
+
+few_queen : (a : ℕ) → a < 64 → length (filter queen_may (moves_from a)) ≤ 32
+few_queen a h = few_by queen_may 1 queen_goes (one_between queen_goes) queen_table a h
+
+few_knight : (a : ℕ) → a < 64 → length (filter knight_may (moves_from a)) ≤ 32
+few_knight a h = few_by knight_may 1 is_knight_step (one_between is_knight_step) knight_table a h
+
+few_pawn : (side : Side) (a : ℕ) → a < 64 → length (filter (pawn_may side) (moves_from a)) ≤ 32
+few_pawn side a h = few_by (pawn_may side) 4 (pawn_goes side) (four_between side) (pawn_table side) a h
 
 few_man : (man : Man) (side : Side) (a : ℕ) → a < 64 → length (filter (may man side) (moves_from a)) ≤ 32
-few_man K side a h = few_by (king_may side) (king_table side) a h
-few_man Q side a h = few_by queen_may queen_table a h
-few_man R side a h = few_by queen_may queen_table a h
-few_man B side a h = few_by queen_may queen_table a h
-few_man N side a h = few_by knight_may knight_table a h
-few_man P side a h = few_by (pawn_may side) (pawn_table side) a h
-few_man BlackK side a h = few_by (king_may side) (king_table side) a h
-few_man BlackQ side a h = few_by queen_may queen_table a h
-few_man BlackR side a h = few_by queen_may queen_table a h
-few_man BlackB side a h = few_by queen_may queen_table a h
-few_man BlackN side a h = few_by knight_may knight_table a h
-few_man BlackP side a h = few_by (pawn_may side) (pawn_table side) a h
+few_man K side a h = few_king side a h
+few_man Q side a h = few_queen a h
+few_man R side a h = few_queen a h
+few_man B side a h = few_queen a h
+few_man N side a h = few_knight a h
+few_man P side a h = few_pawn side a h
+few_man BlackK side a h = few_king side a h
+few_man BlackQ side a h = few_queen a h
+few_man BlackR side a h = few_queen a h
+few_man BlackB side a h = few_queen a h
+few_man BlackN side a h = few_knight a h
+few_man BlackP side a h = few_pawn side a h
 few_man Empty side a h = omega (arith, ap length (filter-none (λ m. false) (moves_from a) (λ k d below. refl)))
 
 -- what a man does, it may do
