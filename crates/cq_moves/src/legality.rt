@@ -32,16 +32,25 @@ pub fn is_legal(position: &Position, m: Move) -> bool
 
 /// Whether a move of such a piece is legal. `seen` has the squares from which one may come to the goal, as
 /// [`origins_to`](crate::origins_to) tells them, so that no line is looked along again.
-#[tactic(auto, using(crate::proofs::Law::passes_in_parts, crate::proofs::Law::pseudo_legal_by_parts))]
+#[tactic(auto, using(crate::proofs::Law::passes_in_parts))]
 pub fn is_legal_seen(position: &Position, piece: Piece, seen: u64, m: &Move) -> bool
     requires seen { IsBitboard seen (may_come position.now.side piece (attack.is_occupied position.now.men) m.now.to) }
     requires piece { stands position.now.men m.now.from (man_of position.now.side piece) ≡ true }
     requires null { m.now.null ≡ false }
     ensures { result ≡ legality.legal_test position.now m.now }
 {
-    reaches_seen(position, piece, seen, m)
-        && promotion_is_right(position, m)
-        && is_safe(position, king_square(position, position.side()), m)
+    reaches_seen(position, piece, seen, m) && is_legal_reach(position, m)
+}
+
+// Whether the move of a man to a square that it reaches is legal.
+#[inline]
+fn is_legal_reach(position: &Position, m: &Move) -> bool
+    requires null { m.now.null ≡ false }
+    requires board { m.now.to < 64 }
+    requires reaches { legal.reaches position.now m.now.from m.now.to ≡ true }
+    ensures { result ≡ legality.legal_test position.now m.now }
+{
+    promotion_is_right(position, m) && is_safe(position, king_square(position, position.side()), m)
 }
 
 // Whether the man goes to the goal, which holds none of its own men and no king.
@@ -102,7 +111,7 @@ fn comes(position: &Position, piece: Piece, seen: u64, m: &Move) -> bool
 }
 
 // The test, the cheap parts first.
-#[tactic(auto, using(crate::proofs::Law::null_fails, crate::proofs::Law::passes_in_parts, crate::proofs::Law::pseudo_legal_by_parts))]
+#[tactic(auto, using(crate::proofs::Law::null_fails, crate::proofs::Law::passes_in_parts))]
 fn passes(position: &Position, m: &Move) -> bool
     ensures { result ≡ legality.legal_test position.now m.now }
 {
@@ -113,8 +122,7 @@ fn passes(position: &Position, m: &Move) -> bool
             m.from,
             m.to,
         )
-        && promotion_is_right(position, m)
-        && is_safe(position, king_square(position, position.side()), m)
+        && is_legal_reach(position, m)
 }
 
 /// Whether the king of the side that moved isn't attacked after the move (FIDE Laws of Chess, article 3.9.2). `king` is its square before

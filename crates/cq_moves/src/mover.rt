@@ -131,7 +131,6 @@ fn is_attacked_without(position: &Position, from: Square, king: Square) -> bool
 }
 
 /// Whether a move of a man to a square to which it goes is legal.
-#[tactic(auto, using(crate::proofs::Parts::reached_move, crate::proofs::Law::pseudo_legal_by_parts))]
 #[inline]
 pub(crate) fn is_legal_there(position: &Position, mover: &Mover, origin: &Origin, m: &Move) -> bool
     requires mover { IsMover position.now mover.now }
