@@ -1,11 +1,14 @@
 //! Copies of a query and its filters.
 ghost use Rattle.std.specs.Prelude.{◌≡◌, IfOk};
+ghost use Rattle.cql_syntax.specs.Trees.{any, chain, comment, direction, line, name, played, sort, sum_of, tagged, transform, unary};
 ghost use Rattle.cql_syntax.specs.TreeOf.{filter_tree, form_tree, line_tree, played_tree, written_tree, body_tree, filters_tree, terms_tree, parts_tree, query_tree};
 
+use crate::leaves::{Chain, Field, Kind, Unary, Way};
 use crate::tree::{
     Body, Constituent, Constituents, Filter, Filters, Form, Line, Played, Query, Term, Terms,
 };
 use cq_outside::{Bytes, NoMemory};
+use cq_symmetry::Family;
 use std::alloc::Global;
 
 impl Query {
@@ -52,49 +55,110 @@ impl Form {
         match self {
             Form::Squares(designator) => Ok(Form::Squares(*designator)),
             Form::Number(number) => Ok(Form::Number(*number)),
-            Form::Name(name) => Ok(Form::Name(Bytes::from_slice(alloc, name.as_slice())?)),
+            Form::Name(text) => copy_name(text, alloc),
             Form::Plain(word) => Ok(Form::Plain(*word)),
-            Form::Tagged(field, text) => Ok(Form::Tagged(
-                *field,
-                Bytes::from_slice(alloc, text.as_slice())?,
-            )),
+            Form::Tagged(field, text) => copy_tagged(*field, text, alloc),
             Form::Outcome(outcome) => Ok(Form::Outcome(*outcome)),
             Form::Elo(of) => Ok(Form::Elo(*of)),
-            Form::Unary(unary, a) => Ok(Form::Unary(*unary, a.boxed(alloc)?)),
-            Form::Steps(way, m, n, a) => Ok(Form::Steps(*way, *m, *n, a.boxed(alloc)?)),
-            Form::Chain(chain, parts) => Ok(Form::Chain(*chain, parts.copy(alloc)?)),
-            Form::Sum(terms) => Ok(Form::Sum(terms.copy(alloc)?)),
+            Form::Unary(word, a) => Form::copy_unary(*word, a, alloc),
+            Form::Steps(way, m, n, a) => Form::copy_steps(*way, *m, *n, a, alloc),
+            Form::Chain(word, parts) => Form::copy_chain(*word, parts, alloc),
+            Form::Sum(terms) => Form::copy_sum(terms, alloc),
             Form::Pair(pair, a, b) => Ok(Form::Pair(*pair, a.boxed(alloc)?, b.boxed(alloc)?)),
             Form::If(a, b, c) => Ok(Form::If(a.boxed(alloc)?, b.boxed(alloc)?, c.boxed(alloc)?)),
             Form::Square(every, name, a, b) => {
                 let name = Bytes::from_slice(alloc, name.as_slice())?;
                 Ok(Form::Square(*every, name, a.boxed(alloc)?, b.boxed(alloc)?))
             }
-            Form::Line(line) => Ok(Form::Line(line.copy(alloc)?)),
-            Form::Played(played) => Ok(Form::Played(played.copy(alloc)?)),
-            Form::Transform(family, a) => Ok(Form::Transform(*family, a.boxed(alloc)?)),
-            Form::Sort(least, name, a) => Ok(Form::Sort(
-                *least,
-                Bytes::from_slice(alloc, name.as_slice())?,
-                a.boxed(alloc)?,
-            )),
-            Form::Comment(text) => Ok(Form::Comment(Bytes::from_slice(alloc, text.as_slice())?)),
-            Form::Any(kind, parts) => Ok(Form::Any(*kind, parts.copy(alloc)?)),
+            Form::Line(line) => line.copy(alloc),
+            Form::Played(played) => played.copy(alloc),
+            Form::Transform(family, a) => Form::copy_transform(*family, a, alloc),
+            Form::Sort(least, text, a) => Form::copy_sort(*least, text, a, alloc),
+            Form::Comment(text) => copy_comment(text, alloc),
+            Form::Any(kind, parts) => Form::copy_any(*kind, parts, alloc),
         }
     }
+
+    #[cycle(copy)]
+    fn copy_unary(word: Unary, a: &Filter, alloc: Global) -> Result<Form, NoMemory>
+        ensures { IfOk result (λ f. form_tree f ≡ unary word (filter_tree a.now)) }
+    {
+        Ok(Form::Unary(word, a.boxed(alloc)?))
+    }
+
+    #[cycle(copy)]
+    fn copy_steps(way: Way, m: u32, n: u32, a: &Filter, alloc: Global) -> Result<Form, NoMemory>
+        ensures { IfOk result (λ f. form_tree f ≡ direction way m n (filter_tree a.now)) }
+    {
+        Ok(Form::Steps(way, m, n, a.boxed(alloc)?))
+    }
+
+    #[cycle(copy)]
+    fn copy_chain(word: Chain, parts: &Filters, alloc: Global) -> Result<Form, NoMemory>
+        ensures { IfOk result (λ f. form_tree f ≡ chain word (filters_tree parts.now)) }
+    {
+        Ok(Form::Chain(word, parts.copy(alloc)?))
+    }
+
+    #[cycle(copy)]
+    fn copy_any(kind: Kind, parts: &Filters, alloc: Global) -> Result<Form, NoMemory>
+        ensures { IfOk result (λ f. form_tree f ≡ any kind (filters_tree parts.now)) }
+    {
+        Ok(Form::Any(kind, parts.copy(alloc)?))
+    }
+
+    #[cycle(copy)]
+    fn copy_sum(terms: &Terms, alloc: Global) -> Result<Form, NoMemory>
+        ensures { IfOk result (λ f. form_tree f ≡ sum_of (terms_tree terms.now)) }
+    {
+        Ok(Form::Sum(terms.copy(alloc)?))
+    }
+
+    #[cycle(copy)]
+    fn copy_transform(family: Family, a: &Filter, alloc: Global) -> Result<Form, NoMemory>
+        ensures { IfOk result (λ f. form_tree f ≡ transform family (filter_tree a.now)) }
+    {
+        Ok(Form::Transform(family, a.boxed(alloc)?))
+    }
+
+    #[cycle(copy)]
+    fn copy_sort(least: bool, text: &Bytes, a: &Filter, alloc: Global) -> Result<Form, NoMemory>
+        ensures { IfOk result (λ f. form_tree f ≡ sort least text.now (filter_tree a.now)) }
+    {
+        let text = Bytes::from_slice(alloc, text.as_slice())?;
+        Ok(Form::Sort(least, text, a.boxed(alloc)?))
+    }
+}
+
+fn copy_name(text: &Bytes, alloc: Global) -> Result<Form, NoMemory>
+    ensures { IfOk result (λ f. form_tree f ≡ name text.now) }
+{
+    Ok(Form::Name(Bytes::from_slice(alloc, text.as_slice())?))
+}
+
+fn copy_tagged(field: Field, text: &Bytes, alloc: Global) -> Result<Form, NoMemory>
+    ensures { IfOk result (λ f. form_tree f ≡ tagged field text.now) }
+{
+    Ok(Form::Tagged(field, Bytes::from_slice(alloc, text.as_slice())?))
+}
+
+fn copy_comment(text: &Bytes, alloc: Global) -> Result<Form, NoMemory>
+    ensures { IfOk result (λ f. form_tree f ≡ comment text.now) }
+{
+    Ok(Form::Comment(Bytes::from_slice(alloc, text.as_slice())?))
 }
 
 impl Line {
     #[cycle(copy)]
-    fn copy(&self, alloc: Global) -> Result<Line, NoMemory>
-        ensures { IfOk result (λ l. line_tree l ≡ line_tree self.now) }
+    fn copy(&self, alloc: Global) -> Result<Form, NoMemory>
+        ensures { IfOk result (λ f. form_tree f ≡ line (line_tree self.now)) }
     {
-        Ok(Line {
+        Ok(Form::Line(Line {
             back: self.back,
             primary: self.primary,
             extent: self.extent,
             parts: self.parts.copy(alloc)?,
-        })
+        }))
     }
 }
 
@@ -113,15 +177,15 @@ impl Played {
     }
 
     #[cycle(copy)]
-    fn copy(&self, alloc: Global) -> Result<Played, NoMemory>
-        ensures { IfOk result (λ p. played_tree p ≡ played_tree self.now) }
+    fn copy(&self, alloc: Global) -> Result<Form, NoMemory>
+        ensures { IfOk result (λ f. form_tree f ≡ played (played_tree self.now)) }
     {
-        Ok(Played {
+        Ok(Form::Played(Played {
             origin: Played::copy_written(&self.origin, alloc)?,
             goal: Played::copy_written(&self.goal, alloc)?,
             taken: Played::copy_written(&self.taken, alloc)?,
             promoted: Played::copy_written(&self.promoted, alloc)?,
-        })
+        }))
     }
 }
 

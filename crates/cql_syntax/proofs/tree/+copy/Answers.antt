@@ -1,7 +1,8 @@
-use Rattle.std.proofs.Common.{ap, ap₂, sym, ◌∙◌}
+use Rattle.std.proofs.Common.{arith, ap, ap₂, sym, ◌∙◌}
+use Rattle.std.proofs.lemmas.Grind.{common_steps}
 use Rattle.cql_syntax.proofs.Lists.{filter_trees_more, term_trees_more, part_trees_more}
 use Rattle.cql_syntax.specs.TreeOf.{filter_tree, form_tree}
-use Rattle.cql_syntax.specs.Trees.{if_, pair, sort, square}
+use Rattle.cql_syntax.specs.Trees.{if_, pair, square}
 use Rattle.cql_syntax.proofs.tree.+copy.Goals as goal
 
 pub Constituents::copy-loop-part-preserved : goal.Constituents::copy-loop-part-preserved
@@ -35,14 +36,17 @@ Form::copy-returns-in_ok-boxed-in-If-3 t c =
 
 pub Form::copy-returns-in_ok-boxed-in-Square-2 : goal.Form::copy-returns-in_ok-boxed-in-Square-2
 Form::copy-returns-in_ok-boxed-in-Square-2 t c =
-    let name = c.in_ok-name-in-Square.ensures ∙ c.as_slice-in-Square.ensures in
+    let name = c.in_ok-name-in-Square.ensures ∙ c.as_slice.ensures in
     let first = c.in_ok-boxed-in-Square.ensures ∙ ap filter_tree c.deref-in-Square.ensures in
     let second = c.in_ok-boxed-in-Square-2.ensures ∙ ap filter_tree c.deref-in-Square-2.ensures in
     ap₂ (λ text f. square c.in-Square.every text f (filter_tree c.in_ok-boxed-in-Square-2.field-0.value)) name first
     ∙ ap (square c.in-Square.every c.in-Square.name (filter_tree c.in-Square.a.value)) second ∙ sym (ap form_tree c.in-Square.is)
 
-pub Form::copy-returns-in_ok-boxed-in-Sort : goal.Form::copy-returns-in_ok-boxed-in-Sort
-Form::copy-returns-in_ok-boxed-in-Sort t c =
-    let name = c.in_ok-from_slice-in-Sort.ensures ∙ c.as_slice-in-Sort.ensures in
-    let part = c.in_ok-boxed-in-Sort.ensures ∙ ap filter_tree c.deref-in-Sort.ensures in
-    ap₂ (sort c.in-Sort.least) name part ∙ sym (ap form_tree c.in-Sort.is)
+pub Constituents::copy-returns : goal.Constituents::copy-returns
+Constituents::copy-returns t c = grind (arith, common_steps)
+
+pub Filters::copy-returns : goal.Filters::copy-returns
+Filters::copy-returns t c = grind (arith, common_steps)
+
+pub Terms::copy-returns : goal.Terms::copy-returns
+Terms::copy-returns t c = grind (arith, common_steps)
