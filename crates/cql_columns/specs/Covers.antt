@@ -48,7 +48,8 @@ Binds e name s = (t : ℕ) → is_bound_to e name t ≡ (s == t)
 -- with a square bound to a name these values have no other square, and hold only where they have it
 pub record IsOwn (name : List ℕ) (v : SearchedTree → Names → ℕ → Value) : Type 0 where
   pub only : (tree : SearchedTree) (e : Names) (n s t : ℕ) → Binds e name s → has (v tree e n) t ≡ true → s ≡ t
-  pub some : (tree : SearchedTree) (e : Names) (n s : ℕ) → Binds e name s → holds (v tree e n) ≡ true → has (v tree e n) s ≡ true
+  pub some : (tree : SearchedTree) (e : Names) (n s : ℕ)
+      → Binds e name s → holds (v tree e n) ≡ true → has (v tree e n) s ≡ true
 
 -- a part of a move is written, and with a square bound to a name it has no other, and holds only where it has that one
 pub record IsOwnPart (name : List ℕ) (w : WrittenTree) : Type 0 where
@@ -124,7 +125,8 @@ pub record IsOfMove (l : Option PlainLed) (origin goal taken : Bool) (s : ℕ) :
   pub at_taken : taken ≡ true → led.taken ≡ Some s
 
 -- where a part of a move is met, with whatever is bound to the opened names, the column meets it too
-pub record AsksNoMore (tree : SearchedTree) (opened outer : Names) (w : WrittenTree) (live : List Bool) (c : Option FilterColumn) : Type 0 where
+pub record AsksNoMore (tree : SearchedTree) (opened outer : Names) (w : WrittenTree) (live : List Bool)
+    (c : Option FilterColumn) : Type 0 where
   pub each : (n : ℕ) (inner : Names) → is_live live n ≡ true → Agree opened inner outer
       → (q : Option ℕ) → meets (written_value tree [] inner w n) q ≡ true → meets (option_map (λ x. shown x n) c) q ≡ true
 
@@ -141,4 +143,5 @@ pub record IsSoRelated (men : List Man) (pair : Pair) (y : Value) (s : ℕ) : Ty
 -- of the squares of values at the nodes those with which something may hold
 pub record AreWorthTrying (v : ℕ → Value) (live : List Bool) (asked : ℕ → ℕ → Bool) (sets : List ℕ) : Type 0 where
   pub within : (n s : ℕ) → is_live live n ≡ true → is_in (get_or sets n 0) s ≡ true → has (v n) s ≡ true
-  pub keeps : (n s : ℕ) → is_live live n ≡ true → s < 64 → asked n s ≡ true → has (v n) s ≡ true → is_in (get_or sets n 0) s ≡ true
+  pub keeps : (n s : ℕ) → is_live live n ≡ true → s < 64 → asked n s ≡ true → has (v n) s ≡ true
+      → is_in (get_or sets n 0) s ≡ true

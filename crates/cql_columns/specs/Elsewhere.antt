@@ -37,12 +37,14 @@ pub record AreLookedAt (tree : SearchedTree) (word : Unary) (live wide : List Bo
 
 -- a node is found where one of a set is among those at which the part is asked
 pub record AreFound (nodes : List Node) (word : Unary) (set found : List Bool) : Type 0 where
-  pub each : (n : ℕ) → n < length nodes → (get_or found n false ≡ true) ↔ ((m : ℕ) × (get_or set m false ≡ true) × Asks nodes word n m)
+  pub each : (n : ℕ) → n < length nodes
+      → (get_or found n false ≡ true) ↔ ((m : ℕ) × (get_or set m false ≡ true) × Asks nodes word n m)
 
 -- each node of a game has at least the squares of the nodes at which the part is asked
 pub record AreBroughtBack (nodes : List Node) (word : Unary) (there back : List ℕ) : Type 0 where
   pub count : length back ≡ length nodes
-  pub each : (n m s : ℕ) → n < length nodes → Asks nodes word n m → is_in (get_or there m 0) s ≡ true → is_in (get_or back n 0) s ≡ true
+  pub each : (n m s : ℕ) → n < length nodes → Asks nodes word n m → is_in (get_or there m 0) s ≡ true
+      → is_in (get_or back n 0) s ≡ true
 
 -- these squares are added at the parent of k, no square is taken away, and from k on nothing changes
 pub record AreRaisedSets (nodes : List Node) (k more : ℕ) (old new : List ℕ) : Type 0 where

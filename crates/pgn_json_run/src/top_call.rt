@@ -16,15 +16,16 @@ use std::thread::Threads;
 /// The line that answers words that are refused.
 const USAGE: &[u8] = b"usage: pgnjson [--mark TEXT] [--workers N] [--limit B] [ARCHIVE]\n";
 
-/// Answers the words of a command, those after the program's name: `[--mark TEXT] [--workers N] [--limit B] [ARCHIVE]` writes the games of the
-/// archive in the file ARCHIVE to `out`, each that is read as a line of JSON (RFC 8259), in their order. Nothing or the name `-` is
-/// standard input.
+/// Answers the words of a command, those after the program's name: `[--mark TEXT] [--workers N] [--limit B] [ARCHIVE]` writes the games
+/// of the archive in the file ARCHIVE to `out`, each that is read as a line of JSON (RFC 8259), in their order. Nothing or the name `-`
+/// is standard input.
 ///
 /// Nodes with the comment TEXT, `CQL` if not said, have their position; a TEXT without a word stands for all nodes. The archive may have
 /// B bytes, from 1 to 2^40, which is also the limit if not said. N workers, from 1 to 64, 4 if not said, read the games of a batch, in
 /// threads of `rt`.
 ///
-/// `err` takes a line for each faulty game, `game N byte B: REASON`, and at the end `games G matched M refused R`: M are written, R are faulty.
+/// `err` takes a line for each faulty game, `game N byte B: REASON`, and at the end `games G matched M refused R`: M are written, R are
+/// faulty.
 ///
 /// Answers:
 /// - `Done`: all games are read and written.
@@ -93,8 +94,10 @@ pub fn answer_command<R: Threads + Sync, D: Desk, O: Sink, E: Sink>(
     out: &mut O,
     err: &mut E,
 ) -> u8
-    ensures { let was = lent D.told D.open_faults (pipe_of D.left D.faults O.taken O.faults E.taken E.faults desk.old out.old err.old) desk.old in
-        let now = lent D.told D.open_faults (pipe_of D.left D.faults O.taken O.faults E.taken E.faults desk.new out.new err.new) desk.new in
+    ensures { let was = lent D.told D.open_faults
+        (pipe_of D.left D.faults O.taken O.faults E.taken E.faults desk.old out.old err.old) desk.old in
+        let now = lent D.told D.open_faults
+        (pipe_of D.left D.faults O.taken O.faults E.taken E.faults desk.new out.new err.new) desk.new in
         MatchResult words (λ given. EndsWords (map string_bytes given.items) result was now) (λ _. EndsWithoutWords result was now) }
 {
     match words {
@@ -103,7 +106,8 @@ pub fn answer_command<R: Threads + Sync, D: Desk, O: Sink, E: Sink>(
     }
 }
 
-/// Ends the program that has a word which is no text: writes the usage line to `err`, and gives the exit status, 3, or 6 where `err` failed.
+/// Ends the program that has a word which is no text: writes the usage line to `err`, and gives the exit status, 3, or 6 where `err`
+/// failed.
 pub fn refuse_command<E: Sink>(err: &mut E) -> u8
     ensures { EndsRefused result (view_of E.taken E.faults err.old) (view_of E.taken E.faults err.new) }
 {
