@@ -18,7 +18,7 @@ use std::alloc::Global;
 const NUMBER_LIMIT: u32 = 999_999_999;
 
 /// A token, and the number of its bytes.
-#[derive(Drop, Debug)]
+#[derive(Drop)]
 pub struct Lexeme {
     pub kind: QueryTokenKind,
     pub len: usize,

@@ -1,4 +1,5 @@
 mod SetRows
+mod Shown
 pub mod Lists
 pub mod Rows
 pub mod Weighing

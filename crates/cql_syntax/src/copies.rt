@@ -1,9 +1,9 @@
 //! Copies of a query and its filters.
 ghost use Rattle.std.specs.Prelude.{◌≡◌, IfOk};
-ghost use Rattle.cql_syntax.specs.Trees.{any, chain, comment, direction, line, name, played, sort, sum_of, tagged, transform, unary};
+ghost use Rattle.cql_syntax.specs.Trees.{any, chain, comment, direction, if_, line, name, pair, played, sort, square, sum_of, tagged, transform, unary};
 ghost use Rattle.cql_syntax.specs.TreeOf.{filter_tree, form_tree, line_tree, played_tree, written_tree, body_tree, filters_tree, terms_tree, parts_tree, query_tree};
 
-use crate::leaves::{Chain, Field, Kind, Unary, Way};
+use crate::leaves::{Chain, Field, Kind, Pair, Unary, Way};
 use crate::tree::{
     Body, Constituent, Constituents, Filter, Filters, Form, Line, Played, Query, Term, Terms,
 };
@@ -45,6 +45,42 @@ impl Filter {
         let filter = self.copy(alloc)?;
         Ok(Box::new(alloc, filter)?)
     }
+
+    // A pair whose second part is a copy of this.
+    #[cycle(copy)]
+    fn copy_second(&self, word: Pair, first: Box<Filter>, alloc: Global) -> Result<Form, NoMemory>
+        ensures { IfOk result (λ f. form_tree f ≡ pair word (filter_tree first.value) (filter_tree self.now)) }
+    {
+        Ok(Form::Pair(word, first, self.boxed(alloc)?))
+    }
+
+    // An `if` that asks a copy of this where its condition doesn't hold.
+    #[cycle(copy)]
+    fn copy_otherwise(
+        &self,
+        condition: Box<Filter>,
+        then: Box<Filter>,
+        alloc: Global,
+    ) -> Result<Form, NoMemory>
+        ensures { IfOk result (λ f. form_tree f
+            ≡ if_ (filter_tree condition.value) (filter_tree then.value) (filter_tree self.now)) }
+    {
+        Ok(Form::If(condition, then, self.boxed(alloc)?))
+    }
+
+    // A `square` that asks a copy of this of each square.
+    #[cycle(copy)]
+    fn copy_asked(
+        &self,
+        every: bool,
+        text: Bytes,
+        squares: Box<Filter>,
+        alloc: Global,
+    ) -> Result<Form, NoMemory>
+        ensures { IfOk result (λ f. form_tree f ≡ square every text (filter_tree squares.value) (filter_tree self.now)) }
+    {
+        Ok(Form::Square(every, text, squares, self.boxed(alloc)?))
+    }
 }
 
 impl Form {
@@ -64,11 +100,19 @@ impl Form {
             Form::Steps(way, m, n, a) => Form::copy_steps(*way, *m, *n, a, alloc),
             Form::Chain(word, parts) => Form::copy_chain(*word, parts, alloc),
             Form::Sum(terms) => Form::copy_sum(terms, alloc),
-            Form::Pair(pair, a, b) => Ok(Form::Pair(*pair, a.boxed(alloc)?, b.boxed(alloc)?)),
-            Form::If(a, b, c) => Ok(Form::If(a.boxed(alloc)?, b.boxed(alloc)?, c.boxed(alloc)?)),
+            Form::Pair(word, a, b) => {
+                let first = a.boxed(alloc)?;
+                b.copy_second(*word, first, alloc)
+            }
+            Form::If(a, b, c) => {
+                let condition = a.boxed(alloc)?;
+                let then = b.boxed(alloc)?;
+                c.copy_otherwise(condition, then, alloc)
+            }
             Form::Square(every, name, a, b) => {
                 let name = Bytes::from_slice(alloc, name.as_slice())?;
-                Ok(Form::Square(*every, name, a.boxed(alloc)?, b.boxed(alloc)?))
+                let squares = a.boxed(alloc)?;
+                b.copy_asked(*every, name, squares, alloc)
             }
             Form::Line(line) => line.copy(alloc),
             Form::Played(played) => played.copy(alloc),

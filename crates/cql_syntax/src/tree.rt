@@ -13,7 +13,7 @@ use std::alloc::Global;
 
 /// A filter, and the byte of the query text at which it begins, its own parentheses included.
 #[cycle(filter)]
-#[derive(Drop, Debug)]
+#[derive(Drop)]
 pub struct Filter {
     pub at: u32,
     pub form: Form,
@@ -21,7 +21,7 @@ pub struct Filter {
 
 /// What a filter asks.
 #[cycle(filter)]
-#[derive(Drop, Debug)]
+#[derive(Drop)]
 pub enum Form {
     Squares(Designator),
     Number(u32),
@@ -56,7 +56,7 @@ pub enum Form {
 
 /// A part of a sum.
 #[cycle(filter)]
-#[derive(Drop, Debug)]
+#[derive(Drop)]
 pub struct Term {
     /// The part is subtracted.
     pub minus: bool,
@@ -65,7 +65,7 @@ pub struct Term {
 
 /// A pattern of the nodes along a path.
 #[cycle(filter)]
-#[derive(Drop, Debug)]
+#[derive(Drop)]
 pub struct Line {
     /// The path goes up, by `<--`.
     pub back: bool,
@@ -78,7 +78,7 @@ pub struct Line {
 
 /// What is asked of the move that led to a position, part by part, where it is written.
 #[cycle(filter)]
-#[derive(Drop, Debug)]
+#[derive(Drop)]
 pub struct Played {
     /// The squares that it may have come from.
     pub origin: Option<Box<Filter>>,
@@ -92,7 +92,7 @@ pub struct Played {
 
 /// A part of a line.
 #[cycle(filter)]
-#[derive(Drop, Debug)]
+#[derive(Drop)]
 pub struct Constituent {
     pub body: Body,
     pub mark: Mark,
@@ -100,7 +100,7 @@ pub struct Constituent {
 
 /// What a part of a line spells once.
 #[cycle(filter)]
-#[derive(Drop, Debug)]
+#[derive(Drop)]
 pub enum Body {
     /// One node at which the filter holds.
     Atom(Box<Filter>),
@@ -110,27 +110,27 @@ pub enum Body {
 
 /// A list of filters that grows.
 #[cycle(filter)]
-#[derive(Drop, Debug)]
+#[derive(Drop)]
 pub struct Filters {
     items: Vec<Filter>,
 }
 
 /// A list of the terms of a sum that grows.
 #[cycle(filter)]
-#[derive(Drop, Debug)]
+#[derive(Drop)]
 pub struct Terms {
     items: Vec<Term>,
 }
 
 /// A list of the parts of a line that grows.
 #[cycle(filter)]
-#[derive(Drop, Debug)]
+#[derive(Drop)]
 pub struct Constituents {
     items: Vec<Constituent>,
 }
 
 /// A query: its header's parameters and its top items.
-#[derive(Drop, Debug)]
+#[derive(Drop)]
 pub struct Query {
     /// All nodes of a game are searched, and not the main line alone.
     pub variations: bool,

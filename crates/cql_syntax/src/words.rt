@@ -8,7 +8,7 @@ use crate::leaves::{Plain, Unary, Way};
 use cq_symmetry::Family;
 
 /// A word of the query language.
-#[derive(Clone, Copy, Debug, PartialEq, Eq)]
+#[derive(Clone, Copy, PartialEq, Eq)]
 pub enum Word {
     Cql,
     Input,
@@ -55,7 +55,7 @@ pub enum Word {
 }
 
 /// A mark of the query language.
-#[derive(Clone, Copy, Debug, PartialEq, Eq)]
+#[derive(Clone, Copy, PartialEq, Eq)]
 pub enum Sign {
     Arrow,
     BackArrow,
