@@ -1,10 +1,13 @@
 //! Reading the tokens of a game.
-ghost use Rattle.std.specs.Prelude.{◌≡◌, ◌<◌, ◌≤◌, ◌^◌, length, IfOk};
+ghost use Rattle.std.specs.Prelude.{◌≡◌, ◌<◌, ◌≤◌, ◌^◌, ℕ, Bool, List, length, IfOk, MatchOption};
 ghost use Rattle.pgn_reader.specs.Limits.{longest, most_moves};
 ghost use Rattle.pgn_reader.specs.Standing.{fault_at_end};
 ghost use Rattle.pgn_reader.specs.Arranged.{standing_of};
 ghost use Rattle.pgn_reader.specs.Shown.{shown, moves_in, IsLow, StepsOver};
-ghost use Rattle.pgn_reader.specs.Reading.{IsReading};
+ghost use Rattle.pgn_reader.specs.Machine.{first as start_state};
+ghost use Rattle.pgn_reader.specs.Reading.{IsReading, IsWhole};
+ghost use Rattle.pgn_reader.specs.Verdict.{HasTokenFault};
+ghost use Rattle.pgn_reader.specs.Words.{words_of};
 
 use crate::fault::{GameFault, Reason};
 use crate::token_machine::{Phase, Reader};
@@ -53,22 +56,55 @@ pub fn read_tokens(
     ensures { IfOk result (IsReading start first bytes.now) }
 {
     let mut reader = Reader::new(alloc);
+    let fault = read_all(&mut reader, alloc, bytes, start, first);
+    answer_of(reader, fault)
+}
+
+// A reader, or the fault that it met.
+fn answer_of(
+    reader: Reader,
+    fault: Result<Option<GameFault>, NoMemory>,
+) -> Result<Result<Reader, GameFault>, NoMemory>
+    ensures { (start : ℕ) (first : Bool) (bytes : List ℕ)
+        → IfOk fault (λ fault. MatchOption fault (IsWhole (words_of start first bytes) reader) (λ f. HasTokenFault start first bytes f))
+        → IfOk result (IsReading start first bytes) }
+{
+    match fault? {
+        Some(fault) => Ok(Err(fault)),
+        None => Ok(Ok(reader)),
+    }
+}
+
+// Reads the tokens of a game up to their first fault, with a reader that has read none.
+fn read_all(
+    reader: &mut Reader,
+    alloc: Global,
+    bytes: &[u8],
+    start: u64,
+    first: bool,
+) -> Result<Option<GameFault>, NoMemory>
+    requires size { length bytes.now ≤ longest }
+    requires place { start < 2 ^ 62 }
+    requires new { shown reader.old ≡ start_state }
+    ensures { IfOk result (λ fault. MatchOption fault (IsWhole (words_of start first bytes.now) reader.new)
+        (λ f. HasTokenFault start first bytes.now f)) }
+{
     let mut at = 0;
     while let Some(lexeme) = next_lexeme(bytes, at, first) {
-        match read_lexeme(&mut reader, alloc, &lexeme) {
+        match read_lexeme(reader, alloc, &lexeme) {
             Ok(()) => at = lexeme.at + lexeme.text.len(),
             Err(Refusal::Fault(reason)) => {
                 let byte = start + lexeme.at as u64;
-                return Ok(Err(GameFault { byte, reason }));
+                return Ok(Some(GameFault { byte, reason }));
             }
             Err(Refusal::NoMemory) => return Err(NoMemory),
         }
     }
-    match fault_at_end(&reader) {
+    match fault_at_end(reader) {
         Some(reason) => {
             let byte = start + bytes.len() as u64;
-            Ok(Err(GameFault { byte, reason }))
+            Ok(Some(GameFault { byte, reason }))
         }
-        None => Ok(Ok(reader)),
+        None => Ok(None),
     }
 }

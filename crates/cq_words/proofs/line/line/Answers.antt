@@ -1,13 +1,11 @@
-use Rattle.std.proofs.Common.{◌∙◌, ap₂}
-use Rattle.clap.specs.Words.{with_rule}
+use Rattle.std.proofs.Common.{codes}
+use Rattle.cq_words.specs.Line.{flag, number_option}
 use Rattle.cq_words.proofs.line.line.Goals as goal
 
 pub returns : goal.returns
 returns c =
-    c.in_ok-command.ensures.shape c.flag.ensures.local
-    ∙ ap₂ with_rule (c.in_ok-arg-4.ensures.shape c.number_option-4.ensures.local
-    ∙ ap₂ with_rule (c.in_ok-arg-3.ensures.shape c.number_option-3.ensures.local
-    ∙ ap₂ with_rule (c.in_ok-arg-2.ensures.shape c.number_option-2.ensures.local
-    ∙ ap₂ with_rule (c.in_ok-arg.ensures.shape c.number_option.ensures.local
-    ∙ ap₂ with_rule c.in_ok-words.ensures c.number_option.ensures.rule)
-    c.number_option-2.ensures.rule) c.number_option-3.ensures.rule) c.number_option-4.ensures.rule) c.flag.ensures.rule
+    c.with_arg.ensures _ (flag (codes "first")) c.flag.ensures.rule
+    (c.with_arg-command-4.ensures _ (number_option (codes "limit") 1 1099511627776) c.number_option-4.ensures.rule
+    (c.with_arg-command-3.ensures _ (number_option (codes "games") 0 100000) c.number_option-3.ensures.rule
+    (c.with_arg-command-2.ensures _ (number_option (codes "seed") 0 4294967295) c.number_option-2.ensures.rule
+    (c.with_arg-command.ensures _ (number_option (codes "workers") 1 64) c.number_option.ensures.rule c.words-command.ensures))))
