@@ -1,5 +1,5 @@
 -- A query by its flat items.
-use Rattle.std.proofs.Common.{◌≡◌, ◌≤◌, Bool, true, false, [], sym, ap, ap₂, ◌∙◌, arith}
+use Rattle.std.proofs.Common.{◌≡◌, ◌≢◌, ◌≤◌, ℕ, Bool, true, false, List, [], map, Some, Result, Ok, Err, IfOk, sym, ap, ap₂, ◌∙◌, arith}
 use Rattle.std.specs.List.{filter}
 use Rattle.std.proofs.Math.Path.{fun_ext}
 use Rattle.cq_position.specs.Games.{Game}
@@ -15,6 +15,7 @@ use Rattle.cql_syntax.proofs.FlatHits.{hits_same, keys_same}
 use Rattle.cql_syntax.proofs.SameSound.{same_law}
 use Rattle.cql_plan.specs.Needs.{all_pass, query_passes}
 use Rattle.cql_plan.specs.Joined.{HaveSameHits}
+use Rattle.cql_plan.specs.declared.verdict.Verdict.{Verdict}
 use Rattle.cql_plan.proofs.Needed.{hits_pass, none_where_refused}
 
 -- filters as one, and the filters of one
@@ -43,11 +44,11 @@ module _ (q : QueryTree) (game : Game) (variations : Bool) (items : FilterTrees)
   hits_are same searched = ap₂ (λ v fs. hits_in (searched_tree game v) fs) searched (filters_are items (flat_query q).items same) ∙ hits_same q game
 
   pub keys_are : same_filters items (flat_query q).items ≡ true → variations ≡ q.variations
-      → all_keys (searched_tree game variations) (hits_in (searched_tree game variations) items) items ≡ keys q game
-  unfolding hits keys
-  keys_are same searched =
-      ap₂ (λ v fs. all_keys (searched_tree game v) (hits_in (searched_tree game v) fs) fs) searched (filters_are items (flat_query q).items same)
-      ∙ keys_same q game
+      → (found : List ℕ) → found ≡ hits q game → all_keys (searched_tree game variations) found items ≡ keys q game
+  unfolding keys
+  keys_are same searched found hit =
+      ap₂ (λ v fs. all_keys (searched_tree game v) found fs) searched (filters_are items (flat_query q).items same)
+      ∙ ap (λ ns. all_keys (searched_tree game q.variations) ns (flat_query q).items) (hit ∙ sym (hits_same q game)) ∙ keys_same q game
 
   pub costs_are : same_filters items (flat_query q).items ≡ true → variations ≡ q.variations
       → filters_cost (searched_len (searched_tree game variations)) items ≡ filters_cost (searched_len (searched_tree game q.variations)) (flat_query q).items
@@ -74,11 +75,14 @@ module _ (q : QueryTree) (game : Game) (variations searched : Bool) (items asked
       ap (λ v. hits_in (searched_tree game v) asked) here ∙ hits_alike items asked found (searched_tree game variations) ∙ hits_are q game variations items same there
 
   pub asked_keys : HaveSameHits items asked → searched ≡ variations → same_filters items (flat_query q).items ≡ true → variations ≡ q.variations
-      → all_keys (searched_tree game searched) (hits_in (searched_tree game searched) asked) asked ≡ keys q game
-  asked_keys found here same there =
-      let tree = searched_tree game variations in
-      ap (λ v. all_keys (searched_tree game v) (hits_in (searched_tree game v) asked) asked) here
-      ∙ ap (λ ns. all_keys tree ns asked) (hits_alike items asked found tree) ∙ found.keys tree (hits_in tree items) ∙ keys_are q game variations items same there
+      → {E : Type 0} (found : Result Verdict E) → IfOk found (λ v. v.nodes.items ≡ hits_in (searched_tree game searched) asked)
+      → IfOk found (λ v. v.nodes.items ≢ [] → map Some v.keys.items ≡ all_keys (searched_tree game searched) v.nodes.items asked)
+      → IfOk found (λ v. v.nodes.items ≢ [] → map Some v.keys.items ≡ keys q game)
+  asked_keys alike here same there (Ok v) nodes given = λ some.
+      given some ∙ ap (λ variations. all_keys (searched_tree game variations) v.nodes.items asked) here
+      ∙ alike.keys (searched_tree game variations) v.nodes.items
+      ∙ keys_are q game variations items same there v.nodes.items (nodes ∙ asked_hits alike here same there)
+  asked_keys alike here same there (Err fault) nodes given = given
 
   pub asked_costs : HaveSameHits items asked → searched ≡ variations → same_filters items (flat_query q).items ≡ true → variations ≡ q.variations
       → filters_cost (searched_len (searched_tree game searched)) asked ≤ filters_cost (searched_len (searched_tree game q.variations)) (flat_query q).items

@@ -1,5 +1,6 @@
 pub mod Flattened
 pub mod Items
+pub mod NeedsParts
 pub mod NeedsRows
 pub mod Needed
 pub mod ItemsHeld

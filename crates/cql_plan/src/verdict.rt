@@ -49,9 +49,8 @@ pub(crate) fn find<L: Ledger>(
         ≡ hits_in (searched_tree game.now query.now.variations) (filters_tree query.now.items)) }
     ensures increasing { IfOk result (λ v. AllPairs (λ m n. m < n) v.nodes.items) }
     ensures inside { IfOk result (λ v. All (λ n. n < length game.now.nodes) v.nodes.items) }
-    ensures keys { IfOk result (λ v. v.nodes.items ≢ []
-        → map Some v.keys.items ≡ all_keys (searched_tree game.now query.now.variations)
-        (hits_in (searched_tree game.now query.now.variations) (filters_tree query.now.items)) (filters_tree query.now.items)) }
+    ensures keys { IfOk result (λ v. v.nodes.items ≢ [] → map Some v.keys.items
+        ≡ all_keys (searched_tree game.now query.now.variations) v.nodes.items (filters_tree query.now.items)) }
     ensures no_keys { IfOk result (λ v. v.nodes.items ≡ [] → v.keys.items ≡ []) }
     ensures least { OnOk result (steps.old + length (nodes_in (searched_tree game.now query.now.variations)) ≤ steps.new) }
     ensures most { steps.new ≤ steps.old + length (nodes_in (searched_tree game.now query.now.variations))

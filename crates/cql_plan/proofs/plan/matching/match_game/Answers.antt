@@ -1,4 +1,4 @@
-use Rattle.std.proofs.Common.{◌≡◌, ◌≢◌, ◌∙◌, [], ap, arith, length, map, sym, Some, IfOk, subst}
+use Rattle.std.proofs.Common.{◌≡◌, ◌∙◌, ap, arith, length, sym, IfOk, subst}
 use Rattle.cq_position.specs.Search.{nodes_in}
 use Rattle.cql_values.specs.Trees.{searched_tree}
 use Rattle.cql_syntax.specs.TreeOf.{filters_tree, query_tree}
@@ -19,9 +19,8 @@ returns-clause-nodes g c =
 pub returns-clause-keys : goal.returns-clause-keys
 returns-clause-keys g c =
     let plan = c.args.plan.now in
-    subst (λ ks. IfOk c.find.result (λ v. v.nodes.items ≢ [] → map Some v.keys.items ≡ ks))
-    (asked_keys (query_tree plan.query.query) c.args.game.now plan.flat.variations plan.joined.variations (filters_tree plan.flat.items)
-    (filters_tree plan.joined.items) plan.hits plan.searched plan.items plan.variations) c.find.ensures.keys
+    asked_keys (query_tree plan.query.query) c.args.game.now plan.flat.variations plan.joined.variations (filters_tree plan.flat.items)
+    (filters_tree plan.joined.items) plan.hits plan.searched plan.items plan.variations c.find.result c.find.ensures.nodes c.find.ensures.keys
 
 pub returns-clause-least : goal.returns-clause-least
 returns-clause-least g c = λ passes.
