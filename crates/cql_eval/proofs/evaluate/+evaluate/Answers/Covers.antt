@@ -1,5 +1,6 @@
 -- What is answered of squares that are worth trying, in the recursion over filters.
 use Rattle.std.proofs.Common.{[], ◌∷◌, ◌∙◌, ap, ap₂, sym, subst, arith, refl, false}
+use Rattle.std.proofs.lemmas.Result.{on_ok_weaker}
 use Rattle.cql_syntax.specs.Meaning.{value, values}
 use Rattle.cql_syntax.specs.TreeOf.{filter_tree, form_tree, filters_tree, written_tree}
 use Rattle.cql_syntax.specs.Trees.{filter_at, unary}
@@ -43,12 +44,23 @@ cover_moves::cover_played-returns-clause-cut g t c =
 pub cover_moves::cover_free_parts-returns-clause-cut : goal.cover_moves::cover_free_parts-returns-clause-cut
 cover_moves::cover_free_parts-returns-clause-cut g t c =
     let tree = tree_in c.args.trial.now.scope.now in
-    free_parts_cut tree c.args.trial.now.live.now c.as_slice-some.result.now c.as_slice-wide.result.now c.args.trial.now.opened.now
+    let asks = c.in_ok-parts.ensures.asks in
+    on_ok_weaker c.cut_unmet.result
+    (λ cut. free_parts_cut tree c.args.trial.now.live.now c.as_slice-some.result.now asks.wide c.args.trial.now.opened.now
     c.args.trial.now.scope.now.names.now c.args.trial.now.name.now c.args.played.now
-    c.in_ok-origin.origin c.in_ok-goal.goal c.in_ok-taken.taken c.in_ok-promoted.promoted c.in_ok-met.met.items c.args.sets.now c.cut_where_fails.new.sets
+    c.in_ok-parts.parts.origin c.in_ok-goal.goal c.in_ok-parts.parts.taken c.in_ok-parts.parts.promoted c.args.sets.now c.cut_unmet.new.sets
     (subst (HasSome tree c.args.trial.now.live.now c.args.sets.now) (sym c.as_slice-some.ensures.value) c.in_ok-some.ensures)
-    (subst (AreBeforeLive tree c.as_slice-some.result.now) (sym c.as_slice-wide.ensures.value) c.in_ok-wide.ensures)
-    c.in_ok-origin.ensures.asks c.in_ok-goal.ensures.asks c.in_ok-taken.ensures.asks c.in_ok-promoted.ensures.asks c.in_ok-met.ensures c.cut_where_fails.ensures
+    asks.before_live asks.origin c.in_ok-goal.ensures.asks asks.taken asks.promoted cut)
+    c.cut_unmet.ensures.cut
+
+pub cover_moves::free_columns-returns-clause-asks : goal.cover_moves::free_columns-returns-clause-asks
+cover_moves::free_columns-returns-clause-asks g t c = record {
+  wide = c.as_slice-wide.result.now;
+  before_live = subst (AreBeforeLive (tree_in c.args.trial.now.scope.now) c.args.live.now) (sym c.as_slice-wide.ensures.value) c.in_ok-wide.ensures;
+  origin = c.in_ok-origin.ensures.asks;
+  taken = c.in_ok-taken.ensures.asks;
+  promoted = c.in_ok-promoted.ensures.asks;
+}
 
 pub cover_moves::free_column-returns-clause-asks : goal.cover_moves::free_column-returns-clause-asks
 cover_moves::free_column-returns-clause-asks g t c =
