@@ -1,13 +1,13 @@
 -- Of a move the parts in which no open name stands.
-use Rattle.std.proofs.Common.{◌≡◌, ℕ, ◌&&◌, Bool, true, false, List, [], Option, Some, None, option_map, get_or, refl, sym, ap, ◌∙◌}
+use Rattle.std.proofs.Common.{◌≡◌, ℕ, ◌&&◌, Bool, true, List, [], Option, Some, None, option_map, refl, sym, ap, ◌∙◌}
 use Rattle.cq_position.specs.Led.{PlainLed, led_to}
 use Rattle.cq_position.specs.Search.{SearchedTree}
 use Rattle.cql_syntax.specs.Meaning.{Names, meets, meets_all, goal_if, before, played_value, written_value}
 use Rattle.cql_syntax.specs.Trees.{WrittenTree}
 use Rattle.cql_syntax.specs.TreeOf.{played_tree}
-use Rattle.cql_syntax.specs.Values.{Value, as_truth, holds}
+use Rattle.cql_syntax.specs.Values.{Value, as_truth}
 use Rattle.cql_syntax.specs.declared.tree.Played.{Played}
-use Rattle.cql_columns.specs.Columns.{is_live, shown}
+use Rattle.cql_columns.specs.Columns.{shown}
 use Rattle.cql_columns.specs.Covers.{AreCut, AsksNoMore, HasSome, IsFreePart, MayHold}
 use Rattle.cql_columns.specs.Trees.{AreBeforeLive}
 use Rattle.cql_columns.specs.declared.filter_column.FilterColumn.{FilterColumn}

@@ -1,5 +1,5 @@
 -- What a form of filter gives by its parts.
-use Rattle.std.proofs.Common.{Result, IfOk, ◌≡◌, ◌⊎◌, inl, inr, ◌∙◌, ℕ, Bool, true, false, List, [], refl, sym, ap, ap₂}
+use Rattle.std.proofs.Common.{Result, IfOk, ◌≡◌, ◌+◌, ◌≤◌, ◌⊎◌, inl, inr, ◌∙◌, ℕ, Bool, true, false, List, [], refl, sym, ap, ap₂, subst, arith}
 use Rattle.std.specs.Prelude.{not, Some, is_some, if◌then◌else◌}
 use Rattle.std.specs.List.{list_any}
 use Rattle.std.proofs.lemmas.Result.{IfOk-weaker}
@@ -11,7 +11,7 @@ use Rattle.cql_syntax.specs.Contexts.{designator_image}
 use Rattle.cql_syntax.specs.Headers.{has_text, is_result, rating}
 use Rattle.cql_syntax.specs.Meaning.{directions_of, is_bound_to, line_value, played_value, standing_of, term_values, word_of}
 use Rattle.cql_syntax.specs.TreeOf.{filter_tree}
-use Rattle.cql_syntax.specs.Trees.{FilterTree, filter_at, FormTree, designator, number, name, plain, tagged, outcome, elo, direction, chain, sum_of, pair, line, played, sort, comment, any, FilterTrees, TermTrees, LineTree, PlayedTree}
+use Rattle.cql_syntax.specs.Trees.{FilterTree, filter_at, FormTree, designator, number, name, plain, tagged, outcome, elo, direction, chain, sum_of, pair, if_, line, played, sort, comment, any, FilterTrees, TermTrees, LineTree, PlayedTree}
 use Rattle.cql_syntax.specs.Values.{Value, amount, as_number, as_truth, count, squares_where, holds, all_hold, some_holds, if_of, chain_of, pair_of, any_of, reached_of, total_of}
 use Rattle.cql_syntax.specs.declared.leaves.Designator.{Designator}
 use Rattle.cql_syntax.specs.declared.leaves.Field.{Field}
@@ -143,3 +143,20 @@ pub parts_form : (at : ℕ) (form : FormTree) (wrap : FilterTree → FilterTree 
     → first ≡ a → second ≡ b → filter_at at form ≡ filter_at at (wrap (filter_tree first) (filter_tree second))
 parts_form at form wrap a b first second is same same_too =
     ap (filter_at at) is ∙ ap₂ (λ p q. filter_at at (wrap (filter_tree p) (filter_tree q))) (sym same) (sym same_too)
+
+pub if_parts : (at : ℕ) (form : FormTree) (a b c first second third : Filter) → form ≡ if_ (filter_tree a) (filter_tree b) (filter_tree c)
+    → first ≡ a → second ≡ b → third ≡ c → filter_at at form ≡ filter_at at (if_ (filter_tree first) (filter_tree second) (filter_tree third))
+if_parts at form a b c first second third is same same_too same_again =
+    ap (filter_at at) is ∙ ap (λ p. filter_at at (if_ (filter_tree p) (filter_tree b) (filter_tree c))) (sym same)
+    ∙ ap₂ (λ p q. filter_at at (if_ (filter_tree first) (filter_tree p) (filter_tree q))) (sym same_too) (sym same_again)
+
+-- what is taken is within what a filter costs
+
+pub within : (before later cost a : ℕ) → cost ≡ a → later ≤ before + a → later ≤ before + cost
+within before later cost a is taken = subst (λ k. later ≤ before + k) (sym is) taken
+
+pub within_first : (before later cost a b : ℕ) → cost ≡ a + b → later ≤ before + a → later ≤ before + cost
+within_first before later cost a b is taken = omega (arith, is, taken)
+
+pub within_both : (before later last cost a b : ℕ) → cost ≡ a + b → later ≤ before + a → last ≤ later + b → last ≤ before + cost
+within_both before later last cost a b is taken more = omega (arith, is, taken, more)

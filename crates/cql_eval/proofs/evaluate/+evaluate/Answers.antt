@@ -3,12 +3,13 @@ mod Lines
 mod Squares
 mod Covers
 mod Goals
-use Rattle.std.proofs.Common.{[], ◌∷◌, ◌&&◌, ◌∙◌, ap, ap₂, option_map, refl, sym, subst}
+use Rattle.std.proofs.Common.{[], ◌∷◌, ◌&&◌, ◌∙◌, ap, ap₂, arith, option_map, refl, sym, subst}
 use Rattle.std.specs.Prelude.{IfOk, is_some}
+use Rattle.cq_position.specs.Games.{node_at}
 use Rattle.cql_syntax.specs.Meaning.{value, before}
 use Rattle.cql_syntax.specs.TreeOf.{filter_tree, form_tree, filters_tree}
-use Rattle.cql_syntax.specs.Trees.{filter_at, unary, direction, square, if_}
-use Rattle.cql_syntax.specs.Values.{amount, as_truth, holds, square_of, chain_of, any_of, reached_of, total_of}
+use Rattle.cql_syntax.specs.Trees.{filter_at, unary, direction, pair, square, if_}
+use Rattle.cql_syntax.specs.Values.{amount, as_number, as_truth, holds, square_of, chain_of, pair_of, any_of, reached_of, total_of}
 use Rattle.cql_columns.specs.Scopes.{tree_in, value_in, values_in}
 use Rattle.cql_values.proofs.Evaluated.{word_here}
 use Rattle.cql_columns.specs.Columns.{IsColumn, is_live, is_so, shown, all_shown, terms_shown}
@@ -20,8 +21,9 @@ use Rattle.cql_eval.proofs.HitsLaw.{sort_form}
 use Rattle.cql_columns.specs.Elsewhere.{asks_elsewhere, AreLookedAt}
 use Rattle.cql_columns.specs.Moved.{is_as_asked}
 use Rattle.cql_columns.specs.Trees.{AreBeforeLive}
-use Rattle.cql_eval.proofs.FormLaws.{IfOk_then, designator_form, plain_form, direction_form, chain_form, sum_form, line_form, played_form, sorted_form, any_form, if_where, chain_all}
-use Rattle.cql_columns.proofs.MoveLaw.{met_is, move_is, part_is, no_part_is}
+use Rattle.cql_columns.specs.Costs.{filter_cost, searched_len}
+use Rattle.cql_eval.proofs.FormLaws.{IfOk_then, number_form, elo_form, comment_form, pair_form, part_form, parts_form, if_parts, within, within_first, within_both, designator_form, plain_form, direction_form, chain_form, sum_form, line_form, played_form, sorted_form, any_form, if_where, chain_all}
+use Rattle.cql_columns.proofs.MoveLaw.{met_is, move_is, move_costs, part_is, no_part_is, part_costs}
 use Rattle.cql_eval.proofs.evaluate.+evaluate.Answers.Chains as chains
 use Rattle.cql_eval.proofs.evaluate.+evaluate.Answers.Lines as lines
 use Rattle.cql_eval.proofs.evaluate.+evaluate.Answers.Squares as squares
@@ -367,6 +369,182 @@ lines::line_column-returns-clause-cost = lines.lines::line_column-returns-clause
 pub lines::line_column-returns-in_err-row-clause-cost : goal.lines::line_column-returns-in_err-row-clause-cost
 lines::line_column-returns-in_err-row-clause-cost = lines.lines::line_column-returns-in_err-row-clause-cost
 
+-- what stands in a filter without parts
+
+pub evaluate-returns-in-Number-clause-value : goal.evaluate-returns-in-Number-clause-value
+evaluate-returns-in-Number-clause-value g t c = λ n l.
+    c.counted.ensures
+    ∙ number_form (tree_in c.args.scope.now) c.args.scope.now.names.now (filter_tree c.args.f.now) c.args.f.now.at _ (ap (λ form. filter_at c.args.f.now.at (form_tree form)) c.in-Number.is) n
+
+pub evaluate-returns-in-Comment-clause-value : goal.evaluate-returns-in-Comment-clause-value
+evaluate-returns-in-Comment-clause-value g t c = λ n l.
+    comment_form (tree_in c.args.scope.now) c.args.scope.now.names.now (filter_tree c.args.f.now) c.args.f.now.at _ (ap (λ form. filter_at c.args.f.now.at (form_tree form)) c.in-Comment.is) n
+
+pub evaluate-returns-in-Elo-clause-value : goal.evaluate-returns-in-Elo-clause-value
+evaluate-returns-in-Elo-clause-value g t c = λ n l.
+    ap as_number c.rating.ensures
+    ∙ elo_form (tree_in c.args.scope.now) c.args.scope.now.names.now (filter_tree c.args.f.now) c.args.f.now.at _ (ap (λ form. filter_at c.args.f.now.at (form_tree form)) c.in-Elo.is) n
+
+pub evaluate-returns-in_ok-second-in-Pair-clause-value : goal.evaluate-returns-in_ok-second-in-Pair-clause-value
+evaluate-returns-in_ok-second-in-Pair-clause-value g t c =
+    let f = c.args.f.now in
+    let a = c.deref-in-Pair.result.now in
+    let b = c.deref-in-Pair-2.result.now in
+    IfOk_then c.pair_column.result c.pair_column.ensures
+    (λ column is n l. is n l
+    ∙ ap₂ (λ x y. pair_of (node_at c.args.scope.now.game.now.nodes n).position.men c.in-Pair.pair x y)
+    (c.in_ok-first-in-Pair.ensures.value n l) (c.in_ok-second-in-Pair.ensures.value n l)
+    ∙ pair_form (tree_in c.args.scope.now) c.args.scope.now.names.now (filter_tree f) (filter_tree a) (filter_tree b) f.at c.in-Pair.pair
+    (parts_form f.at (form_tree f.form) (pair c.in-Pair.pair) _ _ a b (ap form_tree c.in-Pair.is) c.deref-in-Pair.ensures c.deref-in-Pair-2.ensures) n)
+
+-- what filters with parts cost
+
+pub evaluate-returns-in-Chain-clause-cost : goal.evaluate-returns-in-Chain-clause-cost
+unfolding filter_cost
+evaluate-returns-in-Chain-clause-cost g t c =
+    within _ _ _ _ (ap (filter_cost (searched_len (tree_in c.args.scope.now))) (ap (filter_at c.args.f.now.at) (ap form_tree c.in-Chain.is))) c.chain_column.ensures.cost
+
+pub evaluate-returns-in-Any-clause-cost : goal.evaluate-returns-in-Any-clause-cost
+unfolding filter_cost
+evaluate-returns-in-Any-clause-cost g t c =
+    within _ _ _ _ (ap (filter_cost (searched_len (tree_in c.args.scope.now))) (ap (filter_at c.args.f.now.at) (ap form_tree c.in-Any.is))) c.any_column.ensures.cost
+
+pub evaluate-returns-in-Line-clause-cost : goal.evaluate-returns-in-Line-clause-cost
+unfolding filter_cost
+evaluate-returns-in-Line-clause-cost g t c =
+    within _ _ _ _ (ap (filter_cost (searched_len (tree_in c.args.scope.now))) (ap (filter_at c.args.f.now.at) (ap form_tree c.in-Line.is))) c.line_column.ensures.cost
+
+pub evaluate-returns-in-Played-clause-cost : goal.evaluate-returns-in-Played-clause-cost
+unfolding filter_cost
+evaluate-returns-in-Played-clause-cost g t c =
+    within _ _ _ _ (ap (filter_cost (searched_len (tree_in c.args.scope.now))) (ap (filter_at c.args.f.now.at) (ap form_tree c.in-Played.is))) c.played_column.ensures.cost
+
+pub evaluate-returns-in_err-columns-in-Sum-clause-cost : goal.evaluate-returns-in_err-columns-in-Sum-clause-cost
+unfolding filter_cost
+evaluate-returns-in_err-columns-in-Sum-clause-cost g t c =
+    within _ _ _ _ (ap (filter_cost (searched_len (tree_in c.args.scope.now))) (ap (filter_at c.args.f.now.at) (ap form_tree c.in-Sum.is))) c.terms_of.ensures.cost
+
+pub evaluate-returns-in_ok-columns-in-Sum-clause-cost : goal.evaluate-returns-in_ok-columns-in-Sum-clause-cost
+unfolding filter_cost
+evaluate-returns-in_ok-columns-in-Sum-clause-cost g t c =
+    within _ _ _ _ (ap (filter_cost (searched_len (tree_in c.args.scope.now))) (ap (filter_at c.args.f.now.at) (ap form_tree c.in-Sum.is))) c.terms_of.ensures.cost
+
+pub evaluate-returns-in-Unary-clause-cost : goal.evaluate-returns-in-Unary-clause-cost
+unfolding filter_cost
+evaluate-returns-in-Unary-clause-cost g t c =
+    within _ _ _ _ (ap (filter_cost (searched_len (tree_in c.args.scope.now))) (part_form c.args.f.now.at (form_tree c.args.f.now.form) (unary c.in-Unary.word) _ c.deref.result.now (ap form_tree c.in-Unary.is) c.deref.ensures)) c.unary_column.ensures.cost
+
+pub evaluate-returns-in_err-column-in-Steps-clause-cost : goal.evaluate-returns-in_err-column-in-Steps-clause-cost
+unfolding filter_cost
+evaluate-returns-in_err-column-in-Steps-clause-cost g t c =
+    within _ _ _ _ (ap (filter_cost (searched_len (tree_in c.args.scope.now))) (part_form c.args.f.now.at (form_tree c.args.f.now.form) (direction c.in-Steps.way c.in-Steps.m c.in-Steps.n) _ c.deref-in-Steps.result.now (ap form_tree c.in-Steps.is) c.deref-in-Steps.ensures))
+    c.evaluate.ensures.cost
+
+pub evaluate-returns-in_ok-column-in-Steps-clause-cost : goal.evaluate-returns-in_ok-column-in-Steps-clause-cost
+unfolding filter_cost
+evaluate-returns-in_ok-column-in-Steps-clause-cost g t c =
+    within _ _ _ _ (ap (filter_cost (searched_len (tree_in c.args.scope.now))) (part_form c.args.f.now.at (form_tree c.args.f.now.form) (direction c.in-Steps.way c.in-Steps.m c.in-Steps.n) _ c.deref-in-Steps.result.now (ap form_tree c.in-Steps.is) c.deref-in-Steps.ensures))
+    c.evaluate.ensures.cost
+
+pub evaluate-returns-in_err-column-in-Sort-clause-cost : goal.evaluate-returns-in_err-column-in-Sort-clause-cost
+unfolding filter_cost
+evaluate-returns-in_err-column-in-Sort-clause-cost g t c =
+    within _ _ _ _ (ap (filter_cost (searched_len (tree_in c.args.scope.now))) (ap (filter_at c.args.f.now.at)
+    (sort_form _ _ _ _ _ (ap form_tree c.in-Sort.is) (ap filter_tree (sym c.deref-in-Sort.ensures))))) c.evaluate-in-Sort.ensures.cost
+
+pub evaluate-returns-in_ok-column-in-Sort-clause-cost : goal.evaluate-returns-in_ok-column-in-Sort-clause-cost
+unfolding filter_cost
+evaluate-returns-in_ok-column-in-Sort-clause-cost g t c =
+    within _ _ _ _ (ap (filter_cost (searched_len (tree_in c.args.scope.now))) (ap (filter_at c.args.f.now.at)
+    (sort_form _ _ _ _ _ (ap form_tree c.in-Sort.is) (ap filter_tree (sym c.deref-in-Sort.ensures))))) c.evaluate-in-Sort.ensures.cost
+
+pub evaluate-returns-in_err-first-in-Pair-clause-cost : goal.evaluate-returns-in_err-first-in-Pair-clause-cost
+unfolding filter_cost
+evaluate-returns-in_err-first-in-Pair-clause-cost g t c =
+    within_first _ _ _ _ _ (ap (filter_cost (searched_len (tree_in c.args.scope.now))) (parts_form c.args.f.now.at (form_tree c.args.f.now.form) (pair c.in-Pair.pair) _ _ c.deref-in-Pair.result.now _ (ap form_tree c.in-Pair.is) c.deref-in-Pair.ensures refl))
+    c.evaluate-in-Pair.ensures.cost
+
+pub evaluate-returns-in_err-second-in-Pair-clause-cost : goal.evaluate-returns-in_err-second-in-Pair-clause-cost
+unfolding filter_cost
+evaluate-returns-in_err-second-in-Pair-clause-cost g t c =
+    within_both _ _ _ _ _ _ (ap (filter_cost (searched_len (tree_in c.args.scope.now))) (parts_form c.args.f.now.at (form_tree c.args.f.now.form) (pair c.in-Pair.pair) _ _ c.deref-in-Pair.result.now c.deref-in-Pair-2.result.now (ap form_tree c.in-Pair.is) c.deref-in-Pair.ensures c.deref-in-Pair-2.ensures))
+    c.evaluate-in-Pair.ensures.cost c.evaluate-in-Pair-2.ensures.cost
+
+pub evaluate-returns-in_ok-second-in-Pair-clause-cost : goal.evaluate-returns-in_ok-second-in-Pair-clause-cost
+unfolding filter_cost
+evaluate-returns-in_ok-second-in-Pair-clause-cost g t c =
+    within_both _ _ _ _ _ _ (ap (filter_cost (searched_len (tree_in c.args.scope.now))) (parts_form c.args.f.now.at (form_tree c.args.f.now.form) (pair c.in-Pair.pair) _ _ c.deref-in-Pair.result.now c.deref-in-Pair-2.result.now (ap form_tree c.in-Pair.is) c.deref-in-Pair.ensures c.deref-in-Pair-2.ensures))
+    c.evaluate-in-Pair.ensures.cost c.evaluate-in-Pair-2.ensures.cost
+
+pub evaluate-returns-in_err-squares-in-Square-clause-cost : goal.evaluate-returns-in_err-squares-in-Square-clause-cost
+unfolding filter_cost
+evaluate-returns-in_err-squares-in-Square-clause-cost g t c =
+    within_first _ _ _ _ _ (ap (filter_cost (searched_len (tree_in c.args.scope.now))) (parts_form c.args.f.now.at (form_tree c.args.f.now.form) (square c.in-Square.every c.in-Square.name) _ _ c.deref-in-Square.result.now _ (ap form_tree c.in-Square.is) c.deref-in-Square.ensures refl))
+    c.evaluate-in-Square.ensures.cost
+
+pub evaluate-returns-in_err-truths-in-Square-clause-cost : goal.evaluate-returns-in_err-truths-in-Square-clause-cost
+unfolding filter_cost
+evaluate-returns-in_err-truths-in-Square-clause-cost g t c =
+    within_both _ _ _ _ _ _ (ap (filter_cost (searched_len (tree_in c.args.scope.now))) (parts_form c.args.f.now.at (form_tree c.args.f.now.form) (square c.in-Square.every c.in-Square.name) _ _ c.deref-in-Square.result.now c.deref-in-Square-2.result.now (ap form_tree c.in-Square.is) c.deref-in-Square.ensures c.deref-in-Square-2.ensures))
+    c.evaluate-in-Square.ensures.cost c.asked_truths.ensures.cost
+
+pub evaluate-returns-in_ok-truths-in-Square-clause-cost : goal.evaluate-returns-in_ok-truths-in-Square-clause-cost
+unfolding filter_cost
+evaluate-returns-in_ok-truths-in-Square-clause-cost g t c =
+    within_both _ _ _ _ _ _ (ap (filter_cost (searched_len (tree_in c.args.scope.now))) (parts_form c.args.f.now.at (form_tree c.args.f.now.form) (square c.in-Square.every c.in-Square.name) _ _ c.deref-in-Square.result.now c.deref-in-Square-2.result.now (ap form_tree c.in-Square.is) c.deref-in-Square.ensures c.deref-in-Square-2.ensures))
+    c.evaluate-in-Square.ensures.cost c.asked_truths.ensures.cost
+
+pub evaluate-returns-in_err-first-in-If-clause-cost : goal.evaluate-returns-in_err-first-in-If-clause-cost
+unfolding filter_cost
+evaluate-returns-in_err-first-in-If-clause-cost g t c =
+    within_first _ _ _ _ _ (ap (filter_cost (searched_len (tree_in c.args.scope.now))) (if_parts c.args.f.now.at (form_tree c.args.f.now.form) _ _ _ c.deref-in-If.result.now _ _ (ap form_tree c.in-If.is) c.deref-in-If.ensures refl refl))
+    (within_first _ _ _ _ _ refl c.evaluate-in-If.ensures.cost)
+
+pub evaluate-returns-in_err-second-in-If-clause-cost : goal.evaluate-returns-in_err-second-in-If-clause-cost
+unfolding filter_cost
+evaluate-returns-in_err-second-in-If-clause-cost g t c =
+    within_first _ _ _ _ _ (ap (filter_cost (searched_len (tree_in c.args.scope.now))) (if_parts c.args.f.now.at (form_tree c.args.f.now.form) _ _ _ c.deref-in-If.result.now c.deref-in-If-2.result.now _ (ap form_tree c.in-If.is) c.deref-in-If.ensures c.deref-in-If-2.ensures refl))
+    (within_both _ _ _ _ _ _ refl c.evaluate-in-If.ensures.cost c.column_where.ensures.cost)
+
+pub evaluate-returns-in_err-third-in-If-clause-cost : goal.evaluate-returns-in_err-third-in-If-clause-cost
+unfolding filter_cost
+evaluate-returns-in_err-third-in-If-clause-cost g t c =
+    within_both _ _ _ _ _ _ (ap (filter_cost (searched_len (tree_in c.args.scope.now))) (if_parts c.args.f.now.at (form_tree c.args.f.now.form) _ _ _ c.deref-in-If.result.now c.deref-in-If-2.result.now c.deref-in-If-3.result.now (ap form_tree c.in-If.is) c.deref-in-If.ensures c.deref-in-If-2.ensures c.deref-in-If-3.ensures))
+    (within_both _ _ _ _ _ _ refl c.evaluate-in-If.ensures.cost c.column_where.ensures.cost) c.column_where-in-If.ensures.cost
+
+pub evaluate-returns-in_ok-third-in-If-clause-cost : goal.evaluate-returns-in_ok-third-in-If-clause-cost
+unfolding filter_cost
+evaluate-returns-in_ok-third-in-If-clause-cost g t c =
+    within_both _ _ _ _ _ _ (ap (filter_cost (searched_len (tree_in c.args.scope.now))) (if_parts c.args.f.now.at (form_tree c.args.f.now.form) _ _ _ c.deref-in-If.result.now c.deref-in-If-2.result.now c.deref-in-If-3.result.now (ap form_tree c.in-If.is) c.deref-in-If.ensures c.deref-in-If-2.ensures c.deref-in-If-3.ensures))
+    (within_both _ _ _ _ _ _ refl c.evaluate-in-If.ensures.cost c.column_where.ensures.cost) c.column_where-in-If.ensures.cost
+
+pub lines::put_wherever-returns-in_err-column-in-Atom-clause-cost : goal.lines::put_wherever-returns-in_err-column-in-Atom-clause-cost
+lines::put_wherever-returns-in_err-column-in-Atom-clause-cost = lines.lines::put_wherever-returns-in_err-column-in-Atom-clause-cost
+
+pub lines::put_wherever-returns-in_err-held-in-Atom-clause-cost : goal.lines::put_wherever-returns-in_err-held-in-Atom-clause-cost
+lines::put_wherever-returns-in_err-held-in-Atom-clause-cost = lines.lines::put_wherever-returns-in_err-held-in-Atom-clause-cost
+
+pub lines::put_wherever-returns-in_ok-held-in-Atom-clause-cost : goal.lines::put_wherever-returns-in_ok-held-in-Atom-clause-cost
+lines::put_wherever-returns-in_ok-held-in-Atom-clause-cost = lines.lines::put_wherever-returns-in_ok-held-in-Atom-clause-cost
+
+pub lines::put_wherever-returns-in-Group-clause-cost : goal.lines::put_wherever-returns-in-Group-clause-cost
+lines::put_wherever-returns-in-Group-clause-cost = lines.lines::put_wherever-returns-in-Group-clause-cost
+
+pub lines::put_once-returns-in_err-behind-in-Atom-clause-cost : goal.lines::put_once-returns-in_err-behind-in-Atom-clause-cost
+lines::put_once-returns-in_err-behind-in-Atom-clause-cost = lines.lines::put_once-returns-in_err-behind-in-Atom-clause-cost
+
+pub lines::put_once-returns-in_ok-behind-in-Atom-clause-cost : goal.lines::put_once-returns-in_ok-behind-in-Atom-clause-cost
+lines::put_once-returns-in_ok-behind-in-Atom-clause-cost = lines.lines::put_once-returns-in_ok-behind-in-Atom-clause-cost
+
+pub lines::put_once-returns-in_err-next-in-Group-clause-cost : goal.lines::put_once-returns-in_err-next-in-Group-clause-cost
+lines::put_once-returns-in_err-next-in-Group-clause-cost = lines.lines::put_once-returns-in_err-next-in-Group-clause-cost
+
+pub lines::put_once-returns-in_err-starts-in-Group-clause-cost : goal.lines::put_once-returns-in_err-starts-in-Group-clause-cost
+lines::put_once-returns-in_err-starts-in-Group-clause-cost = lines.lines::put_once-returns-in_err-starts-in-Group-clause-cost
+
+pub lines::put_once-returns-in_ok-starts-in-Group-clause-cost : goal.lines::put_once-returns-in_ok-starts-in-Group-clause-cost
+lines::put_once-returns-in_ok-starts-in-Group-clause-cost = lines.lines::put_once-returns-in_ok-starts-in-Group-clause-cost
+
 -- where no node is asked for
 
 pub evaluate-returns-then-not-any_live-clause-value : goal.evaluate-returns-then-not-any_live-clause-value
@@ -410,6 +588,26 @@ played::played_column-returns-clause-value g t c =
     (move_is tree c.args.scope.now.names.now c.args.played.now some c.in_ok-parts.parts c.in_ok-goal.goal
     c.in_ok-parts.ensures.value c.in_ok-goal.ensures.value n))
 
+pub played::written_column-returns-in_err-column-in-Some-clause-cost : goal.played::written_column-returns-in_err-column-in-Some-clause-cost
+played::written_column-returns-in_err-column-in-Some-clause-cost g t c =
+    within _ _ _ _ (part_costs (searched_len (tree_in c.args.scope.now)) _ _ _ c.in-Some.is c.deref.ensures) c.evaluate.ensures.cost
+
+pub played::written_column-returns-in_ok-column-in-Some-clause-cost : goal.played::written_column-returns-in_ok-column-in-Some-clause-cost
+played::written_column-returns-in_ok-column-in-Some-clause-cost g t c =
+    within _ _ _ _ (part_costs (searched_len (tree_in c.args.scope.now)) _ _ _ c.in-Some.is c.deref.ensures) c.evaluate.ensures.cost
+
+pub played::played_column-returns-in_err-parts-clause-cost : goal.played::played_column-returns-in_err-parts-clause-cost
+played::played_column-returns-in_err-parts-clause-cost g t c =
+    omega (arith, move_costs (searched_len (tree_in c.args.scope.now)) c.args.played.now, c.part_columns.ensures.cost)
+
+pub played::played_column-returns-in_err-goal-clause-cost : goal.played::played_column-returns-in_err-goal-clause-cost
+played::played_column-returns-in_err-goal-clause-cost g t c =
+    omega (arith, move_costs (searched_len (tree_in c.args.scope.now)) c.args.played.now, c.part_columns.ensures.cost, c.written_column.ensures.cost)
+
+pub played::played_column-returns-clause-cost : goal.played::played_column-returns-clause-cost
+played::played_column-returns-clause-cost g t c =
+    omega (arith, move_costs (searched_len (tree_in c.args.scope.now)) c.args.played.now, c.part_columns.ensures.cost, c.written_column.ensures.cost)
+
 pub played::part_columns-returns-clause-value : goal.played::part_columns-returns-clause-value
 played::part_columns-returns-clause-value g t c =
     let tree = tree_in c.args.scope.now in
@@ -442,6 +640,12 @@ covers::cover-returns-then-is_own-clause-cut = covers.covers::cover-returns-then
 
 pub covers::cover-returns-in_ok-cover_played-in-Played-clause-cut : goal.covers::cover-returns-in_ok-cover_played-in-Played-clause-cut
 covers::cover-returns-in_ok-cover_played-in-Played-clause-cut = covers.covers::cover-returns-in_ok-cover_played-in-Played-clause-cut
+
+pub covers::cover-returns-in-Chain-clause-cut : goal.covers::cover-returns-in-Chain-clause-cut
+covers::cover-returns-in-Chain-clause-cut = covers.covers::cover-returns-in-Chain-clause-cut
+
+pub covers::cover_set-returns-in-Chain-clause-cut : goal.covers::cover_set-returns-in-Chain-clause-cut
+covers::cover_set-returns-in-Chain-clause-cut = covers.covers::cover_set-returns-in-Chain-clause-cut
 
 pub cover_moves::cover_played-returns-clause-cut : goal.cover_moves::cover_played-returns-clause-cut
 cover_moves::cover_played-returns-clause-cut = covers.cover_moves::cover_played-returns-clause-cut

@@ -1,5 +1,7 @@
 -- What is answered of squares that are worth trying, in the recursion over filters.
 use Rattle.std.proofs.Common.{[], ◌∷◌, ◌∙◌, ap, ap₂, sym, subst, arith, refl, false}
+use Rattle.std.specs.Prelude.{OnOk}
+use Rattle.std.proofs.Math.Path.{fun_ext}
 use Rattle.std.proofs.lemmas.Result.{on_ok_weaker}
 use Rattle.cql_syntax.specs.Meaning.{value, values}
 use Rattle.cql_syntax.specs.TreeOf.{filter_tree, form_tree, filters_tree, written_tree}
@@ -7,8 +9,9 @@ use Rattle.cql_syntax.specs.Trees.{filter_at, unary}
 use Rattle.cql_syntax.specs.Values.{holds, some_holds, square_of}
 use Rattle.cql_columns.specs.Scopes.{tree_in}
 use Rattle.cql_eval.proofs.FlatLaw.{filter_flat}
+use Rattle.cql_eval.proofs.FormLaws.{chain_form}
 use Rattle.cql_syntax.specs.Trees.{pair}
-use Rattle.cql_columns.specs.Covers.{AreAdded, AreCut, AreJoined, HasSome, MayHold}
+use Rattle.cql_columns.specs.Covers.{AreAdded, AreCut, AreJoined, HasSome, MayHave, MayHold}
 use Rattle.cql_columns.specs.Trees.{AreBeforeLive}
 use Rattle.cql_columns.proofs.CoverSome.{added_all, added_by, added_more, added_none, or_cut, some_cut}
 use Rattle.cql_columns.proofs.PairLaw.{paired_cut}
@@ -256,3 +259,19 @@ cover_some::add_covered-returns-clause-added g t c =
       c.cover.ensures.len,
       c.deref_mut.ensures.len,
     ))) c.add_sets.ensures)
+
+pub covers::cover-returns-in-Chain-clause-cut : goal.covers::cover-returns-in-Chain-clause-cut
+covers::cover-returns-in-Chain-clause-cut g t c =
+    subst (λ v. OnOk c.cover_chain.result (AreCut c.args.trial.now.live.now (MayHold c.args.trial.now.opened.now c.args.trial.now.scope.now.names.now c.args.trial.now.name.now v)
+    c.args.sets.now c.cover_chain.new.sets))
+    (fun_ext (λ e. chain_form (tree_in c.args.trial.now.scope.now) e (filter_tree c.args.asked.now) c.args.asked.now.at c.in-Chain.chain (filters_tree c.in-Chain.parts)
+    (ap (λ form. filter_at c.args.asked.now.at (form_tree form)) c.in-Chain.is)))
+    c.cover_chain.ensures.cut
+
+pub covers::cover_set-returns-in-Chain-clause-cut : goal.covers::cover_set-returns-in-Chain-clause-cut
+covers::cover_set-returns-in-Chain-clause-cut g t c =
+    subst (λ v. OnOk c.cover_common.result (AreCut c.args.trial.now.live.now (MayHave c.args.trial.now.opened.now c.args.trial.now.scope.now.names.now c.args.trial.now.name.now v)
+    c.args.sets.now c.cover_common.new.sets))
+    (fun_ext (λ e. chain_form (tree_in c.args.trial.now.scope.now) e (filter_tree c.args.asked.now) c.args.asked.now.at c.in-Chain.chain (filters_tree c.in-Chain.parts)
+    (ap (λ form. filter_at c.args.asked.now.at (form_tree form)) c.in-Chain.is)))
+    c.cover_common.ensures.cut

@@ -6,7 +6,7 @@ use Rattle.cql_syntax.specs.Meaning.{marked}
 use Rattle.cql_syntax.specs.TreeOf.{filter_tree, parts_tree, body_tree}
 use Rattle.cql_syntax.specs.Trees.{atom}
 use Rattle.cql_columns.specs.Scopes.{tree_in, value_in, body_in}
-use Rattle.cql_columns.specs.Costs.{body_atoms, searched_len}
+use Rattle.cql_columns.specs.Costs.{filter_cost, body_cost, body_atoms, searched_len}
 use Rattle.cql_columns.specs.LineAtoms.{AreAllAsked, body_numbered}
 use Rattle.cql_columns.specs.SpelledParts.{IsLive, EndsHere}
 use Rattle.cql_columns.proofs.SpelledAlike.{all_never, wide_leads_at, wide_ends_at, group_leads_at, leads_at, ends_at, onward_at, not_met, group_ends}
@@ -15,7 +15,7 @@ use Rattle.cql_columns.proofs.LineTables.{table_begun, table_more, table_all, en
 use Rattle.cql_columns.proofs.LinesLaw.{held_put, no_line, parts_cost_more, parts_cost_within, atoms_within}
 use Rattle.cql_columns.proofs.LineAtoms.{part_flat}
 use Rattle.cql_columns.proofs.LineTables.{part_room}
-use Rattle.cql_eval.proofs.FormLaws.{IfOk_then}
+use Rattle.cql_eval.proofs.FormLaws.{IfOk_then, within}
 use Rattle.cql_eval.proofs.evaluate.+evaluate.Goals as goal
 
 pub lines::filled_row-returns-clause-never : goal.lines::filled_row-returns-clause-never
@@ -225,3 +225,48 @@ lines::line_column-returns-clause-cost g t c = c.spelled_column.ensures.cost _ c
 pub lines::line_column-returns-in_err-row-clause-cost : goal.lines::line_column-returns-in_err-row-clause-cost
 lines::line_column-returns-in_err-row-clause-cost g t c =
     atoms_within (searched_len (tree_in c.args.scope.now)) c.args.line.now _ c.filled_row.new.steps c.filled_row.ensures.cost
+
+pub lines::put_wherever-returns-in_err-column-in-Atom-clause-cost : goal.lines::put_wherever-returns-in_err-column-in-Atom-clause-cost
+unfolding filter_cost
+lines::put_wherever-returns-in_err-column-in-Atom-clause-cost g t c =
+    within _ _ _ _ (ap (body_cost (searched_len (tree_in c.args.way.now.scope.now))) (ap body_tree c.in-Atom.is ∙ ap (λ p. atom (filter_tree p)) (sym c.deref.ensures))) c.evaluate.ensures.cost
+
+pub lines::put_wherever-returns-in_err-held-in-Atom-clause-cost : goal.lines::put_wherever-returns-in_err-held-in-Atom-clause-cost
+unfolding filter_cost
+lines::put_wherever-returns-in_err-held-in-Atom-clause-cost g t c =
+    within _ _ _ _ (ap (body_cost (searched_len (tree_in c.args.way.now.scope.now))) (ap body_tree c.in-Atom.is ∙ ap (λ p. atom (filter_tree p)) (sym c.deref.ensures))) c.evaluate.ensures.cost
+
+pub lines::put_wherever-returns-in_ok-held-in-Atom-clause-cost : goal.lines::put_wherever-returns-in_ok-held-in-Atom-clause-cost
+unfolding filter_cost
+lines::put_wherever-returns-in_ok-held-in-Atom-clause-cost g t c =
+    within _ _ _ _ (ap (body_cost (searched_len (tree_in c.args.way.now.scope.now))) (ap body_tree c.in-Atom.is ∙ ap (λ p. atom (filter_tree p)) (sym c.deref.ensures))) c.evaluate.ensures.cost
+
+pub lines::put_wherever-returns-in-Group-clause-cost : goal.lines::put_wherever-returns-in-Group-clause-cost
+unfolding filter_cost
+lines::put_wherever-returns-in-Group-clause-cost g t c =
+    within _ _ _ _ (ap (body_cost (searched_len (tree_in c.args.way.now.scope.now))) (ap body_tree c.in-Group.is)) c.put_row.ensures.cost
+
+pub lines::put_once-returns-in_err-behind-in-Atom-clause-cost : goal.lines::put_once-returns-in_err-behind-in-Atom-clause-cost
+unfolding filter_cost
+lines::put_once-returns-in_err-behind-in-Atom-clause-cost g t c =
+    within _ _ _ _ (ap (body_cost (searched_len (tree_in c.args.way.now.scope.now))) (ap body_tree c.in-Atom.is ∙ ap (λ p. atom (filter_tree p)) (sym c.deref.ensures))) c.put_atom_once.ensures.cost
+
+pub lines::put_once-returns-in_ok-behind-in-Atom-clause-cost : goal.lines::put_once-returns-in_ok-behind-in-Atom-clause-cost
+unfolding filter_cost
+lines::put_once-returns-in_ok-behind-in-Atom-clause-cost g t c =
+    within _ _ _ _ (ap (body_cost (searched_len (tree_in c.args.way.now.scope.now))) (ap body_tree c.in-Atom.is ∙ ap (λ p. atom (filter_tree p)) (sym c.deref.ensures))) c.put_atom_once.ensures.cost
+
+pub lines::put_once-returns-in_err-next-in-Group-clause-cost : goal.lines::put_once-returns-in_err-next-in-Group-clause-cost
+unfolding filter_cost
+lines::put_once-returns-in_err-next-in-Group-clause-cost g t c =
+    within _ _ _ _ (ap (body_cost (searched_len (tree_in c.args.way.now.scope.now))) (ap body_tree c.in-Group.is)) c.put_row.ensures.cost
+
+pub lines::put_once-returns-in_err-starts-in-Group-clause-cost : goal.lines::put_once-returns-in_err-starts-in-Group-clause-cost
+unfolding filter_cost
+lines::put_once-returns-in_err-starts-in-Group-clause-cost g t c =
+    within _ _ _ _ (ap (body_cost (searched_len (tree_in c.args.way.now.scope.now))) (ap body_tree c.in-Group.is)) c.put_row.ensures.cost
+
+pub lines::put_once-returns-in_ok-starts-in-Group-clause-cost : goal.lines::put_once-returns-in_ok-starts-in-Group-clause-cost
+unfolding filter_cost
+lines::put_once-returns-in_ok-starts-in-Group-clause-cost g t c =
+    within _ _ _ _ (ap (body_cost (searched_len (tree_in c.args.way.now.scope.now))) (ap body_tree c.in-Group.is)) c.put_row.ensures.cost
