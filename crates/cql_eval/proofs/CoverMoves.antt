@@ -1,13 +1,13 @@
 -- Of a move the parts in which no open name stands.
-use Rattle.std.proofs.Common.{◌≡◌, ℕ, ◌&&◌, Bool, true, false, List, [], Option, Some, None, option_map, get_or, refl, sym, ap, ◌∙◌}
+use Rattle.std.proofs.Common.{◌≡◌, ℕ, ◌&&◌, Bool, true, List, [], Option, Some, None, option_map, refl, sym, ap, ◌∙◌}
 use Rattle.cq_position.specs.Led.{PlainLed, led_to}
 use Rattle.cq_position.specs.Search.{SearchedTree}
 use Rattle.cql_syntax.specs.Meaning.{Names, meets, meets_all, goal_if, before, played_value, written_value}
 use Rattle.cql_syntax.specs.Trees.{WrittenTree}
 use Rattle.cql_syntax.specs.TreeOf.{played_tree}
-use Rattle.cql_syntax.specs.Values.{Value, as_truth, holds}
+use Rattle.cql_syntax.specs.Values.{Value, as_truth}
 use Rattle.cql_syntax.specs.declared.tree.Played.{Played}
-use Rattle.cql_columns.specs.Columns.{is_live, shown}
+use Rattle.cql_columns.specs.Columns.{shown}
 use Rattle.cql_columns.specs.Covers.{AreCut, AsksNoMore, HasSome, IsFreePart, MayHold}
 use Rattle.cql_columns.specs.Trees.{AreBeforeLive}
 use Rattle.cql_columns.specs.declared.filter_column.FilterColumn.{FilterColumn}
@@ -38,22 +38,21 @@ meets_less (Some l) a b c d w x y z e f g h all =
     (g l.taken (second_true (meets a (Some l.origin) && meets b (Some l.goal)) (meets c l.taken) three)))
     (h (goal_if l.promoted l.goal) (second_true (meets a (Some l.origin) && meets b (Some l.goal) && meets c l.taken) (meets d (goal_if l.promoted l.goal)) all))
 
-pub free_parts_cut : (tree : SearchedTree) (live some wide : List Bool) (opened outer : Names) (given : List ℕ) (p : Played) (origin goal taken promoted : Option FilterColumn) (met : List Bool) (old new : List ℕ)
+pub free_parts_cut : (tree : SearchedTree) (live some wide : List Bool) (opened outer : Names) (given : List ℕ) (p : Played) (origin goal taken promoted : Option FilterColumn) (old new : List ℕ)
     → HasSome tree live old some → AreBeforeLive tree some wide → AsksNoMore tree opened outer (origin_of p) wide origin → AsksNoMore tree opened outer (goal_of p) some goal
     → AsksNoMore tree opened outer (taken_of p) wide taken → AsksNoMore tree opened outer (promoted_of p) some promoted
-    → ((n : ℕ) → get_or met n false ≡ (is_live some n && meets_all (led_to tree.game.nodes n) (option_map (λ c. shown c (before tree n)) origin) (option_map (λ c. shown c n) goal)
-    (option_map (λ c. shown c (before tree n)) taken) (option_map (λ c. shown c n) promoted)))
-    → AreCut some (λ n s. holds (as_truth (get_or met n false)) ≡ true) old new
+    → AreCut some (λ n s. meets_all (led_to tree.game.nodes n) (option_map (λ c. shown c (before tree n)) origin) (option_map (λ c. shown c n) goal)
+    (option_map (λ c. shown c (before tree n)) taken) (option_map (λ c. shown c n) promoted) ≡ true) old new
     → AreCut live (MayHold opened outer given (λ e n. as_truth (played_value tree [] e (played_tree p) n))) old new
-free_parts_cut tree live some wide opened outer given p origin goal taken promoted met old new has befores first second third fourth is cut =
+free_parts_cut tree live some wide opened outer given p origin goal taken promoted old new has befores first second third fourth cut =
     cut_wide tree live some (MayHold opened outer given (λ e n. as_truth (played_value tree [] e (played_tree p) n))) old new has
-    (cut_as some (MayHold opened outer given (λ e n. as_truth (played_value tree [] e (played_tree p) n))) (λ n s. holds (as_truth (get_or met n false)) ≡ true) old new
-    (λ n s a m. is n ∙ yes_both (is_live some n) (meets_all (led_to tree.game.nodes n) (option_map (λ c. shown c (before tree n)) origin) (option_map (λ c. shown c n) goal)
-    (option_map (λ c. shown c (before tree n)) taken) (option_map (λ c. shown c n) promoted)) a
-    (meets_less (led_to tree.game.nodes n) (written_value tree [] m.inner (origin_of p) (before tree n)) (written_value tree [] m.inner (goal_of p) n)
+    (cut_as some (MayHold opened outer given (λ e n. as_truth (played_value tree [] e (played_tree p) n)))
+    (λ n s. meets_all (led_to tree.game.nodes n) (option_map (λ c. shown c (before tree n)) origin) (option_map (λ c. shown c n) goal)
+    (option_map (λ c. shown c (before tree n)) taken) (option_map (λ c. shown c n) promoted) ≡ true) old new
+    (λ n s a m. meets_less (led_to tree.game.nodes n) (written_value tree [] m.inner (origin_of p) (before tree n)) (written_value tree [] m.inner (goal_of p) n)
     (written_value tree [] m.inner (taken_of p) (before tree n)) (written_value tree [] m.inner (promoted_of p) n)
     (option_map (λ c. shown c (before tree n)) origin) (option_map (λ c. shown c n) goal) (option_map (λ c. shown c (before tree n)) taken) (option_map (λ c. shown c n) promoted)
     (λ q h. first.each (before tree n) m.inner (befores.covers n a) m.agree q h) (λ q h. second.each n m.inner a m.agree q h)
     (λ q h. third.each (before tree n) m.inner (befores.covers n a) m.agree q h) (λ q h. fourth.each n m.inner a m.agree q h)
-    (sym (move_value tree m.inner p n) ∙ m.holds_there)))
+    (sym (move_value tree m.inner p n) ∙ m.holds_there))
     cut)

@@ -215,11 +215,15 @@ sort_each tree asked left later c f part at least text is within column numbered
     by true x y e = ap (λ z. is_some (amount z)) (e refl)
     by false x y e = refl
 
-pub sort_keys : {A : Type 0} (f : A → List (Option ℤ)) (tree : SearchedTree) (asked : List Bool) (old new : List A) (row : A)
+pub row_added : {A : Type 0} (f : A → List (Option ℤ)) (old new : List A) (row : A) (numbers : List (Option ℤ)) → new ≡ old ++ row ∷ [] → f row ≡ numbers
+    → map f new ≡ map f old ++ numbers ∷ []
+row_added f old new row numbers more is = ap (map f) more ∙ map_append f old (row ∷ []) ∙ ap (λ r. map f old ++ r ∷ []) is
+
+pub sort_keys : {A : Type 0} (f : A → List (Option ℤ)) (tree : SearchedTree) (asked : List Bool) (old new : List A) (row : List (Option ℤ))
     (item part : FilterTree) (at : ℕ) (least : Bool) (text : List ℕ) → item ≡ filter_at at (sort least text part)
-    → new ≡ old ++ row ∷ [] → f row ≡ key_row_of tree asked part → map f new ≡ map f old ++ map (key_row_of tree asked) (item_numbers item)
+    → map f new ≡ map f old ++ row ∷ [] → row ≡ key_row_of tree asked part → map f new ≡ map f old ++ map (key_row_of tree asked) (item_numbers item)
 sort_keys f tree asked old new row item part at least text is more is_row =
-    ap (map f) more ∙ map_append f old (row ∷ []) ∙ ap (λ r. map f old ++ r ∷ []) is_row ∙ ap (λ g. map f old ++ map (key_row_of tree asked) (item_numbers g)) (sym is)
+    more ∙ ap (λ r. map f old ++ r ∷ []) is_row ∙ ap (λ g. map f old ++ map (key_row_of tree asked) (item_numbers g)) (sym is)
 
 -- another item
 pub item_each : (left later : List Bool) (c : FilterColumn) (v : ℕ → Value) → IsColumn c left v → IsNarrowed left c true later → (n : ℕ) → is_live later n ≡ (is_live left n && holds (v n))

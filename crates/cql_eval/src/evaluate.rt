@@ -6,13 +6,14 @@ ghost use Rattle.cql_syntax.specs.Meaning as meaning;
 ghost use Rattle.cql_syntax.specs.TreeOf.{filter_tree, filters_tree, terms_tree, played_tree, written_tree, line_tree};
 ghost use Rattle.cql_syntax.specs.Values as spec;
 ghost use Rattle.cql_columns.specs.Asked.{AreUnsettled};
-ghost use Rattle.cql_columns.specs.Columns.{AreAsked, AreTruths, IsColumn, Where, shown, all_shown, terms_shown};
+ghost use Rattle.cql_columns.specs.Columns.{AreAsked, AreTruths, IsColumn, Where, is_so, shown, all_shown, terms_shown};
 ghost use Rattle.cql_columns.specs.Costs.{filter_cost, filters_cost, terms_cost, played_cost, written_cost, line_cost, searched_len};
 ghost use Rattle.cql_columns.specs.Elsewhere.{asks_elsewhere};
 ghost use Rattle.cql_columns.specs.FlatTrees.{IsFlat, AreFlat, AreFlatTerms, IsFlatMove, IsFlatPart, IsFlatLine};
 ghost use Rattle.cql_columns.specs.Scopes.{tree_in, value_in, values_in};
 
 mod chains;
+mod columns;
 mod cover_moves;
 mod cover_some;
 mod cover_squares;
@@ -24,25 +25,25 @@ mod squares;
 mod trial;
 
 pub(crate) use chains::left_by;
-use chains::{all_hold, columns_of, none_holds, terms_of};
+use chains::{all_column, columns_of, some_column, terms_of};
+use columns::{
+    any_values_column, chain_values_column, chosen_column, found_column, here_column,
+    numbered_column, reached_column, standing_column, sum_column, word_column,
+};
 use cq_outside::{NoMemory, Steps};
 use cql_columns::binding::Binding;
-use cql_columns::combine::{
-    any_values, chain_values, chosen, negated, numbered, pair_column, reached_values, sum_values,
-    unary_values,
-};
-use cql_columns::elsewhere::{found_from, looked_at, looks_elsewhere};
+use cql_columns::combine::pair_column;
+use cql_columns::elsewhere::{looked_at, looks_elsewhere};
 use cql_columns::filter_column::FilterColumn;
-use cql_columns::leaves::{standing_sets, word_values};
-use cql_columns::nodes::{any_live, narrowed, part_of};
+use cql_columns::nodes::{any_live, part_of};
 use cql_columns::scope::Scope;
 use cql_syntax::{Chain, Filter, Filters, Form, Kind, Unary};
 use cql_values::headers::{has_text, is_result, rating};
 use cql_values::numbers::counted;
 use cql_values::value::Value;
 use cql_values::words::directions;
-use lines::line_numbers;
-use played::played_truths;
+use lines::line_column;
+use played::played_column;
 use squares::asked_truths;
 use std::alloc::Global;
 use std::sync::ledger::Ledger;
@@ -69,16 +70,10 @@ pub(crate) fn evaluate<L: Ledger>(
         return Ok(FilterColumn::Same(Value::Truth(false)));
     }
     match &f.form {
-        Form::Squares(d) => {
-            let sets = standing_sets(alloc, d, scope, live)?;
-            Ok(FilterColumn::Sets(sets))
-        }
+        Form::Squares(d) => standing_column(alloc, d, scope, live),
         Form::Number(number) => Ok(FilterColumn::Same(counted(*number))),
         Form::Name(name) => Ok(FilterColumn::Same(scope.names.squares_of(name.as_slice()))),
-        Form::Plain(word) => {
-            let values = word_values(alloc, *word, scope, live)?;
-            Ok(FilterColumn::Values(values))
-        }
+        Form::Plain(word) => word_column(alloc, *word, scope, live),
         Form::Tagged(field, text) => {
             let holds = has_text(scope.game, *field, text.as_slice());
             Ok(FilterColumn::Same(Value::Truth(holds)))
@@ -91,14 +86,12 @@ pub(crate) fn evaluate<L: Ledger>(
         Form::Unary(word, part) => { unary_column(alloc, *word, part, scope, live, steps) }
         Form::Steps(way, m, n, part) => {
             let column = evaluate(alloc, part, scope, live, steps)?;
-            let values = reached_values(alloc, directions(*way), *m, *n, &column, live)?;
-            Ok(FilterColumn::Values(values))
+            reached_column(alloc, directions(*way), *m, *n, &column, live)
         }
         Form::Chain(chain, parts) => { chain_column(alloc, *chain, parts, scope, live, steps) }
         Form::Sum(terms) => {
             let columns = terms_of(alloc, terms, scope, live, steps)?;
-            let values = sum_values(alloc, columns.as_slice(), live)?;
-            Ok(FilterColumn::Values(values))
+            sum_column(alloc, columns.as_slice(), live)
         }
         Form::Pair(pair, first, second) => {
             let first = evaluate(alloc, first, scope, live, steps)?;
@@ -107,12 +100,9 @@ pub(crate) fn evaluate<L: Ledger>(
         }
         Form::If(condition, then, otherwise) => {
             let first = evaluate(alloc, condition, scope, live, steps)?;
-            let held = part_of(alloc, scope, live, &first, true)?;
-            let second = evaluate(alloc, then, scope, &held, steps)?;
-            let failed = part_of(alloc, scope, live, &first, false)?;
-            let third = evaluate(alloc, otherwise, scope, &failed, steps)?;
-            let truths = chosen(alloc, &first, &second, &third, live)?;
-            Ok(FilterColumn::Truths(truths))
+            let second = column_where(alloc, true, &first, then, scope, live, steps)?;
+            let third = column_where(alloc, false, &first, otherwise, scope, live, steps)?;
+            chosen_column(alloc, &first, &second, &third, live)
         }
         Form::Square(every, name, squares, asked) => {
             let squares = evaluate(alloc, squares, scope, live, steps)?;
@@ -125,24 +115,40 @@ pub(crate) fn evaluate<L: Ledger>(
             let truths = asked_truths(alloc, &binding, asked, live, steps)?;
             Ok(FilterColumn::Truths(truths))
         }
-        Form::Played(played) => {
-            let truths = played_truths(alloc, played, scope, live, steps)?;
-            Ok(FilterColumn::Truths(truths))
-        }
+        Form::Played(played) => played_column(alloc, played, scope, live, steps),
         Form::Sort(.., part) => {
             let column = evaluate(alloc, part, scope, live, steps)?;
-            let truths = numbered(alloc, &column, live)?;
-            Ok(FilterColumn::Truths(truths))
+            numbered_column(alloc, &column, live)
         }
         Form::Comment(_) => Ok(FilterColumn::Same(Value::Truth(true))),
         Form::Any(kind, parts) => { any_column(alloc, *kind, parts, scope, live, steps) }
-        Form::Line(line) => {
-            let numbers = line_numbers(alloc, line, scope, live, steps)?;
-            Ok(FilterColumn::Numbers(numbers))
-        }
+        Form::Line(line) => line_column(alloc, line, scope, live, steps),
         // No family is in a flat query.
         Form::Transform(..) => Ok(FilterColumn::Same(Value::Truth(false))),
     }
+}
+
+// What a part gives where a column holds, or where it doesn't; elsewhere it isn't asked.
+#[cycle(evaluate)]
+fn column_where<L: Ledger>(
+    alloc: Global,
+    want: bool,
+    first: &FilterColumn,
+    part: &Filter,
+    scope: &Scope,
+    live: &[bool],
+    steps: &mut Steps<L>,
+) -> Result<FilterColumn, NoMemory>
+    requires tree { IsTree scope.now.game.now.nodes }
+    requires asked { AreAsked (tree_in scope.now) live.now }
+    requires flat { IsFlat (filter_tree part.now) }
+    ensures value { IfOk result (λ c. Where live.now (λ n. is_so want (spec.holds (shown first.now n)) ≡ true
+        → shown c n ≡ value_in scope.now (filter_tree part.now) n)) }
+    ensures cost { steps.new ≤ steps.old + filter_cost (searched_len (tree_in scope.now)) (filter_tree part.now) }
+    ensures rises { steps.old ≤ steps.new }
+{
+    let there = part_of(alloc, scope, live, first, want)?;
+    evaluate(alloc, part, scope, &there, steps)
 }
 
 /// What a word or mark before a part gives.
@@ -166,18 +172,8 @@ fn unary_column<L: Ledger>(
     if looks_elsewhere(word) {
         return elsewhere_column(alloc, word, part, scope, live, steps);
     }
-    match word {
-        Unary::Not => {
-            let column = evaluate(alloc, part, scope, live, steps)?;
-            let truths = negated(alloc, &column, live)?;
-            Ok(FilterColumn::Truths(truths))
-        }
-        _ => {
-            let column = evaluate(alloc, part, scope, live, steps)?;
-            let values = unary_values(alloc, word, scope, &column, live)?;
-            Ok(FilterColumn::Values(values))
-        }
-    }
+    let column = evaluate(alloc, part, scope, live, steps)?;
+    here_column(alloc, word, scope, &column, live)
 }
 
 /// What a word gives that asks its part at other nodes.
@@ -200,10 +196,9 @@ fn elsewhere_column<L: Ledger>(
     ensures rises { steps.old ≤ steps.new }
 {
     let wide = looked_at(alloc, word, scope, live)?;
-    let column = evaluate(alloc, part, scope, &wide, steps)?;
-    let set = narrowed(alloc, &wide, &column, true)?;
-    let found = found_from(alloc, word, scope.game, set)?;
-    Ok(FilterColumn::Truths(found))
+    let wide = wide.as_slice();
+    let column = evaluate(alloc, part, scope, wide, steps)?;
+    found_column(alloc, word, scope, wide, &column)
 }
 
 /// What a filter of any number of parts gives.
@@ -225,19 +220,11 @@ fn chain_column<L: Ledger>(
     ensures rises { steps.old ≤ steps.new }
 {
     match chain {
-        Chain::And | Chain::All => {
-            let truths = all_hold(alloc, parts, scope, live, steps)?;
-            Ok(FilterColumn::Truths(truths))
-        }
-        Chain::Or => {
-            let fails = none_holds(alloc, parts, scope, live, steps)?;
-            let truths = negated(alloc, &FilterColumn::Truths(fails), live)?;
-            Ok(FilterColumn::Truths(truths))
-        }
-        Chain::Union | Chain::Intersect | Chain::Product | Chain::Max | Chain::Min => {
+        Chain::And | Chain::All => all_column(alloc, parts, scope, live, steps),
+        Chain::Or => some_column(alloc, parts, scope, live, steps),
+        _ => {
             let columns = columns_of(alloc, parts, scope, live, steps)?;
-            let values = chain_values(alloc, chain, columns.as_slice(), live)?;
-            Ok(FilterColumn::Values(values))
+            chain_values_column(alloc, chain, columns.as_slice(), live)
         }
     }
 }
@@ -261,15 +248,10 @@ fn any_column<L: Ledger>(
     ensures rises { steps.old ≤ steps.new }
 {
     match kind {
-        Kind::Position => {
-            let fails = none_holds(alloc, parts, scope, live, steps)?;
-            let truths = negated(alloc, &FilterColumn::Truths(fails), live)?;
-            Ok(FilterColumn::Truths(truths))
-        }
-        Kind::Set | Kind::Number => {
+        Kind::Position => some_column(alloc, parts, scope, live, steps),
+        _ => {
             let columns = columns_of(alloc, parts, scope, live, steps)?;
-            let values = any_values(alloc, kind, columns.as_slice(), live)?;
-            Ok(FilterColumn::Values(values))
+            any_values_column(alloc, kind, columns.as_slice(), live)
         }
     }
 }

@@ -1,5 +1,5 @@
 //! The column of a query.
-ghost use Rattle.std.specs.Prelude.{◌≡◌, ℕ, ◌+◌, ◌≤◌, ◌<◌, ◌&&◌, ◌++◌, [], length, map, get_or, count_by, false, true, None, IfOk, OnOk, if◌then◌else◌};
+ghost use Rattle.std.specs.Prelude.{◌≡◌, ℕ, ◌+◌, ◌≤◌, ◌<◌, ◌&&◌, ◌++◌, ◌∷◌, [], length, map, get_or, count_by, false, true, None, IfOk, OnOk, if◌then◌else◌};
 ghost use Rattle.std.specs.List.{range_with_len};
 ghost use Rattle.cq_position.specs.Games.{IsTree};
 ghost use Rattle.cq_position.specs.Search.{nodes_in};
@@ -175,8 +175,7 @@ fn sort_by<L: Ledger>(
     match &item.form {
         Form::Sort(.., number) => {
             let column = evaluate(alloc, number, scope, left, steps)?;
-            let row = key_row(alloc, &column, left)?;
-            keys.push(row)?;
+            push_row(alloc, &column, left, keys)?;
             keep_numbered(left, &column);
             Ok(())
         }
@@ -212,8 +211,7 @@ fn narrowed_by<L: Ledger>(
     match &item.form {
         Form::Sort(.., number) => {
             let column = evaluate(alloc, number, scope, asked, steps)?;
-            let row = key_row(alloc, &column, asked)?;
-            keys.push(row)?;
+            push_row(alloc, &column, asked, keys)?;
             let later = numbered(alloc, &column, left)?;
             Ok(later)
         }
@@ -223,6 +221,21 @@ fn narrowed_by<L: Ledger>(
             Ok(later)
         }
     }
+}
+
+// Adds the numbers of a column at the nodes that are asked for, and none at others.
+fn push_row(
+    alloc: Global,
+    column: &FilterColumn,
+    live: &[bool],
+    keys: &mut Vec<Vec<Option<i64>>>,
+) -> Result<(), NoMemory>
+    ensures { OnOk result (map (λ row. row.items) keys.new.items ≡ map (λ row. row.items) keys.old.items
+        ++ (map (λ n. if is_live live.now n then amount (shown column.now n) else None) (range_with_len 0 (length live.now)) ∷ [])) }
+{
+    let row = key_row(alloc, column, live)?;
+    keys.push(row)?;
+    Ok(())
 }
 
 // The numbers of a column at the nodes that are asked for, and none at others.

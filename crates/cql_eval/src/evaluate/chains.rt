@@ -1,17 +1,17 @@
 //! The columns of the parts of a filter.
-ghost use Rattle.std.specs.Prelude.{◌≡◌, ℕ, ◌≤◌, ◌+◌, [], length, true, false, get_or, not, IfOk, OnOk};
-ghost use Rattle.std.specs.List.{list_any};
+ghost use Rattle.std.specs.Prelude.{◌≡◌, ℕ, ◌≤◌, ◌+◌, [], length, true, false, IfOk, OnOk};
 ghost use Rattle.cq_position.specs.Games.{IsTree};
 ghost use Rattle.cql_syntax.specs.Meaning as meaning;
 ghost use Rattle.cql_syntax.specs.TreeOf.{filter_tree, filters_tree, filters_in, terms_tree};
 ghost use Rattle.cql_syntax.specs.Values as spec;
 ghost use Rattle.cql_columns.specs.Classes.{is_of, is_before, is_so_if, are_so, cost_if, cost_of, AreAmong, IsLeft};
-ghost use Rattle.cql_columns.specs.Columns.{AreAsked, AreTruths, Where, all_shown, terms_shown};
+ghost use Rattle.cql_columns.specs.Columns.{AreAsked, IsColumn, Where, all_shown, terms_shown};
 ghost use Rattle.cql_columns.specs.Costs.{filters_cost, terms_cost, searched_len};
 ghost use Rattle.cql_columns.specs.Ever.{AreEver};
 ghost use Rattle.cql_columns.specs.FlatTrees.{IsFlat, AreFlat, AreFlatTerms};
 ghost use Rattle.cql_columns.specs.Scopes.{tree_in, values_in};
 
+use super::columns::negated_column;
 use super::evaluate;
 use cq_outside::{NoMemory, Steps};
 use cql_columns::ever::{Asking, evers_of, fails_anyway};
@@ -27,44 +27,44 @@ use std::sync::ledger::Ledger;
 
 /// Whether all of some filters hold.
 #[cycle(evaluate)]
-pub(super) fn all_hold<L: Ledger>(
+pub(super) fn all_column<L: Ledger>(
     alloc: Global,
     filters: &Filters,
     scope: &Scope,
     live: &[bool],
     steps: &mut Steps<L>,
-) -> Result<Vec<bool>, NoMemory>
+) -> Result<FilterColumn, NoMemory>
     requires tree { IsTree scope.now.game.now.nodes }
     requires asked { AreAsked (tree_in scope.now) live.now }
     requires flat { AreFlat (filters_tree filters.now) }
-    ensures value { IfOk result (λ truths. AreTruths truths.items live.now
+    ensures value { IfOk result (λ c. IsColumn c live.now
         (λ n. spec.all_hold (values_in scope.now (filters_tree filters.now) n))) }
     ensures cost { steps.new ≤ steps.old + filters_cost (searched_len (tree_in scope.now)) (filters_tree filters.now) }
     ensures rises { steps.old ≤ steps.new }
 {
     let left = left_by(alloc, CLASSES, true, filters, scope, live, steps)?;
-    Ok(left)
+    Ok(FilterColumn::Truths(left))
 }
 
-/// Whether none of some filters holds.
+/// Whether some of several filters holds.
 #[cycle(evaluate)]
-pub(super) fn none_holds<L: Ledger>(
+pub(super) fn some_column<L: Ledger>(
     alloc: Global,
     filters: &Filters,
     scope: &Scope,
     live: &[bool],
     steps: &mut Steps<L>,
-) -> Result<Vec<bool>, NoMemory>
+) -> Result<FilterColumn, NoMemory>
     requires tree { IsTree scope.now.game.now.nodes }
     requires asked { AreAsked (tree_in scope.now) live.now }
     requires flat { AreFlat (filters_tree filters.now) }
-    ensures value { IfOk result (λ truths. AreTruths truths.items live.now (λ n. spec.as_truth (not
-        (list_any spec.holds (values_in scope.now (filters_tree filters.now) n))))) }
+    ensures value { IfOk result (λ c. IsColumn c live.now
+        (λ n. spec.some_holds (values_in scope.now (filters_tree filters.now) n))) }
     ensures cost { steps.new ≤ steps.old + filters_cost (searched_len (tree_in scope.now)) (filters_tree filters.now) }
     ensures rises { steps.old ≤ steps.new }
 {
-    let left = left_by(alloc, CLASSES, false, filters, scope, live, steps)?;
-    Ok(left)
+    let fails = left_by(alloc, CLASSES, false, filters, scope, live, steps)?;
+    negated_column(alloc, &FilterColumn::Truths(fails), live)
 }
 
 /// Of the nodes of a set those at which each filter of a class before `past` holds, or each doesn't: class by class, each filter where

@@ -1,14 +1,15 @@
 //! Squares that are worth trying for what is asked of the move that led to a node.
-ghost use Rattle.std.specs.Prelude.{◌≡◌, ℕ, [], length, true, IfOk, OnOk};
+ghost use Rattle.std.specs.Prelude.{◌≡◌, ℕ, [], length, option_map, true, IfOk, OnOk};
 ghost use Rattle.cq_position.specs.Games.{IsTree};
 ghost use Rattle.cql_syntax.specs.Meaning as meaning;
 ghost use Rattle.cql_syntax.specs.TreeOf.{played_tree, written_tree};
 ghost use Rattle.cql_syntax.specs.Values as spec;
-ghost use Rattle.cql_columns.specs.Columns.{AreAsked};
-ghost use Rattle.cql_columns.specs.Covers.{AsksNoMore};
+ghost use Rattle.cql_columns.specs.Columns.{AreAsked, shown};
+ghost use Rattle.cql_columns.specs.Covers.{AreCut, AsksNoMore};
 ghost use Rattle.cql_columns.specs.FlatTrees.{IsFlatMove, IsFlatPart};
+ghost use Rattle.cql_columns.specs.Moved.{is_as_asked};
 ghost use Rattle.cql_columns.specs.Scopes.{tree_in};
-ghost use Rattle.cql_eval.specs.Trials.{LeavesHolding};
+ghost use Rattle.cql_eval.specs.Trials.{AskNoMore, LeavesHolding};
 
 use super::played::written_column;
 use super::trial::Trial;
@@ -17,6 +18,7 @@ use cql_columns::covers::{cut_moves, cut_where_fails, with_squares};
 use cql_columns::filter_column::FilterColumn;
 use cql_columns::free::{is_free_and_written, is_own_part};
 use cql_columns::moves::{PartColumns, moves_met};
+use cql_columns::scope::Scope;
 use cql_columns::tree::befores;
 use cql_syntax::{Filter, Played};
 use cql_values::names::Names;
@@ -73,20 +75,58 @@ fn cover_free_parts<L: Ledger>(
     }
     let some = with_squares(alloc, trial.scope, trial.live, sets)?;
     let some = some.as_slice();
-    let wide = befores(alloc, trial.scope, some)?;
+    let parts = free_columns(alloc, trial, played, some, steps)?;
+    let goal = free_column(alloc, trial, &played.goal, some, steps)?;
+    cut_unmet(alloc, trial.scope, &parts, &goal, some, sets)
+}
+
+// Leaves squares at those nodes of a set alone to which a move led that is as columns ask.
+fn cut_unmet(
+    alloc: Global,
+    scope: &Scope,
+    parts: &PartColumns,
+    goal: &Option<FilterColumn>,
+    live: &[bool],
+    sets: &mut [u64],
+) -> Result<(), NoMemory>
+    requires tree { IsTree scope.now.game.now.nodes }
+    requires asked { AreAsked (tree_in scope.now) live.now }
+    requires count { length sets.old ≡ length live.now }
+    ensures cut { OnOk result (AreCut live.now
+        (λ n s. is_as_asked (tree_in scope.now) parts.now (option_map (λ c. shown c n) goal.now) n ≡ true) sets.old sets.new) }
+    ensures len { length sets.new ≡ length sets.old }
+{
+    let met = moves_met(alloc, scope, parts, goal, live)?;
+    cut_where_fails(sets, live, &FilterColumn::Truths(met));
+    Ok(())
+}
+
+// The columns of the parts of a move, its goal aside, for the moves that led to the nodes of a set: of those in which no open name stands.
+#[cycle(evaluate)]
+#[tactic(auto, unfolding(cql_columns::specs::FlatTrees::unflat))]
+fn free_columns<L: Ledger>(
+    alloc: Global,
+    trial: &Trial,
+    played: &Played,
+    live: &[bool],
+    steps: &mut Steps<L>,
+) -> Result<PartColumns, NoMemory>
+    requires tree { IsTree trial.now.scope.now.game.now.nodes }
+    requires asked { AreAsked (tree_in trial.now.scope.now) live.now }
+    requires flat { IsFlatMove (played_tree played.now) }
+    ensures asks { IfOk result (AskNoMore (tree_in trial.now.scope.now) trial.now.opened.now trial.now.scope.now.names.now played.now live.now) }
+    ensures cost { steps.new ≡ steps.old }
+{
+    let wide = befores(alloc, trial.scope, live)?;
     let wide = wide.as_slice();
     let origin = free_column(alloc, trial, &played.origin, wide, steps)?;
-    let goal = free_column(alloc, trial, &played.goal, some, steps)?;
     let taken = free_column(alloc, trial, &played.taken, wide, steps)?;
-    let promoted = free_column(alloc, trial, &played.promoted, some, steps)?;
-    let parts = PartColumns {
+    let promoted = free_column(alloc, trial, &played.promoted, live, steps)?;
+    Ok(PartColumns {
         origin,
         taken,
         promoted,
-    };
-    let met = moves_met(alloc, trial.scope, &parts, &goal, some)?;
-    cut_where_fails(sets, some, &FilterColumn::Truths(met));
-    Ok(())
+    })
 }
 
 // Whether in some part that is written no open name stands; where there is none nothing need be asked.

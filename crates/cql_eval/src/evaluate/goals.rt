@@ -1,12 +1,14 @@
 //! Squares that are tried all at once: where it is asked of some square whether the move went there.
-ghost use Rattle.std.specs.Prelude.{◌≡◌, ◌∷◌, [], length, true, false, IfOk, IfSome};
+ghost use Rattle.std.specs.Prelude.{◌≡◌, ℕ, ◌&&◌, ◌∷◌, [], get_or, length, true, false, IfOk, IfSome};
 ghost use Rattle.cq_position.specs.Games.{IsTree};
+ghost use Rattle.cq_symmetry.specs.Images.{is_in};
 ghost use Rattle.cql_syntax.specs.Meaning as meaning;
 ghost use Rattle.cql_syntax.specs.TreeOf.{filter_tree, filters_tree, played_tree};
 ghost use Rattle.cql_syntax.specs.Values as spec;
 ghost use Rattle.cql_eval.specs.Bindings.{holds_with};
-ghost use Rattle.cql_columns.specs.Columns.{AreAsked, AreTruths, shown};
+ghost use Rattle.cql_columns.specs.Columns.{AreAsked, AreTruths, is_live, shown};
 ghost use Rattle.cql_columns.specs.FlatTrees.{IsFlat, AreFlat, IsFlatMove};
+ghost use Rattle.cql_columns.specs.Moved.{goes_as_asked};
 ghost use Rattle.cql_columns.specs.Scopes.{tree_in, values_with};
 
 use super::played::part_columns;
@@ -15,7 +17,7 @@ use cql_columns::binding::Binding;
 use cql_columns::covers::sets_of;
 use cql_columns::free::is_all;
 use cql_columns::moved::{asks_goal, moves_to};
-use cql_columns::moves::promoting;
+use cql_columns::moves::{PartColumns, promoting};
 use cql_syntax::{Chain, Filter, Filters, Form, Played};
 use cql_values::names::Names;
 use std::alloc::Global;
@@ -117,7 +119,23 @@ fn goal_met<L: Ledger>(
     let some = promoting(alloc, binding.scope, promotes, live)?;
     let some = some.as_slice();
     let parts = part_columns(alloc, played, binding.scope, some, steps)?;
-    let sets = sets_of(alloc, some, binding.squares)?;
-    let truths = moves_to(alloc, binding.scope, &parts, &sets, some)?;
+    moved_there(alloc, binding, &parts, some)
+}
+
+// Whether the moves to the nodes of a set went to squares of the column, and are as the columns of their other parts ask.
+fn moved_there(
+    alloc: Global,
+    binding: &Binding,
+    parts: &PartColumns,
+    live: &[bool],
+) -> Result<Option<Vec<bool>>, NoMemory>
+    requires tree { IsTree binding.now.scope.now.game.now.nodes }
+    requires asked { AreAsked (tree_in binding.now.scope.now) live.now }
+    ensures { IfOk result (λ there. IfSome there (λ truths. (n : ℕ) → (set : ℕ) × (is_live live.now n ≡ true
+        → is_in set ≡ spec.has (shown binding.now.squares.now n)) × (get_or truths.items n false
+        ≡ (is_live live.now n && goes_as_asked (tree_in binding.now.scope.now) parts.now set n)))) }
+{
+    let sets = sets_of(alloc, live, binding.squares)?;
+    let truths = moves_to(alloc, binding.scope, parts, &sets, live)?;
     Ok(Some(truths))
 }

@@ -1,10 +1,10 @@
 //! The numbers of a line.
-ghost use Rattle.std.specs.Prelude.{◌≡◌, ℕ, ◌+◌, ◌<◌, ◌≤◌, ◌&&◌, ◌||◌, not, [], length, get_or, None, IfOk, OnOk, true, false};
+ghost use Rattle.std.specs.Prelude.{◌≡◌, ℕ, ◌+◌, ◌<◌, ◌≤◌, ◌&&◌, ◌||◌, not, [], length, IfOk, OnOk, true, false};
 ghost use Rattle.cq_position.specs.Games.{IsTree};
 ghost use Rattle.cql_syntax.specs.Meaning as meaning;
 ghost use Rattle.cql_syntax.specs.TreeOf.{body_tree, filter_tree, line_tree, parts_tree};
-ghost use Rattle.cql_syntax.specs.Values.{as_number};
-ghost use Rattle.cql_columns.specs.Columns.{AreAsked, Where};
+ghost use Rattle.cql_syntax.specs.declared.tree.Line.{out-Line};
+ghost use Rattle.cql_columns.specs.Columns.{AreAsked, IsColumn, shown};
 ghost use Rattle.cql_columns.specs.Costs.{filter_cost, line_cost, parts_cost, body_cost, parts_atoms, body_atoms, searched_len};
 ghost use Rattle.cql_columns.specs.FlatTrees.{IsFlat, IsFlatLine, AreFlatParts, IsFlatBody};
 ghost use Rattle.cql_lines.specs.Tables.{atoms_of, nodes_of};
@@ -19,6 +19,7 @@ ghost use Rattle.cq_position.specs.Search.{IsStep};
 
 use super::evaluate;
 use cq_outside::{NoMemory, Steps};
+use cql_columns::filter_column::FilterColumn;
 use cql_columns::nodes::{all_nodes, any_live, part_of, same};
 use cql_columns::patterns::{empty_table, parts_pattern, put_nodes, shape_of, wide_numbers};
 use cql_columns::scope::Scope;
@@ -47,18 +48,18 @@ struct Row<L: Ledger> {
 /// The greatest length of a path from each node that a line's pattern spells. Its atoms are asked for where they may begin on a path, one
 /// after the other, and the automaton of its pattern then answers all nodes at once.
 #[cycle(evaluate)]
-pub(super) fn line_numbers<L: Ledger>(
+pub(super) fn line_column<L: Ledger>(
     alloc: Global,
     line: &Line,
     scope: &Scope,
     live: &[bool],
     steps: &mut Steps<L>,
-) -> Result<Vec<Option<i64>>, NoMemory>
+) -> Result<FilterColumn, NoMemory>
     requires tree { IsTree scope.now.game.now.nodes }
     requires asked { AreAsked (tree_in scope.now) live.now }
     requires flat { IsFlatLine (line_tree line.now) }
-    ensures value { IfOk result (λ numbers. Where live.now (λ n. as_number (get_or numbers.items n None)
-        ≡ meaning.line_value (tree_in scope.now) [] scope.now.names.now (line_tree line.now) n)) }
+    ensures value { IfOk result (λ c. IsColumn c live.now
+        (meaning.line_value (tree_in scope.now) [] scope.now.names.now (line_tree line.now))) }
     ensures cost { steps.new ≤ steps.old + line_cost (searched_len (tree_in scope.now)) (line_tree line.now) }
     ensures rises { steps.old ≤ steps.new }
 {
@@ -72,15 +73,39 @@ pub(super) fn line_numbers<L: Ledger>(
     let met = row.met;
     if !met {
         // A column that ends before a node has no number there.
-        return Ok(Vec::new(alloc));
+        return Ok(FilterColumn::Numbers(Vec::new(alloc)));
     }
+    spelled_column(alloc, line, scope, &row.table, steps)
+}
+
+// The numbers of a line whose atoms are in a table. What is added to the cost of its atoms is within what the line may cost.
+fn spelled_column<L: Ledger>(
+    alloc: Global,
+    line: &Line,
+    scope: &Scope,
+    table: &AtomTable<L>,
+    steps: &mut Steps<L>,
+) -> Result<FilterColumn, NoMemory>
+    requires tree { IsTree scope.now.game.now.nodes }
+    requires flat { IsFlatLine (line_tree line.now) }
+    requires tabled { AreTabled (tree_in scope.now) (out-Line line.now).back (IsAsked (tree_in scope.now)) table.now
+        (0 + parts_atoms (spec.parts_within line.now)) (spec.parts_numbered 0 (spec.parts_within line.now))
+        (parts_in scope.now (spec.parts_within line.now)) }
+    requires atoms { atoms_of table.now ≡ parts_atoms (spec.parts_within line.now) }
+    requires nodes { nodes_of table.now ≡ length scope.now.game.now.nodes }
+    ensures value { IfOk result (λ c. (n : ℕ) → IsAsked (tree_in scope.now) n
+        → shown c n ≡ meaning.line_value (tree_in scope.now) [] scope.now.names.now (line_tree line.now) n) }
+    ensures cost { (before : ℕ) → steps.old ≤ before + parts_cost (searched_len (tree_in scope.now)) (spec.parts_within line.now)
+        → steps.new ≤ before + line_cost (searched_len (tree_in scope.now)) (line_tree line.now) }
+    ensures rises { steps.old ≤ steps.new }
+{
     let mut atoms = 0;
-    let pattern = parts_pattern(alloc, parts, &mut atoms)?;
+    let pattern = parts_pattern(alloc, &line.parts, &mut atoms)?;
     let automaton = Automaton::build(alloc, &pattern)?;
     let shape = shape_of(alloc, scope, line.back, line.primary, &line.extent)?;
-    let values = line_values(alloc, &automaton, &row.table, &shape, steps)?;
+    let values = line_values(alloc, &automaton, table, &shape, steps)?;
     let numbers = wide_numbers(alloc, values.as_slice())?;
-    Ok(numbers)
+    Ok(FilterColumn::Numbers(numbers))
 }
 
 // Whether a flat line has flat parts with few atoms: it always does.

@@ -4,16 +4,17 @@ ghost use Rattle.cq_position.specs.Games.{IsTree};
 ghost use Rattle.cql_syntax.specs.Meaning as meaning;
 ghost use Rattle.cql_syntax.specs.TreeOf.{filter_tree, played_tree, written_tree};
 ghost use Rattle.cql_syntax.specs.Values.{as_truth};
-ghost use Rattle.cql_columns.specs.Columns.{AreAsked, AreTruths, Where, shown};
+ghost use Rattle.cql_columns.specs.Columns.{AreAsked, IsColumn, Where, shown};
 ghost use Rattle.cql_columns.specs.Costs.{played_cost, written_cost, searched_len};
 ghost use Rattle.cql_columns.specs.FlatTrees.{IsFlatMove, IsFlatPart};
 ghost use Rattle.cql_columns.specs.Moved.{ArePartColumns, parts_cost};
 ghost use Rattle.cql_columns.specs.Scopes.{tree_in};
 
+use super::columns::met_column;
 use super::evaluate;
 use cq_outside::{NoMemory, Steps};
 use cql_columns::filter_column::FilterColumn;
-use cql_columns::moves::{PartColumns, moves_met, promoting};
+use cql_columns::moves::{PartColumns, promoting};
 use cql_columns::scope::Scope;
 use cql_columns::tree::befores;
 use cql_syntax::{Filter, Played};
@@ -24,17 +25,17 @@ use std::sync::ledger::Ledger;
 /// what it became at the node itself. Where a promotion is asked for, no other move is looked at.
 #[cycle(evaluate)]
 #[tactic(auto, unfolding(cql_syntax::specs::Meaning::value, cql_columns::specs::Costs::filter_cost, cql_columns::specs::FlatTrees::unflat))]
-pub(super) fn played_truths<L: Ledger>(
+pub(super) fn played_column<L: Ledger>(
     alloc: Global,
     played: &Played,
     scope: &Scope,
     live: &[bool],
     steps: &mut Steps<L>,
-) -> Result<Vec<bool>, NoMemory>
+) -> Result<FilterColumn, NoMemory>
     requires tree { IsTree scope.now.game.now.nodes }
     requires asked { AreAsked (tree_in scope.now) live.now }
     requires flat { IsFlatMove (played_tree played.now) }
-    ensures value { IfOk result (λ truths. AreTruths truths.items live.now
+    ensures value { IfOk result (λ c. IsColumn c live.now
         (λ n. as_truth (meaning.played_value (tree_in scope.now) [] scope.now.names.now (played_tree played.now) n))) }
     ensures cost { steps.new ≤ steps.old + played_cost (searched_len (tree_in scope.now)) (played_tree played.now) }
     ensures rises { steps.old ≤ steps.new }
@@ -44,8 +45,7 @@ pub(super) fn played_truths<L: Ledger>(
     let some = some.as_slice();
     let parts = part_columns(alloc, played, scope, some, steps)?;
     let goal = written_column(alloc, &played.goal, scope, some, steps)?;
-    let truths = moves_met(alloc, scope, &parts, &goal, some)?;
-    Ok(truths)
+    met_column(alloc, scope, &parts, &goal, some)
 }
 
 /// The columns of the parts of a move, its goal aside, for the moves that led to the nodes of a set.

@@ -1,4 +1,4 @@
-use Rattle.std.proofs.Common.{[], ◌∙◌, ap, sym, subst}
+use Rattle.std.proofs.Common.{[], ap, sym, subst}
 use Rattle.cql_syntax.specs.Meaning.{value}
 use Rattle.cql_syntax.specs.TreeOf.{filter_tree, form_tree}
 use Rattle.cql_syntax.specs.Trees.{filter_at}
@@ -23,12 +23,11 @@ returns-in_ok-later-in-Sort-clause-each g c =
 
 pub returns-in_ok-later-in-Sort-clause-keys : goal.returns-in_ok-later-in-Sort-clause-keys
 returns-in_ok-later-in-Sort-clause-keys g c =
-    sort_keys (λ row. row.items) (tree_in c.args.scope.now) c.args.asked.now _ _ c.in_ok-row-in-Sort.row (filter_tree c.args.item.now) (filter_tree c.deref.result.now)
+    sort_keys (λ row. row.items) (tree_in c.args.scope.now) c.args.asked.now _ _ _ (filter_tree c.args.item.now) (filter_tree c.deref.result.now)
     c.args.item.now.at _ _
     (ap (filter_at c.args.item.now.at) (sort_form _ _ _ _ _ (ap form_tree c.in-Sort.is) (ap filter_tree (sym c.deref.ensures))))
-    c.in_ok-push-in-Sort.ensures.items
-    (c.in_ok-row-in-Sort.ensures
-    ∙ row_is (tree_in c.args.scope.now) c.args.asked.now c.in_ok-column-in-Sort.column (filter_tree c.deref.result.now) c.requires.asked
+    c.in_ok-push_row-in-Sort.ensures
+    (row_is (tree_in c.args.scope.now) c.args.asked.now c.in_ok-column-in-Sort.column (filter_tree c.deref.result.now) c.requires.asked
     (subst (λ e. IsColumn c.in_ok-column-in-Sort.column c.args.asked.now (value (tree_in c.args.scope.now) [] e (filter_tree c.deref.result.now))) c.requires.names
     c.in_ok-column-in-Sort.ensures.value))
 

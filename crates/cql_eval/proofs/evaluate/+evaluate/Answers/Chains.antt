@@ -2,7 +2,7 @@
 use Rattle.std.proofs.Common.{◌+◌, ◌∙◌, sym, subst, arith, rules, refl, true, false}
 use Rattle.cql_syntax.specs.TreeOf.{filter_tree, filters_tree, filters_in, terms_tree}
 use Rattle.cql_syntax.proofs.Lists.{filters_tree_in}
-use Rattle.cql_columns.specs.Scopes.{tree_in}
+use Rattle.cql_columns.specs.Scopes.{tree_in, values_in}
 use Rattle.cql_columns.proofs.ClassLaw.{left_taken, left_told, left_passed, cost_taken, is_left_begun, is_left_then, is_left_same, so_begun, so_more, so_whole, so_none, so_all, so_no, class_left, class_end, truth_left, class_cost_more, class_cost_within, cost_next, cost_later, cost_all}
 use Rattle.cql_columns.proofs.ClassSets.{so_other}
 use Rattle.cql_columns.specs.Classes.{is_of, is_before, is_so_if, are_so, AreAmong, IsLeft}
@@ -13,31 +13,34 @@ use Rattle.cql_columns.proofs.Costing.{cost_more, cost_within, terms_cost_more, 
 use Rattle.cql_columns.proofs.EverLaw.{ever_begun, ever_fewer, ever_later, left_unasked}
 use Rattle.cql_columns.proofs.Gathering.{columns_begun, columns_more, columns_all, terms_begun, terms_more, terms_all}
 use Rattle.cql_eval.proofs.FlatLaw.{filter_flat, term_flat}
+use Rattle.cql_eval.proofs.FormLaws.{IfOk_then, some_unless}
 use Rattle.cql_columns.proofs.ToldLaw.{told_there}
 use Rattle.cql_eval.proofs.evaluate.+evaluate.Goals as goal
 
-pub chains::all_hold-returns-clause-value : goal.chains::all_hold-returns-clause-value
-chains::all_hold-returns-clause-value g t c = λ n l.
+pub chains::all_column-returns-clause-value : goal.chains::all_column-returns-clause-value
+chains::all_column-returns-clause-value g t c = λ n l.
     truth_left c.args.live.now c.in_ok-left.left.items _ _ (tree_in c.args.scope.now) c.in_ok-left.ensures.left
     (so_all (tree_in c.args.scope.now) c.args.scope.now.names.now true (filters_tree c.args.filters.now)) n l
 
-pub chains::all_hold-returns-clause-cost : goal.chains::all_hold-returns-clause-cost
-chains::all_hold-returns-clause-cost g t c = omega (arith, c.left_by.ensures.cost, cost_all (searched_len (tree_in c.args.scope.now)) (filters_tree c.args.filters.now))
+pub chains::all_column-returns-clause-cost : goal.chains::all_column-returns-clause-cost
+chains::all_column-returns-clause-cost g t c = omega (arith, c.left_by.ensures.cost, cost_all (searched_len (tree_in c.args.scope.now)) (filters_tree c.args.filters.now))
 
-pub chains::all_hold-returns-in_err-left-clause-cost : goal.chains::all_hold-returns-in_err-left-clause-cost
-chains::all_hold-returns-in_err-left-clause-cost g t c =
+pub chains::all_column-returns-in_err-left-clause-cost : goal.chains::all_column-returns-in_err-left-clause-cost
+chains::all_column-returns-in_err-left-clause-cost g t c =
     omega (arith, c.left_by.ensures.cost, cost_all (searched_len (tree_in c.args.scope.now)) (filters_tree c.args.filters.now))
 
-pub chains::none_holds-returns-clause-value : goal.chains::none_holds-returns-clause-value
-chains::none_holds-returns-clause-value g t c = λ n l.
-    truth_left c.args.live.now c.in_ok-left.left.items _ _ (tree_in c.args.scope.now) c.in_ok-left.ensures.left
-    (so_no (tree_in c.args.scope.now) c.args.scope.now.names.now (filters_tree c.args.filters.now)) n l
+pub chains::some_column-returns-clause-value : goal.chains::some_column-returns-clause-value
+chains::some_column-returns-clause-value g t c =
+    IfOk_then c.negated_column.result c.negated_column.ensures
+    (λ column is n l. is n l ∙ some_unless (values_in c.args.scope.now (filters_tree c.args.filters.now) n) _
+    (truth_left c.args.live.now c.in_ok-fails.fails.items _ _ (tree_in c.args.scope.now) c.in_ok-fails.ensures.left
+    (so_no (tree_in c.args.scope.now) c.args.scope.now.names.now (filters_tree c.args.filters.now)) n l))
 
-pub chains::none_holds-returns-clause-cost : goal.chains::none_holds-returns-clause-cost
-chains::none_holds-returns-clause-cost g t c = omega (arith, c.left_by.ensures.cost, cost_all (searched_len (tree_in c.args.scope.now)) (filters_tree c.args.filters.now))
+pub chains::some_column-returns-clause-cost : goal.chains::some_column-returns-clause-cost
+chains::some_column-returns-clause-cost g t c = omega (arith, c.left_by.ensures.cost, cost_all (searched_len (tree_in c.args.scope.now)) (filters_tree c.args.filters.now))
 
-pub chains::none_holds-returns-in_err-left-clause-cost : goal.chains::none_holds-returns-in_err-left-clause-cost
-chains::none_holds-returns-in_err-left-clause-cost g t c =
+pub chains::some_column-returns-in_err-fails-clause-cost : goal.chains::some_column-returns-in_err-fails-clause-cost
+chains::some_column-returns-in_err-fails-clause-cost g t c =
     omega (arith, c.left_by.ensures.cost, cost_all (searched_len (tree_in c.args.scope.now)) (filters_tree c.args.filters.now))
 
 pub chains::left_by-loop-class-init : goal.chains::left_by-loop-class-init

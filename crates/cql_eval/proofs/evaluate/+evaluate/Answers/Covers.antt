@@ -1,13 +1,17 @@
 -- What is answered of squares that are worth trying, in the recursion over filters.
 use Rattle.std.proofs.Common.{[], ◌∷◌, ◌∙◌, ap, ap₂, sym, subst, arith, refl, false}
+use Rattle.std.specs.Prelude.{OnOk}
+use Rattle.std.proofs.Math.Path.{fun_ext}
+use Rattle.std.proofs.lemmas.Result.{on_ok_weaker}
 use Rattle.cql_syntax.specs.Meaning.{value, values}
 use Rattle.cql_syntax.specs.TreeOf.{filter_tree, form_tree, filters_tree, written_tree}
 use Rattle.cql_syntax.specs.Trees.{filter_at, unary}
 use Rattle.cql_syntax.specs.Values.{holds, some_holds, square_of}
 use Rattle.cql_columns.specs.Scopes.{tree_in}
 use Rattle.cql_eval.proofs.FlatLaw.{filter_flat}
+use Rattle.cql_eval.proofs.FormLaws.{chain_form}
 use Rattle.cql_syntax.specs.Trees.{pair}
-use Rattle.cql_columns.specs.Covers.{AreAdded, AreCut, AreJoined, HasSome, MayHold}
+use Rattle.cql_columns.specs.Covers.{AreAdded, AreCut, AreJoined, HasSome, MayHave, MayHold}
 use Rattle.cql_columns.specs.Trees.{AreBeforeLive}
 use Rattle.cql_columns.proofs.CoverSome.{added_all, added_by, added_more, added_none, or_cut, some_cut}
 use Rattle.cql_columns.proofs.PairLaw.{paired_cut}
@@ -43,12 +47,23 @@ cover_moves::cover_played-returns-clause-cut g t c =
 pub cover_moves::cover_free_parts-returns-clause-cut : goal.cover_moves::cover_free_parts-returns-clause-cut
 cover_moves::cover_free_parts-returns-clause-cut g t c =
     let tree = tree_in c.args.trial.now.scope.now in
-    free_parts_cut tree c.args.trial.now.live.now c.as_slice-some.result.now c.as_slice-wide.result.now c.args.trial.now.opened.now
+    let asks = c.in_ok-parts.ensures.asks in
+    on_ok_weaker c.cut_unmet.result
+    (λ cut. free_parts_cut tree c.args.trial.now.live.now c.as_slice-some.result.now asks.wide c.args.trial.now.opened.now
     c.args.trial.now.scope.now.names.now c.args.trial.now.name.now c.args.played.now
-    c.in_ok-origin.origin c.in_ok-goal.goal c.in_ok-taken.taken c.in_ok-promoted.promoted c.in_ok-met.met.items c.args.sets.now c.cut_where_fails.new.sets
+    c.in_ok-parts.parts.origin c.in_ok-goal.goal c.in_ok-parts.parts.taken c.in_ok-parts.parts.promoted c.args.sets.now c.cut_unmet.new.sets
     (subst (HasSome tree c.args.trial.now.live.now c.args.sets.now) (sym c.as_slice-some.ensures.value) c.in_ok-some.ensures)
-    (subst (AreBeforeLive tree c.as_slice-some.result.now) (sym c.as_slice-wide.ensures.value) c.in_ok-wide.ensures)
-    c.in_ok-origin.ensures.asks c.in_ok-goal.ensures.asks c.in_ok-taken.ensures.asks c.in_ok-promoted.ensures.asks c.in_ok-met.ensures c.cut_where_fails.ensures
+    asks.before_live asks.origin c.in_ok-goal.ensures.asks asks.taken asks.promoted cut)
+    c.cut_unmet.ensures.cut
+
+pub cover_moves::free_columns-returns-clause-asks : goal.cover_moves::free_columns-returns-clause-asks
+cover_moves::free_columns-returns-clause-asks g t c = record {
+  wide = c.as_slice-wide.result.now;
+  before_live = subst (AreBeforeLive (tree_in c.args.trial.now.scope.now) c.args.live.now) (sym c.as_slice-wide.ensures.value) c.in_ok-wide.ensures;
+  origin = c.in_ok-origin.ensures.asks;
+  taken = c.in_ok-taken.ensures.asks;
+  promoted = c.in_ok-promoted.ensures.asks;
+}
 
 pub cover_moves::free_column-returns-clause-asks : goal.cover_moves::free_column-returns-clause-asks
 cover_moves::free_column-returns-clause-asks g t c =
@@ -244,3 +259,19 @@ cover_some::add_covered-returns-clause-added g t c =
       c.cover.ensures.len,
       c.deref_mut.ensures.len,
     ))) c.add_sets.ensures)
+
+pub covers::cover-returns-in-Chain-clause-cut : goal.covers::cover-returns-in-Chain-clause-cut
+covers::cover-returns-in-Chain-clause-cut g t c =
+    subst (λ v. OnOk c.cover_chain.result (AreCut c.args.trial.now.live.now (MayHold c.args.trial.now.opened.now c.args.trial.now.scope.now.names.now c.args.trial.now.name.now v)
+    c.args.sets.now c.cover_chain.new.sets))
+    (fun_ext (λ e. chain_form (tree_in c.args.trial.now.scope.now) e (filter_tree c.args.asked.now) c.args.asked.now.at c.in-Chain.chain (filters_tree c.in-Chain.parts)
+    (ap (λ form. filter_at c.args.asked.now.at (form_tree form)) c.in-Chain.is)))
+    c.cover_chain.ensures.cut
+
+pub covers::cover_set-returns-in-Chain-clause-cut : goal.covers::cover_set-returns-in-Chain-clause-cut
+covers::cover_set-returns-in-Chain-clause-cut g t c =
+    subst (λ v. OnOk c.cover_common.result (AreCut c.args.trial.now.live.now (MayHave c.args.trial.now.opened.now c.args.trial.now.scope.now.names.now c.args.trial.now.name.now v)
+    c.args.sets.now c.cover_common.new.sets))
+    (fun_ext (λ e. chain_form (tree_in c.args.trial.now.scope.now) e (filter_tree c.args.asked.now) c.args.asked.now.at c.in-Chain.chain (filters_tree c.in-Chain.parts)
+    (ap (λ form. filter_at c.args.asked.now.at (form_tree form)) c.in-Chain.is)))
+    c.cover_common.ensures.cut

@@ -2,7 +2,6 @@
 use Rattle.std.proofs.Common.{◌≡◌, ◌∙◌, ap, refl, sym, subst, arith, length}
 use Rattle.std.specs.Prelude.{get_or}
 use Rattle.std.proofs.lemmas.Option.{IfSome_then}
-use Rattle.cq_symmetry.specs.Images.{is_in}
 use Rattle.cql_syntax.specs.TreeOf.{filter_tree, form_tree, filters_tree, played_tree}
 use Rattle.cql_syntax.specs.Trees.{filter_at, more_filters, no_filters}
 use Rattle.cql_columns.specs.Columns.{shown}
@@ -11,6 +10,7 @@ use Rattle.cql_columns.specs.Scopes.{tree_in}
 use Rattle.cql_columns.specs.Promoting.{ArePromoting}
 use Rattle.cql_columns.proofs.AttackLaw.{only_one}
 use Rattle.cql_eval.proofs.FlatLaw.{filter_flat}
+use Rattle.cql_eval.proofs.FormLaws.{IfOk_then}
 use Rattle.cql_columns.proofs.MovedLaw.{goal_alone, goal_chain, goal_form, goal_met_is}
 use Rattle.cql_eval.proofs.evaluate.+evaluate.Goals as goal
 
@@ -42,12 +42,13 @@ goals::goal_in-returns-in-loop-part-clause-value g t c =
     (c.is_all.ensures c.if-not-is_all.false) (sym c.as_slice-part-items.ensures.tree ∙ one.are ∙ ap (λ f. more_filters f no_filters) one.is)))
 
 pub goals::goal_met-returns-clause-value : goal.goals::goal_met-returns-clause-value
-goals::goal_met-returns-clause-value g t c = λ n l.
+goals::goal_met-returns-clause-value g t c =
     let tree = tree_in c.args.binding.now.scope.now in
     let looked : ArePromoting tree c.is_some-promotes.result c.args.live.now c.as_slice-some.result.now
     = subst (ArePromoting tree c.is_some-promotes.result c.args.live.now) (sym c.as_slice-some.ensures.value) c.in_ok-some.ensures in
+    IfOk_then c.moved_there.result c.moved_there.ensures (λ there given. IfSome_then there given (λ truths are n l.
+    let at = are n in
     goal_met_is tree c.args.binding.now.scope.now.names.now c.args.binding.now.name.now c.args.binding.now.every c.args.played.now (shown c.args.binding.now.squares.now n)
-    c.args.live.now c.as_slice-some.result.now c.is_some-promotes.result _ _ n c.in_ok-parts.parts c.requires.some
+    c.args.live.now c.as_slice-some.result.now c.is_some-promotes.result _ at.0 n c.in_ok-parts.parts c.requires.some
     (subst (λ o. AsksGoal o c.args.binding.now.name.now c.args.played.now) c.requires.opened (c.asks_goal.ensures c.if-not-asks_goal.false))
-    c.is_some-promotes.ensures looked (λ a. ap (λ s. is_in (get_or s n 0)) c.deref.ensures.value ∙ c.in_ok-sets.ensures.each n a)
-    c.in_ok-parts.ensures.value (c.in_ok-truths.ensures n) l
+    c.is_some-promotes.ensures looked at.1 c.in_ok-parts.ensures.value at.2 l))

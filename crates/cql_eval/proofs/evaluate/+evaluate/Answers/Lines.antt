@@ -1,26 +1,21 @@
 -- What is answered of lines, in the recursion over filters.
-use Rattle.std.proofs.Common.{◌+◌, map, ◌≡◌, ◌∙◌, ap, sym, subst, arith, refl, length, true, false}
-use Rattle.std.specs.Prelude.{option_map, pos, OnOk, ◌<◌}
+use Rattle.std.proofs.Common.{◌+◌, ◌≡◌, ◌∙◌, ap, sym, subst, arith, refl, length, true, false}
+use Rattle.std.specs.Prelude.{OnOk}
 use Rattle.std.specs.List.{list_any}
 use Rattle.cql_syntax.specs.Meaning.{marked}
 use Rattle.cql_syntax.specs.TreeOf.{filter_tree, parts_tree, body_tree}
 use Rattle.cql_syntax.specs.Trees.{atom}
-use Rattle.cql_syntax.specs.declared.tree.Line.{out-Line}
 use Rattle.cql_columns.specs.Scopes.{tree_in, value_in, body_in}
-use Rattle.cql_columns.specs.Costs.{body_atoms, searched_len}
-use Rattle.cql_columns.specs.LineAtoms.{AreAllAsked, spot_at, body_numbered}
+use Rattle.cql_columns.specs.Costs.{filter_cost, body_cost, body_atoms, searched_len}
+use Rattle.cql_columns.specs.LineAtoms.{AreAllAsked, body_numbered}
 use Rattle.cql_columns.specs.SpelledParts.{IsLive, EndsHere}
 use Rattle.cql_columns.proofs.SpelledAlike.{all_never, wide_leads_at, wide_ends_at, group_leads_at, leads_at, ends_at, onward_at, not_met, group_ends}
-use Rattle.cql_lines.specs.PatternTrees.{pattern_tree}
-use Rattle.cql_lines.specs.Tables.{atoms_of}
-use Rattle.cql_lines.specs.Trees.{spots_of}
-use Rattle.std.proofs.lemmas.List.FromFn.{length-map-range_with_len}
 use Rattle.cql_columns.proofs.Filling.{live_below}
-use Rattle.cql_columns.proofs.LineAtoms.{few_atoms, few_places, atoms_below}
 use Rattle.cql_columns.proofs.LineTables.{table_begun, table_more, table_all, ends_all, filled_all, at_all, atom_tabled, atom_leads, atom_form, leads_form, ends_form, group_tabled, group_never, never_form, atom_never, not_some}
-use Rattle.cql_columns.proofs.LinesLaw.{held_put, no_line, line_flat, numbers_are, parts_cost_more, parts_cost_within, atoms_within, looks_within}
+use Rattle.cql_columns.proofs.LinesLaw.{held_put, no_line, parts_cost_more, parts_cost_within, atoms_within}
 use Rattle.cql_columns.proofs.LineAtoms.{part_flat}
 use Rattle.cql_columns.proofs.LineTables.{part_room}
+use Rattle.cql_eval.proofs.FormLaws.{IfOk_then, within}
 use Rattle.cql_eval.proofs.evaluate.+evaluate.Goals as goal
 
 pub lines::filled_row-returns-clause-never : goal.lines::filled_row-returns-clause-never
@@ -202,89 +197,76 @@ lines::put_atom_once-returns-clause-leads g t c =
     (onward_at (tree_in c.args.way.now.scope.now) c.args.way.now.back c.in_ok-held.held.items c.deref-3.result.now c.in_ok-behind.behind.items
     c.deref-3.ensures.value c.in_ok-behind.ensures)
 
-pub lines::line_numbers-returns-then-not-met-clause-value : goal.lines::line_numbers-returns-then-not-met-clause-value
-lines::line_numbers-returns-then-not-met-clause-value g t c =
-    λ n l. no_line (tree_in c.args.scope.now) c.requires.tree c.args.scope.now.names.now c.args.line.now c.new.result.items c.new.ensures.items
-    (c.in_ok-row.ensures.never c.if-not-met.true) n
-    (c.requires.asked.searched n l, let inside = live_below c.args.live.now n l in omega (arith, inside, c.requires.asked.count))
-
-pub lines::line_numbers-returns-then-not-met-clause-cost : goal.lines::line_numbers-returns-then-not-met-clause-cost
-lines::line_numbers-returns-then-not-met-clause-cost g t c =
-    atoms_within (searched_len (tree_in c.args.scope.now)) c.args.line.now _ c.filled_row.new.steps c.filled_row.ensures.cost
-
 pub lines::put_atom_once-put_nodes-requires-clause-atom : goal.lines::put_atom_once-put_nodes-requires-clause-atom
 lines::put_atom_once-put_nodes-requires-clause-atom g t c = omega (arith, c.requires.room.atoms)
 
 pub lines::put_atom_once-put_nodes-requires-clause-clear : goal.lines::put_atom_once-put_nodes-requires-clause-clear
 lines::put_atom_once-put_nodes-requires-clause-clear g t c = λ n. c.requires.room.clear c.args.first n (omega arith)
 
-pub lines::line_numbers-parts_pattern-requires : goal.lines::line_numbers-parts_pattern-requires
-lines::line_numbers-parts_pattern-requires g t c = omega (arith, few_atoms _ (line_flat c.args.line.now c.requires.flat).0)
+pub lines::line_column-returns-then-not-met-clause-value : goal.lines::line_column-returns-then-not-met-clause-value
+lines::line_column-returns-then-not-met-clause-value g t c =
+    λ n l. no_line (tree_in c.args.scope.now) c.requires.tree c.args.scope.now.names.now c.args.line.now c.new.result.items c.new.ensures.items
+    (c.in_ok-row.ensures.never c.if-not-met.true) n
+    (c.requires.asked.searched n l, let inside = live_below c.args.live.now n l in omega (arith, inside, c.requires.asked.count))
 
-pub lines::line_numbers-build-requires : goal.lines::line_numbers-build-requires
-lines::line_numbers-build-requires g t c = record {
-  places = few_places (parts_tree (out-Line c.args.line.now).parts) (pattern_tree c.in_ok-pattern.pattern) c.in_ok-pattern.ensures.pattern
-      (line_flat c.args.line.now c.requires.flat).0;
-}
-
-pub lines::line_numbers-line_values-requires-clause-atoms : goal.lines::line_numbers-line_values-requires-clause-atoms
-lines::line_numbers-line_values-requires-clause-atoms g t c =
-    c.in_ok-automaton.ensures.atoms (atoms_of c.in_ok-row.row.table)
-    (atoms_below (parts_tree (out-Line c.args.line.now).parts) (pattern_tree c.in_ok-pattern.pattern) (atoms_of c.in_ok-row.row.table) c.in_ok-pattern.ensures.pattern
-    (omega (arith, c.in_ok-row.ensures.atoms, c.in_ok-pattern.ensures.next)))
-
-pub lines::line_numbers-line_values-requires-clause-nodes : goal.lines::line_numbers-line_values-requires-clause-nodes
-lines::line_numbers-line_values-requires-clause-nodes g t c =
-    let spots = ap length c.in_ok-shape.ensures.spots in
-    omega (
-      arith,
-      c.in_ok-row.ensures.nodes,
-      spots,
-      length-map-range_with_len (spot_at (tree_in c.args.scope.now)) 0 (length c.args.scope.now.game.now.nodes),
-    )
-
-pub lines::line_numbers-returns-clause-value : goal.lines::line_numbers-returns-clause-value
-lines::line_numbers-returns-clause-value g t c = λ n l.
-    let inside = live_below c.args.live.now n l in
-    let low : n < length c.args.scope.now.game.now.nodes = omega (arith, inside, c.requires.asked.count) in
-    let spots = ap length c.in_ok-shape.ensures.spots in
-    numbers_are (tree_in c.args.scope.now) c.requires.tree c.args.scope.now.names.now c.args.line.now (spots_of c.in_ok-shape.shape) _ _ _ c.in_ok-shape.ensures.spots
-    c.in_ok-shape.ensures.way.0 c.in_ok-shape.ensures.way.1 c.in_ok-shape.ensures.way.2 c.in_ok-row.row.table
-    (pattern_tree c.in_ok-pattern.pattern) c.in_ok-pattern.ensures.pattern c.in_ok-row.ensures.value c.in_ok-numbers.numbers.items
-    c.in_ok-values.values.items (c.in_ok-numbers.ensures ∙ ap (map (option_map pos)) c.as_slice.ensures.value) n (c.requires.asked.searched n l, low)
-    (c.in_ok-values.ensures.values (pattern_tree c.in_ok-pattern.pattern) c.in_ok-automaton.ensures.automaton n
-    (omega (arith, low, spots, length-map-range_with_len (spot_at (tree_in c.args.scope.now)) 0 (length c.args.scope.now.game.now.nodes))))
-
-pub lines::line_numbers-returns-clause-cost : goal.lines::line_numbers-returns-clause-cost
-lines::line_numbers-returns-clause-cost g t c =
-    looks_within (tree_in c.args.scope.now) c.args.line.now _ c.filled_row.new.steps c.line_values.new.steps (atoms_of c.in_ok-row.row.table) (spots_of c.in_ok-shape.shape)
-    c.in_ok-shape.ensures.spots (omega (arith, c.in_ok-row.ensures.atoms, c.in_ok-pattern.ensures.next))
-    c.filled_row.ensures.cost c.line_values.ensures.cost
-
-pub lines::line_numbers-returns-in_err-numbers-clause-cost : goal.lines::line_numbers-returns-in_err-numbers-clause-cost
-lines::line_numbers-returns-in_err-numbers-clause-cost g t c =
-    looks_within (tree_in c.args.scope.now) c.args.line.now _ c.filled_row.new.steps c.line_values.new.steps (atoms_of c.in_ok-row.row.table) (spots_of c.in_ok-shape.shape)
-    c.in_ok-shape.ensures.spots (omega (arith, c.in_ok-row.ensures.atoms, c.in_ok-pattern.ensures.next))
-    c.filled_row.ensures.cost c.line_values.ensures.cost
-
-pub lines::line_numbers-returns-in_err-values-clause-cost : goal.lines::line_numbers-returns-in_err-values-clause-cost
-lines::line_numbers-returns-in_err-values-clause-cost g t c =
-    looks_within (tree_in c.args.scope.now) c.args.line.now _ c.filled_row.new.steps c.line_values.new.steps (atoms_of c.in_ok-row.row.table) (spots_of c.in_ok-shape.shape)
-    c.in_ok-shape.ensures.spots (omega (arith, c.in_ok-row.ensures.atoms, c.in_ok-pattern.ensures.next))
-    c.filled_row.ensures.cost c.line_values.ensures.cost
-
-pub lines::line_numbers-returns-in_err-shape-clause-cost : goal.lines::line_numbers-returns-in_err-shape-clause-cost
-lines::line_numbers-returns-in_err-shape-clause-cost g t c =
+pub lines::line_column-returns-then-not-met-clause-cost : goal.lines::line_column-returns-then-not-met-clause-cost
+lines::line_column-returns-then-not-met-clause-cost g t c =
     atoms_within (searched_len (tree_in c.args.scope.now)) c.args.line.now _ c.filled_row.new.steps c.filled_row.ensures.cost
 
-pub lines::line_numbers-returns-in_err-pattern-clause-cost : goal.lines::line_numbers-returns-in_err-pattern-clause-cost
-lines::line_numbers-returns-in_err-pattern-clause-cost g t c =
+pub lines::line_column-returns-clause-value : goal.lines::line_column-returns-clause-value
+lines::line_column-returns-clause-value g t c =
+    IfOk_then c.spelled_column.result c.spelled_column.ensures.value
+    (λ column is n l. let inside = live_below c.args.live.now n l in
+    is n (c.requires.asked.searched n l, omega (arith, inside, c.requires.asked.count)))
+
+pub lines::line_column-returns-clause-cost : goal.lines::line_column-returns-clause-cost
+lines::line_column-returns-clause-cost g t c = c.spelled_column.ensures.cost _ c.filled_row.ensures.cost
+
+pub lines::line_column-returns-in_err-row-clause-cost : goal.lines::line_column-returns-in_err-row-clause-cost
+lines::line_column-returns-in_err-row-clause-cost g t c =
     atoms_within (searched_len (tree_in c.args.scope.now)) c.args.line.now _ c.filled_row.new.steps c.filled_row.ensures.cost
 
-pub lines::line_numbers-returns-in_err-automaton-clause-cost : goal.lines::line_numbers-returns-in_err-automaton-clause-cost
-lines::line_numbers-returns-in_err-automaton-clause-cost g t c =
-    atoms_within (searched_len (tree_in c.args.scope.now)) c.args.line.now _ c.filled_row.new.steps c.filled_row.ensures.cost
+pub lines::put_wherever-returns-in_err-column-in-Atom-clause-cost : goal.lines::put_wherever-returns-in_err-column-in-Atom-clause-cost
+unfolding filter_cost
+lines::put_wherever-returns-in_err-column-in-Atom-clause-cost g t c =
+    within _ _ _ _ (ap (body_cost (searched_len (tree_in c.args.way.now.scope.now))) (ap body_tree c.in-Atom.is ∙ ap (λ p. atom (filter_tree p)) (sym c.deref.ensures))) c.evaluate.ensures.cost
 
-pub lines::line_numbers-returns-in_err-row-clause-cost : goal.lines::line_numbers-returns-in_err-row-clause-cost
-lines::line_numbers-returns-in_err-row-clause-cost g t c =
-    atoms_within (searched_len (tree_in c.args.scope.now)) c.args.line.now _ c.filled_row.new.steps c.filled_row.ensures.cost
+pub lines::put_wherever-returns-in_err-held-in-Atom-clause-cost : goal.lines::put_wherever-returns-in_err-held-in-Atom-clause-cost
+unfolding filter_cost
+lines::put_wherever-returns-in_err-held-in-Atom-clause-cost g t c =
+    within _ _ _ _ (ap (body_cost (searched_len (tree_in c.args.way.now.scope.now))) (ap body_tree c.in-Atom.is ∙ ap (λ p. atom (filter_tree p)) (sym c.deref.ensures))) c.evaluate.ensures.cost
+
+pub lines::put_wherever-returns-in_ok-held-in-Atom-clause-cost : goal.lines::put_wherever-returns-in_ok-held-in-Atom-clause-cost
+unfolding filter_cost
+lines::put_wherever-returns-in_ok-held-in-Atom-clause-cost g t c =
+    within _ _ _ _ (ap (body_cost (searched_len (tree_in c.args.way.now.scope.now))) (ap body_tree c.in-Atom.is ∙ ap (λ p. atom (filter_tree p)) (sym c.deref.ensures))) c.evaluate.ensures.cost
+
+pub lines::put_wherever-returns-in-Group-clause-cost : goal.lines::put_wherever-returns-in-Group-clause-cost
+unfolding filter_cost
+lines::put_wherever-returns-in-Group-clause-cost g t c =
+    within _ _ _ _ (ap (body_cost (searched_len (tree_in c.args.way.now.scope.now))) (ap body_tree c.in-Group.is)) c.put_row.ensures.cost
+
+pub lines::put_once-returns-in_err-behind-in-Atom-clause-cost : goal.lines::put_once-returns-in_err-behind-in-Atom-clause-cost
+unfolding filter_cost
+lines::put_once-returns-in_err-behind-in-Atom-clause-cost g t c =
+    within _ _ _ _ (ap (body_cost (searched_len (tree_in c.args.way.now.scope.now))) (ap body_tree c.in-Atom.is ∙ ap (λ p. atom (filter_tree p)) (sym c.deref.ensures))) c.put_atom_once.ensures.cost
+
+pub lines::put_once-returns-in_ok-behind-in-Atom-clause-cost : goal.lines::put_once-returns-in_ok-behind-in-Atom-clause-cost
+unfolding filter_cost
+lines::put_once-returns-in_ok-behind-in-Atom-clause-cost g t c =
+    within _ _ _ _ (ap (body_cost (searched_len (tree_in c.args.way.now.scope.now))) (ap body_tree c.in-Atom.is ∙ ap (λ p. atom (filter_tree p)) (sym c.deref.ensures))) c.put_atom_once.ensures.cost
+
+pub lines::put_once-returns-in_err-next-in-Group-clause-cost : goal.lines::put_once-returns-in_err-next-in-Group-clause-cost
+unfolding filter_cost
+lines::put_once-returns-in_err-next-in-Group-clause-cost g t c =
+    within _ _ _ _ (ap (body_cost (searched_len (tree_in c.args.way.now.scope.now))) (ap body_tree c.in-Group.is)) c.put_row.ensures.cost
+
+pub lines::put_once-returns-in_err-starts-in-Group-clause-cost : goal.lines::put_once-returns-in_err-starts-in-Group-clause-cost
+unfolding filter_cost
+lines::put_once-returns-in_err-starts-in-Group-clause-cost g t c =
+    within _ _ _ _ (ap (body_cost (searched_len (tree_in c.args.way.now.scope.now))) (ap body_tree c.in-Group.is)) c.put_row.ensures.cost
+
+pub lines::put_once-returns-in_ok-starts-in-Group-clause-cost : goal.lines::put_once-returns-in_ok-starts-in-Group-clause-cost
+unfolding filter_cost
+lines::put_once-returns-in_ok-starts-in-Group-clause-cost g t c =
+    within _ _ _ _ (ap (body_cost (searched_len (tree_in c.args.way.now.scope.now))) (ap body_tree c.in-Group.is)) c.put_row.ensures.cost

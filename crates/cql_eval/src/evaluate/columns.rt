@@ -1,0 +1,216 @@
+//! The columns of forms of filters, as they are made of what stands in them and of the columns of their parts.
+ghost use Rattle.std.specs.Prelude.{◌≡◌, ℕ, ◌&&◌, Bool, List, not, true, Some, is_some, option_map, IfOk};
+ghost use Rattle.cq_position.specs.Games.{IsTree, node_at};
+ghost use Rattle.cql_syntax.specs.Meaning as meaning;
+ghost use Rattle.cql_syntax.specs.Values as spec;
+ghost use Rattle.cql_values.specs.Asked.{of_value};
+ghost use Rattle.cql_columns.specs.Columns.{AreAsked, IsColumn, is_live, shown, all_shown, terms_shown};
+ghost use Rattle.cql_columns.specs.Elsewhere.{asks_elsewhere, AreLookedAt};
+ghost use Rattle.cql_columns.specs.Moved.{is_as_asked};
+ghost use Rattle.cql_columns.specs.Scopes.{tree_in};
+
+use cq_geometry::Compass;
+use cq_outside::NoMemory;
+use cql_columns::combine::{
+    any_values, chain_values, chosen, negated, numbered, reached_values, sum_values, unary_values,
+};
+use cql_columns::elsewhere::found_from;
+use cql_columns::filter_column::FilterColumn;
+use cql_columns::leaves::{standing_sets, word_values};
+use cql_columns::moves::{PartColumns, moves_met};
+use cql_columns::nodes::narrowed;
+use cql_columns::scope::Scope;
+use cql_syntax::{Chain, Designator, Kind, Plain, Unary};
+use std::alloc::Global;
+
+/// The squares of a designator on which its men stand.
+pub(super) fn standing_column(
+    alloc: Global,
+    d: &Designator,
+    scope: &Scope,
+    live: &[bool],
+) -> Result<FilterColumn, NoMemory>
+    requires asked { AreAsked (tree_in scope.now) live.now }
+    ensures { IfOk result (λ c. IsColumn c live.now
+        (λ n. meaning.standing_of (node_at scope.now.game.now.nodes n).position.men (Some d.now))) }
+{
+    let sets = standing_sets(alloc, d, scope, live)?;
+    Ok(FilterColumn::Sets(sets))
+}
+
+/// What a word gives.
+pub(super) fn word_column(
+    alloc: Global,
+    word: Plain,
+    scope: &Scope,
+    live: &[bool],
+) -> Result<FilterColumn, NoMemory>
+    requires tree { IsTree scope.now.game.now.nodes }
+    requires asked { AreAsked (tree_in scope.now) live.now }
+    ensures { IfOk result (λ c. IsColumn c live.now (meaning.word_of (tree_in scope.now) word)) }
+{
+    let values = word_values(alloc, word, scope, live)?;
+    Ok(FilterColumn::Values(values))
+}
+
+/// What a word gives that asks its part at the node itself.
+pub(super) fn here_column(
+    alloc: Global,
+    word: Unary,
+    scope: &Scope,
+    column: &FilterColumn,
+    live: &[bool],
+) -> Result<FilterColumn, NoMemory>
+    requires asked { AreAsked (tree_in scope.now) live.now }
+    ensures { IfOk result (λ c. IsColumn c live.now
+        (λ n. of_value (node_at scope.now.game.now.nodes n).position.men word (shown column.now n))) }
+{
+    match word {
+        Unary::Not => negated_column(alloc, column, live),
+        _ => unary_values_column(alloc, word, scope, column, live),
+    }
+}
+
+fn unary_values_column(
+    alloc: Global,
+    word: Unary,
+    scope: &Scope,
+    column: &FilterColumn,
+    live: &[bool],
+) -> Result<FilterColumn, NoMemory>
+    requires asked { AreAsked (tree_in scope.now) live.now }
+    ensures { IfOk result (λ c. IsColumn c live.now
+        (λ n. of_value (node_at scope.now.game.now.nodes n).position.men word (shown column.now n))) }
+{
+    let values = unary_values(alloc, word, scope, column, live)?;
+    Ok(FilterColumn::Values(values))
+}
+
+/// What a word gives that asks its part at other nodes, of the column of its part at the nodes that it looks at.
+pub(super) fn found_column(
+    alloc: Global,
+    word: Unary,
+    scope: &Scope,
+    wide: &[bool],
+    column: &FilterColumn,
+) -> Result<FilterColumn, NoMemory>
+    requires tree { IsTree scope.now.game.now.nodes }
+    requires asked { AreAsked (tree_in scope.now) wide.now }
+    requires word { asks_elsewhere word ≡ true }
+    ensures { IfOk result (λ c. (v : ℕ → spec.Value) → IsColumn column.now wide.now v → (live : List Bool) → AreAsked (tree_in scope.now) live
+        → AreLookedAt (tree_in scope.now) word live wide.now → IsColumn c live (meaning.unary_of (tree_in scope.now) word v)) }
+{
+    let set = narrowed(alloc, wide, column, true)?;
+    let found = found_from(alloc, word, scope.game, set)?;
+    Ok(FilterColumn::Truths(found))
+}
+
+/// Whether the moves to the nodes of a set are as the columns of their parts ask.
+pub(super) fn met_column(
+    alloc: Global,
+    scope: &Scope,
+    parts: &PartColumns,
+    goal: &Option<FilterColumn>,
+    live: &[bool],
+) -> Result<FilterColumn, NoMemory>
+    requires tree { IsTree scope.now.game.now.nodes }
+    requires asked { AreAsked (tree_in scope.now) live.now }
+    ensures { IfOk result (λ c. (n : ℕ) → shown c n ≡ spec.as_truth
+        (is_live live.now n && is_as_asked (tree_in scope.now) parts.now (option_map (λ c. shown c n) goal.now) n)) }
+{
+    let truths = moves_met(alloc, scope, parts, goal, live)?;
+    Ok(FilterColumn::Truths(truths))
+}
+
+/// Whether a column doesn't hold.
+pub(super) fn negated_column(
+    alloc: Global,
+    column: &FilterColumn,
+    live: &[bool],
+) -> Result<FilterColumn, NoMemory>
+    ensures { IfOk result (λ c. IsColumn c live.now (λ n. spec.as_truth (not (spec.holds (shown column.now n))))) }
+{
+    let truths = negated(alloc, column, live)?;
+    Ok(FilterColumn::Truths(truths))
+}
+
+/// Whether a column has a number.
+pub(super) fn numbered_column(
+    alloc: Global,
+    column: &FilterColumn,
+    live: &[bool],
+) -> Result<FilterColumn, NoMemory>
+    ensures { IfOk result (λ c. IsColumn c live.now (λ n. spec.as_truth (is_some (spec.amount (shown column.now n))))) }
+{
+    let truths = numbered(alloc, column, live)?;
+    Ok(FilterColumn::Truths(truths))
+}
+
+/// Whether the second column holds where the first does, and the third elsewhere.
+pub(super) fn chosen_column(
+    alloc: Global,
+    first: &FilterColumn,
+    second: &FilterColumn,
+    third: &FilterColumn,
+    live: &[bool],
+) -> Result<FilterColumn, NoMemory>
+    ensures { IfOk result (λ c. IsColumn c live.now
+        (λ n. spec.if_of (shown first.now n) (shown second.now n) (shown third.now n))) }
+{
+    let truths = chosen(alloc, first, second, third, live)?;
+    Ok(FilterColumn::Truths(truths))
+}
+
+/// The squares that lie in some directions of those of a column.
+pub(super) fn reached_column(
+    alloc: Global,
+    directions: &[Compass],
+    least: u32,
+    most: u32,
+    column: &FilterColumn,
+    live: &[bool],
+) -> Result<FilterColumn, NoMemory>
+    ensures { IfOk result (λ c. IsColumn c live.now
+        (λ n. spec.reached_of directions.now least most (shown column.now n))) }
+{
+    let values = reached_values(alloc, directions, least, most, column, live)?;
+    Ok(FilterColumn::Values(values))
+}
+
+/// What a filter of any number of parts gives.
+pub(super) fn chain_values_column(
+    alloc: Global,
+    chain: Chain,
+    columns: &[FilterColumn],
+    live: &[bool],
+) -> Result<FilterColumn, NoMemory>
+    ensures { IfOk result (λ c. IsColumn c live.now (λ n. spec.chain_of chain (all_shown columns.now n))) }
+{
+    let values = chain_values(alloc, chain, columns, live)?;
+    Ok(FilterColumn::Values(values))
+}
+
+/// What any of some filters of a kind gives.
+pub(super) fn any_values_column(
+    alloc: Global,
+    kind: Kind,
+    columns: &[FilterColumn],
+    live: &[bool],
+) -> Result<FilterColumn, NoMemory>
+    ensures { IfOk result (λ c. IsColumn c live.now (λ n. spec.any_of kind (all_shown columns.now n))) }
+{
+    let values = any_values(alloc, kind, columns, live)?;
+    Ok(FilterColumn::Values(values))
+}
+
+/// The sum of columns, some of which are subtracted.
+pub(super) fn sum_column(
+    alloc: Global,
+    terms: &[(bool, FilterColumn)],
+    live: &[bool],
+) -> Result<FilterColumn, NoMemory>
+    ensures { IfOk result (λ c. IsColumn c live.now (λ n. spec.total_of (terms_shown terms.now n))) }
+{
+    let values = sum_values(alloc, terms, live)?;
+    Ok(FilterColumn::Values(values))
+}
