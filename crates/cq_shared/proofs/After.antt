@@ -1,5 +1,5 @@
 -- What is left after some parts, and what they cost.
-use Rattle.std.proofs.Common.{◌≡◌, ℕ, zero, suc, ◌+◌, ◌<◌, ◌≤◌, ◌&&◌, ◌||◌, not, Bool, true, false, List, [], ◌∷◌, ◌++◌, length, get_or, take, drop, refl, sym, ap, ap₂, ◌∙◌, subst, arith, nat_lt, nat_eq}
+use Rattle.std.proofs.Common.{◌≡◌, ℕ, zero, suc, ◌+◌, ◌<◌, ◌≤◌, ◌&&◌, ◌||◌, not, Bool, true, false, List, [], ◌∷◌, ◌++◌, length, get_or, take, drop, Option, ℤ, refl, sym, ap, ap₂, ◌∙◌, subst, arith, nat_lt, nat_eq}
 use Rattle.std.specs.Prelude.{if◌then◌else◌}
 use Rattle.std.specs.List.{list_all, list_any, filter}
 use Rattle.std.proofs.lemmas.Bool.Decides.{nat_tests}
@@ -9,7 +9,7 @@ use Rattle.cq_position.specs.Games.{Game}
 use Rattle.cq_shared.specs.declared.part.Part.{Part}
 use Rattle.cq_shared.specs.declared.nodes.Nodes.{Nodes}
 use Rattle.cq_shared.specs.Known.{all_shown}
-use Rattle.cq_shared.specs.Matching.{is_left, meets, meets_if, is_class, is_before, cost_if, costs_if, part_cost, plan_cost, cost_at, AreLeft, AreReady, IsReady, CoversWanted, IsNarrowedBy, IsNarrowedIf}
+use Rattle.cq_shared.specs.Matching.{is_left, meets, meets_if, is_class, is_before, cost_if, costs_if, part_cost, plan_cost, cost_at, AreLeft, AreReady, IsReady, CoversWanted, IsRowAt, IsNarrowedBy, IsNarrowedIf, HasRow, sort_class}
 use Rattle.cq_shared.specs.Parts.{PartTree}
 use Rattle.cq_shared.specs.Singles.{shown}
 use Rattle.cq_shared.specs.Wanted.{both, Admits, TakesAtMost}
@@ -228,3 +228,11 @@ still_admits taken game parts began left want p had admits = λ w.
 pub narrowed_fewer : (taken : Part → Bool) (game : Game) (p : Part) (left later : List Nodes) → IsNarrowedIf taken game p left later
     → (q n : ℕ) → is_left later q n ≡ true → is_left left q n ≡ true
 narrowed_fewer taken game p left later by q n there = and_first (is_left left q n) (meets_if taken game q n p) (sym (by.each q n) ∙ there)
+
+-- the numbers of a part, where the nodes that are asked for cover those that are left
+pub narrowed_row : (game : Game) (p : Part) (left later : List Nodes) (live : List Bool) (row : List (Option ℤ)) → IsNarrowedBy game p left later → CoversWanted p left live
+    → (p.class ≡ sort_class → IsRowAt game p live row) → HasRow game later p row
+narrowed_row game p left later live row by covers told = record {
+  each = λ class q n has there.
+      (told class).each n (covers.each q n has (and_first (is_left left q n) (meets game q n p) (sym (by.each q n) ∙ there)));
+}

@@ -4,6 +4,7 @@ pub mod Begun
 pub mod Differing
 pub mod Gaining
 pub mod Keyed
+pub mod Listing
 pub mod Makings
 pub mod Meeting
 pub mod PartsHold
