@@ -1,5 +1,5 @@
 -- What the rules of the grammar make of their parts.
-use Rattle.std.specs.Prelude.{Option, Some}
+use Rattle.std.specs.Prelude.{Bool, true, false, Option, Some}
 use Rattle.cql_syntax.specs.Words.{word_of, sign_of}
 use Rattle.cql_syntax.specs.declared.leaves.Chain.TheVariants as chains
 use Rattle.cql_syntax.specs.declared.leaves.Field.TheVariants as fields
@@ -15,6 +15,16 @@ use Rattle.cql_parser.specs.declared.maker.Maker.{Maker}
 use Rattle.cql_parser.specs.declared.maker.Maker.TheVariants.{Designator, Number, Name, Plain, Outcome, Tagged, Elo, Comment, Unary, Direction, Family, If, Square, Sort, Between, List, Parens, Line, Group, Move}
 use Rattle.cql_parser.specs.declared.place.Place.{Place}
 use Rattle.cql_parser.specs.declared.place.Place.TheVariants.{Part}
+
+-- whether the form that the rule makes has no text and no filters in it
+abbrev pub is_leaf : Maker → Bool
+is_leaf (Designator squares) = true
+is_leaf (Number n) = true
+is_leaf (Plain word) = true
+is_leaf Outcome = true
+is_leaf Elo = true
+is_leaf Group = true
+is_leaf m = false
 
 -- what the rule of a word makes
 abbrev pub word_maker : Option OneWord → Maker

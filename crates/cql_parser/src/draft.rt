@@ -1,9 +1,10 @@
 //! A rule part by part, and the filter that it makes.
-ghost use Rattle.std.specs.Prelude.{◌≡◌, IfOk, OnOk};
+ghost use Rattle.std.specs.Prelude.{◌≡◌, true, IfOk, OnOk};
 ghost use Rattle.std.specs.Option.{option_map};
 ghost use Rattle.cql_syntax.specs.TreeOf.{filter_tree, form_tree, body_tree, parts_tree, played_tree, written_tree};
 ghost use Rattle.cql_syntax.specs.Trees.{move_of};
 ghost use Rattle.cql_parser.specs.Drafts.{name_of, draft_of, say_word, next_part, say_sign, extent_of, say_number, say, take, need, field_of, search_of, form, form_of, with_body, node_of, filter_of, body_of as body_by};
+ghost use Rattle.cql_parser.specs.Makers.{is_leaf};
 ghost use Rattle.cql_parser.specs.Shown.{node_shown, draft_shown};
 ghost use Rattle.cql_parser.specs.declared.maker.Maker.TheVariants as makers;
 
@@ -329,21 +330,31 @@ impl Draft {
         }))
     }
 
-    // The form that the rule makes.
+    // The form of a rule without a text and filters.
+    fn leaf(&self) -> Form
+        requires { is_leaf self.now.maker ≡ true }
+        ensures { form_tree result ≡ form_of (draft_shown self.now) self.now.maker }
+    {
+        match self.maker {
+            Maker::Designator(designator) => Form::Squares(designator),
+            Maker::Number(number) => Form::Number(number),
+            Maker::Plain(word) => Form::Plain(word),
+            Maker::Outcome => Form::Outcome(self.result),
+            Maker::Elo => Form::Elo(self.side),
+            _ => Form::Number(0),
+        }
+    }
+
+    // The form that the rule makes. Where it takes nothing of the draft, that is dropped by a call, whose proof is shorter.
     fn form(self, alloc: Global) -> Result<Form, NoMemory>
         ensures { IfOk result (λ f. form_tree f ≡ form_of (draft_shown self) self.maker) }
     {
         match self.maker {
-            Maker::Designator(designator) => Ok(Form::Squares(designator)),
-            Maker::Number(number) => Ok(Form::Number(number)),
             Maker::Name => Ok(Form::Name(self.into_text())),
-            Maker::Plain(word) => Ok(Form::Plain(word)),
-            Maker::Outcome => Ok(Form::Outcome(self.result)),
             Maker::Tagged(field) => {
                 let field = field_of(field, self.side);
                 Ok(Form::Tagged(field, self.into_text()))
             }
-            Maker::Elo => Ok(Form::Elo(self.side)),
             Maker::Comment => Ok(Form::Comment(self.into_text())),
             Maker::Unary(unary) => self.unary(alloc, unary),
             Maker::Direction(way) => self.steps(alloc, way),
@@ -355,8 +366,12 @@ impl Draft {
             Maker::List(chain) => Ok(Form::Chain(chain, self.into_row())),
             Maker::Parens => Ok(self.into_slots().inner()),
             Maker::Line => self.path(),
-            Maker::Group => Ok(Form::Number(0)),
             Maker::Move => Ok(Form::Played(self.into_slots().played())),
+            _ => {
+                let leaf = self.leaf();
+                drop(self);
+                Ok(leaf)
+            }
         }
     }
 
@@ -478,10 +493,17 @@ pub fn filter_in(node: Node) -> Filter
     }
 }
 
+/// The filter on the heap.
+pub fn boxed_filter(alloc: Global, filter: Filter) -> Result<Box<Filter>, NoMemory>
+    ensures { IfOk result (λ f. filter_tree f.value ≡ filter_tree filter) }
+{
+    Ok(Box::new(alloc, filter)?)
+}
+
 fn boxed(alloc: Global, node: Node) -> Result<Box<Filter>, NoMemory>
     ensures { IfOk result (λ f. filter_tree f.value ≡ filter_of (node_shown node)) }
 {
-    Ok(Box::new(alloc, filter_in(node))?)
+    boxed_filter(alloc, filter_in(node))
 }
 
 // A part of a line.
@@ -489,7 +511,7 @@ fn body_of(alloc: Global, node: Node) -> Result<Body, NoMemory>
     ensures { IfOk result (λ b. body_tree b ≡ body_by (node_shown node)) }
 {
     match node {
-        Node::Filter(filter) => Ok(Body::Atom(Box::new(alloc, filter)?)),
+        Node::Filter(filter) => Ok(Body::Atom(boxed_filter(alloc, filter)?)),
         Node::Group(parts) => Ok(Body::Group(parts)),
     }
 }
@@ -500,13 +522,13 @@ fn needed(alloc: Global, filter: Option<Box<Filter>>) -> Result<Box<Filter>, NoM
 {
     match filter {
         Some(filter) => Ok(filter),
-        None => Ok(Box::new(
+        None => boxed_filter(
             alloc,
             Filter {
                 at: 0,
                 form: Form::Number(0),
             },
-        )?),
+        ),
     }
 }
 

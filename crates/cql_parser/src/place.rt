@@ -1,6 +1,7 @@
 //! The places in the rules of the grammar.
 ghost use Rattle.std.specs.Prelude.{◌≡◌, ◌≤◌};
-ghost use Rattle.cql_parser.specs.declared.place.Place.TheVariants.{Bare, Counted, UpEnd};
+ghost use Rattle.cql_parser.specs.declared.place.Place.TheVariants.{Bare, Counted};
+ghost use Rattle.cql_parser.specs.declared.role.Role.TheVariants.{Word as WordRole, Sign as SignRole, Number as NumberRole, Text as TextRole};
 ghost use Rattle.cql_parser.specs.Places.{heads, unary_place, begin, opens, arrow_place, part_goes, goes, context, least, next, whole, level_of, depth_of};
 
 use crate::role::Role;
@@ -269,50 +270,114 @@ fn arrow_place(group: bool, back: bool, sign: Sign) -> Option<Place>
     }
 }
 
-// The place to which a token goes on after a part of a line.
-fn part_goes(group: bool, back: bool, role: Role) -> Option<Place>
-    ensures { result ≡ part_goes group back role }
+// The place to which a mark goes on after a part of a line.
+fn part_goes(group: bool, back: bool, sign: Sign) -> Option<Place>
+    ensures { result ≡ part_goes group back (SignRole sign) }
 {
-    match role {
-        Role::Sign(Sign::Close) if group => Some(Place::Closed),
-        Role::Sign(sign) => arrow_place(group, back, sign),
+    match sign {
+        Sign::Close if group => Some(Place::Closed),
+        sign => arrow_place(group, back, sign),
+    }
+}
+
+// The place to which a mark goes on after a part of a line that has no mark yet.
+#[tactic(auto, unfolding(crate::specs::Places::goes))]
+fn bare_goes(group: bool, back: bool, sign: Sign) -> Option<Place>
+    ensures { result ≡ goes (Bare group back) (SignRole sign) }
+{
+    match sign {
+        Sign::Star | Sign::Plus | Sign::Question => Some(Place::Marked(group, back)),
+        Sign::OpenBrace => Some(Place::Count(group, back)),
+        sign => part_goes(group, back, sign),
+    }
+}
+
+// The place to which a mark goes on after the first number of a mark.
+#[tactic(auto, unfolding(crate::specs::Places::goes))]
+fn counted_goes(group: bool, back: bool, sign: Sign) -> Option<Place>
+    ensures { result ≡ goes (Counted group back) (SignRole sign) }
+{
+    match sign {
+        Sign::CloseBrace => Some(Place::Marked(group, back)),
+        Sign::Comma => Some(Place::UpTo(group, back)),
         _ => None,
     }
 }
 
-// The place to which a token goes on after a part of a line that has no mark yet.
+// The place to which a word goes on.
 #[tactic(auto, unfolding(crate::specs::Places::goes))]
-fn bare_goes(group: bool, back: bool, role: Role) -> Option<Place>
-    ensures { result ≡ goes (Bare group back) role }
+fn word_goes(place: Place, word: Word) -> Option<Place>
+    ensures { result ≡ goes place (WordRole word) }
 {
-    match role {
-        Role::Sign(Sign::Star) | Role::Sign(Sign::Plus) | Role::Sign(Sign::Question) => Some(
-            Place::Marked(group, back),
+    match (place, word) {
+        (Place::PlayerDue, Word::White | Word::Black) => Some(Place::TextDue),
+        (Place::EloDue, Word::White | Word::Black) => Some(Place::Leaf),
+        (Place::ThenDue, Word::Then) => Some(Place::Consequence),
+        (Place::ElseDue, Word::Else) => Some(Place::Pre),
+        (Place::AllDue, Word::All) => Some(Place::NameDue),
+        (Place::InDue, Word::In) => Some(Place::SquaresDue),
+        (Place::MinDue, Word::Min) => Some(Place::SortText),
+        (Place::LineStart, Word::Primary) => Some(Place::LineExtent),
+        (Place::Move, Word::From) => Some(Place::Origin),
+        (Place::Move | Place::MovedFrom, Word::To) => Some(Place::Goal),
+        (Place::Move | Place::MovedFrom | Place::MovedTo, Word::Capture) => Some(Place::Taken),
+        (Place::Move | Place::MovedFrom | Place::MovedTo | Place::MovedTaking, Word::Promote) =>
+            Some(Place::Promoted),
+        _ => None,
+    }
+}
+
+// The place to which a mark goes on.
+#[tactic(auto, unfolding(crate::specs::Places::goes))]
+fn sign_goes(place: Place, sign: Sign) -> Option<Place>
+    ensures { result ≡ goes place (SignRole sign) }
+{
+    match (place, sign) {
+        (Place::FindDue, Sign::BackArrow) => Some(Place::Pre),
+        (Place::BetweenOpen, Sign::Open) => Some(Place::BetweenFirst),
+        (Place::ListOpen, Sign::Open) => Some(Place::ListFirst),
+        (Place::BetweenClose | Place::ListMore | Place::ParensClose, Sign::Close) => Some(
+            Place::Closed,
         ),
-        Role::Sign(Sign::OpenBrace) => Some(Place::Count(group, back)),
-        _ => part_goes(group, back, role),
-    }
-}
-
-// The place to which a token goes on after the first number of a mark.
-#[tactic(auto, unfolding(crate::specs::Places::goes))]
-fn counted_goes(group: bool, back: bool, role: Role) -> Option<Place>
-    ensures { result ≡ goes (Counted group back) role }
-{
-    match role {
-        Role::Sign(Sign::CloseBrace) => Some(Place::Marked(group, back)),
-        Role::Sign(Sign::Comma) => Some(Place::UpTo(group, back)),
+        (Place::BracesMore, Sign::CloseBrace) => Some(Place::Closed),
+        (Place::LineStart | Place::LineExtent | Place::LineArrow, Sign::Arrow) => Some(Place::Part(
+            false, false,
+        )),
+        (Place::LineStart | Place::LineExtent | Place::LineArrow, Sign::BackArrow) => Some(
+            Place::Part(false, true),
+        ),
+        (Place::Bare(group, back), sign) => bare_goes(group, back, sign),
+        (Place::Counted(group, back), sign) => counted_goes(group, back, sign),
+        (Place::UpEnd(group, back), Sign::CloseBrace) => Some(Place::Marked(group, back)),
+        (Place::Marked(group, back), sign) => part_goes(group, back, sign),
         _ => None,
     }
 }
 
-// The place to which a token goes on after the second number of a mark.
+// The place to which a number goes on, which may be the length of a path.
 #[tactic(auto, unfolding(crate::specs::Places::goes))]
-fn counted_up_goes(group: bool, back: bool, role: Role) -> Option<Place>
-    ensures { result ≡ goes (UpEnd group back) role }
+fn number_goes(place: Place, allowed: bool) -> Option<Place>
+    ensures { result ≡ goes place (NumberRole allowed) }
 {
-    match role {
-        Role::Sign(Sign::CloseBrace) => Some(Place::Marked(group, back)),
+    match place {
+        Place::Direction => Some(Place::OneNumber),
+        Place::OneNumber => Some(Place::TwoNumbers),
+        Place::LineStart | Place::LineExtent if allowed => Some(Place::LineMost),
+        Place::LineMost if allowed => Some(Place::LineArrow),
+        Place::Count(group, back) => Some(Place::Counted(group, back)),
+        Place::UpTo(group, back) => Some(Place::UpEnd(group, back)),
+        _ => None,
+    }
+}
+
+// The place to which a text goes on.
+#[tactic(auto, unfolding(crate::specs::Places::goes))]
+fn text_goes(place: Place) -> Option<Place>
+    ensures { result ≡ goes place TextRole }
+{
+    match place {
+        Place::PlayerDue | Place::TextDue => Some(Place::Leaf),
+        Place::MinDue | Place::SortText => Some(Place::Pre),
         _ => None,
     }
 }
@@ -322,59 +387,20 @@ fn counted_up_goes(group: bool, back: bool, role: Role) -> Option<Place>
 pub fn goes(place: Place, role: Role) -> Option<Place>
     ensures { result ≡ goes place role }
 {
-    match (place, role) {
-        (Place::ResultDue, Role::Outcome) => Some(Place::Leaf),
-        (Place::PlayerDue, Role::Word(Word::White)) => Some(Place::TextDue),
-        (Place::PlayerDue, Role::Word(Word::Black)) => Some(Place::TextDue),
-        (Place::PlayerDue, Role::Text) => Some(Place::Leaf),
-        (Place::TextDue, Role::Text) => Some(Place::Leaf),
-        (Place::EloDue, Role::Word(Word::White)) => Some(Place::Leaf),
-        (Place::EloDue, Role::Word(Word::Black)) => Some(Place::Leaf),
-        (Place::FindDue, Role::Sign(Sign::BackArrow)) => Some(Place::Pre),
-        (Place::ThenDue, Role::Word(Word::Then)) => Some(Place::Consequence),
-        (Place::ElseDue, Role::Word(Word::Else)) => Some(Place::Pre),
-        (Place::AllDue, Role::Word(Word::All)) => Some(Place::NameDue),
-        (Place::AllDue, Role::Name) => Some(Place::InDue),
-        (Place::NameDue, Role::Name) => Some(Place::InDue),
-        (Place::InDue, Role::Word(Word::In)) => Some(Place::SquaresDue),
-        (Place::MinDue, Role::Word(Word::Min)) => Some(Place::SortText),
-        (Place::MinDue, Role::Text) => Some(Place::Pre),
-        (Place::SortText, Role::Text) => Some(Place::Pre),
-        (Place::Direction, Role::Number(_)) => Some(Place::OneNumber),
-        (Place::OneNumber, Role::Number(_)) => Some(Place::TwoNumbers),
-        (Place::BetweenOpen, Role::Sign(Sign::Open)) => Some(Place::BetweenFirst),
-        (Place::BetweenClose, Role::Sign(Sign::Close)) => Some(Place::Closed),
-        (Place::ListOpen, Role::Sign(Sign::Open)) => Some(Place::ListFirst),
-        (Place::ListMore, Role::Sign(Sign::Close)) => Some(Place::Closed),
-        (Place::ParensClose, Role::Sign(Sign::Close)) => Some(Place::Closed),
-        (Place::BracesMore, Role::Sign(Sign::CloseBrace)) => Some(Place::Closed),
-        (Place::LineStart, Role::Word(Word::Primary)) => Some(Place::LineExtent),
-        (Place::LineStart, Role::Number(true)) => Some(Place::LineMost),
-        (Place::LineStart, Role::Sign(Sign::Arrow)) => Some(Place::Part(false, false)),
-        (Place::LineStart, Role::Sign(Sign::BackArrow)) => Some(Place::Part(false, true)),
-        (Place::LineExtent, Role::Number(true)) => Some(Place::LineMost),
-        (Place::LineExtent, Role::Sign(Sign::Arrow)) => Some(Place::Part(false, false)),
-        (Place::LineExtent, Role::Sign(Sign::BackArrow)) => Some(Place::Part(false, true)),
-        (Place::LineMost, Role::Number(true)) => Some(Place::LineArrow),
-        (Place::LineArrow, Role::Sign(Sign::Arrow)) => Some(Place::Part(false, false)),
-        (Place::LineArrow, Role::Sign(Sign::BackArrow)) => Some(Place::Part(false, true)),
-        (Place::Move, Role::Word(Word::From)) => Some(Place::Origin),
-        (Place::Move, Role::Word(Word::To)) => Some(Place::Goal),
-        (Place::Move, Role::Word(Word::Capture)) => Some(Place::Taken),
-        (Place::Move, Role::Word(Word::Promote)) => Some(Place::Promoted),
-        (Place::MovedFrom, Role::Word(Word::To)) => Some(Place::Goal),
-        (Place::MovedFrom, Role::Word(Word::Capture)) => Some(Place::Taken),
-        (Place::MovedFrom, Role::Word(Word::Promote)) => Some(Place::Promoted),
-        (Place::MovedTo, Role::Word(Word::Capture)) => Some(Place::Taken),
-        (Place::MovedTo, Role::Word(Word::Promote)) => Some(Place::Promoted),
-        (Place::MovedTaking, Role::Word(Word::Promote)) => Some(Place::Promoted),
-        (Place::Bare(group, back), _) => bare_goes(group, back, role),
-        (Place::Count(group, back), Role::Number(_)) => Some(Place::Counted(group, back)),
-        (Place::Counted(group, back), _) => counted_goes(group, back, role),
-        (Place::UpTo(group, back), Role::Number(_)) => Some(Place::UpEnd(group, back)),
-        (Place::UpEnd(group, back), _) => counted_up_goes(group, back, role),
-        (Place::Marked(group, back), _) => part_goes(group, back, role),
-        _ => None,
+    match role {
+        Role::Word(word) => word_goes(place, word),
+        Role::Sign(sign) => sign_goes(place, sign),
+        Role::Number(allowed) => number_goes(place, allowed),
+        Role::Text => text_goes(place),
+        Role::Outcome => match place {
+            Place::ResultDue => Some(Place::Leaf),
+            _ => None,
+        },
+        Role::Name => match place {
+            Place::AllDue | Place::NameDue => Some(Place::InDue),
+            _ => None,
+        },
+        Role::FileName | Role::Designator | Role::End | Role::Other => None,
     }
 }
 

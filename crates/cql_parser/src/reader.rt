@@ -13,7 +13,7 @@ ghost use Rattle.cql_parser.specs.Readers.{at_start, head_in, items_in, frames_i
 
 use crate::draft::{Node, filter_in};
 use crate::head::Head;
-use crate::place::{Heading, goes, heads, opens};
+use crate::place::{Heading, Place, goes, heads, opens};
 use crate::role::{Role, joins, joint_level, joint_of, role_of, takes};
 use crate::row::joined;
 use crate::rule::Rule;
@@ -74,6 +74,31 @@ impl Reader {
         })
     }
 
+    // Something more that is open.
+    fn open_frame(&mut self, frame: Frame) -> Result<Reached, NoMemory>
+        requires { open_in planted (frame_shown frame ∷ frames_in self.old) ≤ most_open }
+        ensures { IfOk result (λ r. state_shown r self.new ≡
+            reading (head_in self.old) (items_in self.old) (frame_shown frame ∷ frames_in self.old)) }
+    {
+        self.stack.push(frame)?;
+        Ok(Reached::Reading)
+    }
+
+    // The first token of a rule, which leads to a place.
+    fn begin(
+        &mut self,
+        alloc: Global,
+        token: &QueryToken,
+        place: Place,
+    ) -> Result<Reached, NoMemory>
+        requires { open_in planted (in_rule (planted.first_of token.now place) ∷ frames_in self.old) ≤ most_open }
+        ensures { IfOk result (λ r. state_shown r self.new ≡
+            reading (head_in self.old) (items_in self.old) (in_rule (planted.first_of token.now place) ∷ frames_in self.old)) }
+    {
+        let rule = Rule::new(alloc, token, place)?;
+        self.open_frame(Frame::InRule(rule))
+    }
+
     // A token where a filter is due.
     fn start(&mut self, alloc: Global, token: &QueryToken, role: Role) -> Result<Reached, NoMemory>
         ensures { IfOk result (λ r. state_shown r self.new ≡
@@ -85,11 +110,7 @@ impl Reader {
         let binds = self.stack.due() <= place.level();
         let fits = self.stack.depth() + place.depth() <= DEPTH_LIMIT;
         match (binds, fits) {
-            (true, true) => {
-                self.stack
-                    .push(Frame::InRule(Rule::new(alloc, token, place)?))?;
-                Ok(Reached::Reading)
-            }
+            (true, true) => self.begin(alloc, token, place),
             (true, false) => Ok(Reached::Deep),
             (false, _) => Ok(Reached::Stuck),
         }
@@ -102,11 +123,13 @@ impl Reader {
             join planted (head_in self.old) (items_in self.old) level (node_shown node) (frames_in self.old) x (joint role)) }
     {
         match joint_of(role) {
-            Some(joint) if takes(joint, level) => {
-                self.stack.push(Frame::Joining(level, node, joint))?;
-                Ok(Reached::Reading)
+            Some(joint) if takes(joint, level) => self.open_frame(Frame::Joining(
+                level, node, joint,
+            )),
+            _ => {
+                drop(node);
+                Ok(Reached::Stuck)
             }
-            _ => Ok(Reached::Stuck),
         }
     }
 
@@ -142,11 +165,9 @@ impl Reader {
             (frames_in self.old) token.now role)) }
         ensures short { IfOk result (λ p. HasEnded p self.old self.new) }
     {
-        let mut rule = rule;
         if let Some(place) = goes(rule.end, role) {
-            rule.add(alloc, token, place)?;
-            self.stack.push(Frame::InRule(rule))?;
-            return Ok(Passed::Reached(Reached::Reading));
+            let rule = rule.add(alloc, token, place)?;
+            return Ok(Passed::Reached(self.open_frame(Frame::InRule(rule))?));
         }
         if rule.end.is_whole() {
             let level = rule.root.level();
@@ -179,11 +200,7 @@ impl Reader {
                 let row = joined(alloc, first_level, first, joint, node)?;
                 Ok(Passed::Ended(joint_level(joint), row))
             }
-            Frame::InRule(rule) => {
-                let mut rule = rule;
-                rule.put(alloc, node)?;
-                self.onward(alloc, rule, token, role)
-            }
+            Frame::InRule(rule) => self.onward(alloc, rule.put(alloc, node)?, token, role),
         }
     }
 

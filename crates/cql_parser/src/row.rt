@@ -1,48 +1,91 @@
-//! Filters with a token between them.
+//! Filters with a token between them. A filter that is left over where memory is refused is dropped by a call, whose proof is shorter
+//! than that of a `?` beside it.
 ghost use Rattle.std.specs.Prelude.{◌≡◌, ◌==◌, IfOk};
-ghost use Rattle.cql_syntax.specs.TreeOf.{filter_tree, form_tree};
+ghost use Rattle.cql_syntax.specs.TreeOf.{filter_tree, filters_tree, form_tree, terms_tree};
+ghost use Rattle.cql_syntax.specs.Trees.{chain as chain_of, sum_of, with_filter, with_term};
 ghost use Rattle.cql_parser.specs.Drafts.{new_row, longer_row, row_of as row_by, subtracts, joined_node};
 ghost use Rattle.cql_parser.specs.Shown.{node_shown};
 ghost use Rattle.cql_parser.specs.declared.role.Joint.TheVariants.{Chained, Added, Paired};
 
-use crate::draft::{Node, filter_in};
+use crate::draft::{Node, boxed_filter, filter_in};
 use crate::role::{Joint, joint_level};
 use cq_outside::NoMemory;
 use cql_syntax::{Chain, Filter, Filters, Form, Pair, Term, Terms};
 use std::alloc::Global;
 
+// One filter more at the end.
+fn more_filters(parts: Filters, next: Filter) -> Result<Filters, NoMemory>
+    ensures { IfOk result (λ fs. filters_tree fs ≡ with_filter (filters_tree parts) (filter_tree next)) }
+{
+    let mut parts = parts;
+    parts.push(next)?;
+    Ok(parts)
+}
+
+// One term more at the end.
+fn more_terms(terms: Terms, minus: bool, filter: Filter) -> Result<Terms, NoMemory>
+    ensures { IfOk result (λ ts. terms_tree ts ≡ with_term (terms_tree terms) minus (filter_tree filter)) }
+{
+    let mut terms = terms;
+    terms.push(Term { minus, filter })?;
+    Ok(terms)
+}
+
 // Two filters in a chain.
 fn new_chain(alloc: Global, first: Filter, chain: Chain, second: Filter) -> Result<Form, NoMemory>
     ensures { IfOk result (λ f. form_tree f ≡ new_row (filter_tree first) (Chained chain) (filter_tree second)) }
 {
-    let mut parts = Filters::new(alloc);
-    parts.push(first)?;
-    parts.push(second)?;
-    Ok(Form::Chain(chain, parts))
+    match more_filters(Filters::new(alloc), first) {
+        Ok(parts) => longer_chain(chain, parts, second),
+        Err(refused) => {
+            drop(second);
+            Err(refused)
+        }
+    }
 }
 
 // A sum of two filters; whether the second is subtracted.
 fn new_sum(alloc: Global, first: Filter, minus: bool, second: Filter) -> Result<Form, NoMemory>
     ensures { IfOk result (λ f. form_tree f ≡ new_row (filter_tree first) (Added minus) (filter_tree second)) }
 {
-    let mut terms = Terms::new(alloc);
-    terms.push(Term {
-        minus: false,
-        filter: first,
-    })?;
-    terms.push(Term {
-        minus,
-        filter: second,
-    })?;
-    Ok(Form::Sum(terms))
+    match more_terms(Terms::new(alloc), false, first) {
+        Ok(terms) => longer_sum(terms, minus, second),
+        Err(refused) => {
+            drop(second);
+            Err(refused)
+        }
+    }
+}
+
+// A filter that is set against another.
+fn pair_with(
+    alloc: Global,
+    first: Box<Filter>,
+    pair: Pair,
+    second: Filter,
+) -> Result<Form, NoMemory>
+    ensures { IfOk result (λ f. form_tree f ≡ new_row (filter_tree first.value) (Paired pair) (filter_tree second)) }
+{
+    match boxed_filter(alloc, second) {
+        Ok(second) => Ok(Form::Pair(pair, first, second)),
+        Err(refused) => {
+            drop(first);
+            Err(refused)
+        }
+    }
 }
 
 // Two filters that are set against each other.
 fn new_pair(alloc: Global, first: Filter, pair: Pair, second: Filter) -> Result<Form, NoMemory>
     ensures { IfOk result (λ f. form_tree f ≡ new_row (filter_tree first) (Paired pair) (filter_tree second)) }
 {
-    let first = Box::new(alloc, first)?;
-    Ok(Form::Pair(pair, first, Box::new(alloc, second)?))
+    match boxed_filter(alloc, first) {
+        Ok(first) => pair_with(alloc, first, pair, second),
+        Err(refused) => {
+            drop(second);
+            Err(refused)
+        }
+    }
 }
 
 // A row of two filters.
@@ -66,25 +109,28 @@ fn subtracts(joint: Joint) -> bool
     }
 }
 
+// A chain, and one filter more.
+fn longer_chain(chain: Chain, parts: Filters, next: Filter) -> Result<Form, NoMemory>
+    ensures { IfOk result (λ f. form_tree f ≡ chain_of chain (with_filter (filters_tree parts) (filter_tree next))) }
+{
+    Ok(Form::Chain(chain, more_filters(parts, next)?))
+}
+
+// A sum, and one filter more; whether it is subtracted.
+fn longer_sum(terms: Terms, minus: bool, next: Filter) -> Result<Form, NoMemory>
+    ensures { IfOk result (λ f. form_tree f ≡ sum_of (with_term (terms_tree terms) minus (filter_tree next))) }
+{
+    Ok(Form::Sum(more_terms(terms, minus, next)?))
+}
+
 // A row, and one filter more at its end.
 fn longer_row(alloc: Global, row: Filter, joint: Joint, next: Filter) -> Result<Form, NoMemory>
     ensures { IfOk result (λ f. form_tree f ≡ longer_row (form_tree row.form) (filter_tree row) joint (filter_tree next)) }
 {
     let at = row.at;
     match row.form {
-        Form::Chain(chain, parts) => {
-            let mut parts = parts;
-            parts.push(next)?;
-            Ok(Form::Chain(chain, parts))
-        }
-        Form::Sum(terms) => {
-            let mut terms = terms;
-            terms.push(Term {
-                minus: subtracts(joint),
-                filter: next,
-            })?;
-            Ok(Form::Sum(terms))
-        }
+        Form::Chain(chain, parts) => longer_chain(chain, parts, next),
+        Form::Sum(terms) => longer_sum(terms, subtracts(joint), next),
         form => new_row(alloc, Filter { at, form }, joint, next),
     }
 }

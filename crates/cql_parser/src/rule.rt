@@ -1,5 +1,5 @@
 //! A rule along which reading goes.
-ghost use Rattle.std.specs.Prelude.{◌≡◌, IfOk, OnOk};
+ghost use Rattle.std.specs.Prelude.{◌≡◌, IfOk};
 ghost use Rattle.cql_parser.specs.Drafts.{node_of};
 ghost use Rattle.cql_parser.specs.Places.{next};
 ghost use Rattle.cql_parser.specs.Planted.{planted};
@@ -31,22 +31,31 @@ impl Rule {
         })
     }
 
-    /// A token along the rule, and the place after it.
-    pub fn add(&mut self, alloc: Global, token: &QueryToken, place: Place) -> Result<(), NoMemory>
-        ensures { OnOk result (rule_shown self.new ≡ planted.add_of (rule_shown self.old) token.now place) }
+    /// The rule with a token more along it, and the place after that. A refused one is dropped, by a call, whose proof is shorter than
+    /// that of a `?`.
+    pub fn add(self, alloc: Global, token: &QueryToken, place: Place) -> Result<Rule, NoMemory>
+        ensures { IfOk result (λ r. rule_shown r ≡ planted.add_of (rule_shown self) token.now place) }
     {
-        self.draft.add(alloc, token, self.end)?;
-        self.end = place;
-        Ok(())
+        let mut rule = self;
+        if let Err(refused) = rule.draft.add(alloc, token, rule.end) {
+            drop(rule);
+            return Err(refused);
+        }
+        rule.end = place;
+        Ok(rule)
     }
 
-    /// A filter along the rule.
-    pub fn put(&mut self, alloc: Global, node: Node) -> Result<(), NoMemory>
-        ensures { OnOk result (rule_shown self.new ≡ planted.put_of (rule_shown self.old) (node_shown node) (next self.old.end)) }
+    /// The rule with a filter more along it. A refused one is dropped.
+    pub fn put(self, alloc: Global, node: Node) -> Result<Rule, NoMemory>
+        ensures { IfOk result (λ r. rule_shown r ≡ planted.put_of (rule_shown self) (node_shown node) (next self.end)) }
     {
-        self.draft.put(alloc, node, self.end)?;
-        self.end = self.end.next();
-        Ok(())
+        let mut rule = self;
+        if let Err(refused) = rule.draft.put(alloc, node, rule.end) {
+            drop(rule);
+            return Err(refused);
+        }
+        rule.end = rule.end.next();
+        Ok(rule)
     }
 
     /// What the rule makes at its end.

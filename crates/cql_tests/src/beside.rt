@@ -53,6 +53,23 @@ const PAWN: &[u8] =
     b"[FEN \"4k3/P6p/8/8/8/8/8/4K3 w - - 0 1\"]\n\n1. a8=Q+ Kd7 (1... Kf7 2. Qb7+ Kg6 3. Qe4+ (3. -- h5)) \
 2. Qb7+ Kd6 3. Qb6+ Ke5 *\n";
 
+fn all_hold(
+    alloc: Global,
+    query: &FlatQuery,
+    game: &Game,
+    node: u32,
+    names: &Names,
+) -> Result<bool, NoMemory>
+    requires { node < length game.now.nodes }
+{
+    for item in query.items.as_slice() {
+        if !holds_at(alloc, item, game, query.variations, node, &[], names)? {
+            return Ok(false);
+        }
+    }
+    Ok(true)
+}
+
 // Whether all items hold at a node by the plain evaluator.
 fn holds_plainly(alloc: Global, query: &FlatQuery, game: &Game, node: u32) -> Result<bool, NoMemory>
     requires { node < length game.now.nodes }
@@ -61,12 +78,7 @@ fn holds_plainly(alloc: Global, query: &FlatQuery, game: &Game, node: u32) -> Re
         return Ok(false);
     }
     let names = Names::new(alloc);
-    for item in query.items.as_slice() {
-        if !holds_at(alloc, item, game, query.variations, node, &[], &names)? {
-            return Ok(false);
-        }
-    }
-    Ok(true)
+    all_hold(alloc, query, game, node, &names)
 }
 
 pub(crate) fn found(alloc: Global, query: &FlatQuery, game: &Game) -> Result<Column, NoMemory>
@@ -119,12 +131,28 @@ fn is_plain_everywhere(
 }
 
 // Whether the columns of a query over a game are as the plain evaluator says.
+fn both_are_plain(alloc: Global, query: &FlatQuery, game: &Game) -> Result<bool, NoMemory> {
+    let column = found(alloc, query, game)?;
+    let hits = hits_found(alloc, query, game)?;
+    is_plain_everywhere(alloc, query, game, &column, &hits)
+}
+
+fn are_plain_over_game(alloc: Global, query: &FlatQuery, game: &[u8]) -> Result<bool, Fail> {
+    let game = read_game(alloc, game, 0, true)?;
+    let plain = both_are_plain(alloc, query, &game);
+    drop(game);
+    Ok(plain?)
+}
+
+// The same by their texts.
 fn are_plain(alloc: Global, text: &[u8], game: &[u8]) -> Result<bool, Fail> {
     let query = flat_query(alloc, text)?;
-    let game = read_game(alloc, game, 0, true)?;
-    let column = found(alloc, &query, &game)?;
-    let hits = hits_found(alloc, &query, &game)?;
-    Ok(is_plain_everywhere(alloc, &query, &game, &column, &hits)?)
+    are_plain_over_game(alloc, &query, game)
+}
+
+// Whether they are so over both games.
+fn are_plain_over_both(alloc: Global, query: &[u8]) -> Result<bool, Fail> {
+    Ok(are_plain(alloc, query, GAME)? && are_plain(alloc, query, PAWN)?)
 }
 
 fn are_plain_over_games(alloc: Global, query: &[u8]) -> Result<bool, Fail> {
@@ -139,8 +167,7 @@ fn are_plain_over_games(alloc: Global, query: &[u8]) -> Result<bool, Fail> {
 #[test]
 fn columns_are_as_the_plain_evaluator(rt: HostRuntime) -> Result<(), Fail> {
     for query in FORMS.lines() {
-        assert!(rt; are_plain(rt.alloc(), query.as_bytes(), GAME)?);
-        assert!(rt; are_plain(rt.alloc(), query.as_bytes(), PAWN)?);
+        assert!(rt; are_plain_over_both(rt.alloc(), query.as_bytes())?);
     }
     Ok(())
 }
@@ -156,8 +183,7 @@ fn columns_of_the_pages_are_as_the_plain_evaluator(rt: HostRuntime) -> Result<()
 #[test]
 fn drawn_columns_are_as_the_plain_evaluator(rt: HostRuntime) -> Result<(), Fail> {
     for query in DRAWN.lines() {
-        assert!(rt; are_plain(rt.alloc(), query.as_bytes(), PAWN)?);
-        assert!(rt; are_plain(rt.alloc(), query.as_bytes(), GAME)?);
+        assert!(rt; are_plain_over_both(rt.alloc(), query.as_bytes())?);
     }
     Ok(())
 }

@@ -1,5 +1,6 @@
 //! Tests of the crates of queries: trees, lines and plans by calls that the program does not make, columns beside the plain evaluator,
-//! several queries at once, and workers at the gate.
+//! several queries at once, and workers at the gate. A large value is dropped by a call, whose proof is shorter than that of the end of
+//! its scope.
 #![tactic(auto)]
 
 #[cfg(test)]

@@ -47,20 +47,26 @@ fn looked_up<L: Ledger>(
     requires nodes { nodes_of table.now ≡ length (spots_of shape.now) }
     ensures three_by_four { searched_count (spots_of shape.now) ≤ 4 → steps.new ≤ steps.old + 12 }
 {
-    let automaton = Automaton::build(alloc, &line(alloc, 3)?)?;
-    line_values(alloc, &automaton, table, shape, steps)
+    let line = line(alloc, 3)?;
+    let automaton = Automaton::build(alloc, &line);
+    drop(line);
+    line_values(alloc, &automaton?, table, shape, steps)
 }
 
 /// Atoms with nodes at which they hold: White moves at the root and after two moves.
 static HELD: [(u32, u32); 6] = [(0, 0), (0, 2), (1, 1), (1, 3), (2, 0), (2, 2)];
 
-fn table_of<L: Ledger, R: Abort>(rt: &R, alloc: Global) -> Result<AtomTable<L>, NoMemory> {
-    let mut table = AtomTable::new(alloc, 3, 4)?;
+fn put_held<L: Ledger, R: Abort>(rt: &R, table: &mut AtomTable<L>) {
     for (atom, node) in HELD.iter() {
         assert!(rt; *atom < table.atoms());
         assert!(rt; *node < table.nodes() as u32);
         table.put(*atom, *node);
     }
+}
+
+fn table_of<L: Ledger, R: Abort>(rt: &R, alloc: Global) -> Result<AtomTable<L>, NoMemory> {
+    let mut table = AtomTable::new(alloc, 3, 4)?;
+    put_held(rt, &mut table);
     Ok(table)
 }
 
@@ -98,10 +104,14 @@ fn path_of_four(alloc: Global) -> Result<Shape, NoMemory>
     Ok(shape)
 }
 
+fn values_of_path<R: Abort>(rt: &R, alloc: Global) -> Result<Vec<Option<u32>>, NoMemory> {
+    let shape = path_of_four(alloc)?;
+    values(rt, alloc, &shape)
+}
+
 #[test]
 fn three_atoms_are_looked_at_once_at_each_of_four_nodes(rt: HostRuntime) -> Result<(), Fail> {
-    let shape = path_of_four(rt.alloc())?;
-    let found = values(&rt, rt.alloc(), &shape)?;
+    let found = values_of_path(&rt, rt.alloc())?;
     assert!(rt; found.as_slice() == [Some(3), None, None, None].as_slice());
     Ok(())
 }

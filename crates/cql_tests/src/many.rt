@@ -28,6 +28,17 @@ fn read_queries(alloc: Global, texts: &[&[u8]]) -> Result<Vec<TypedQuery>, Refus
     Ok(queries)
 }
 
+// The plan of one to sixteen queries.
+fn make_plan<R: Abort>(
+    rt: &R,
+    alloc: Global,
+    queries: &[TypedQuery],
+) -> Result<SharedPlan, NoMemory> {
+    assert!(rt; !queries.is_empty());
+    assert!(rt; queries.len() <= 16);
+    SharedPlan::make(alloc, queries)
+}
+
 /// Their plan.
 pub(crate) fn plan_of<R: Abort>(
     rt: &R,
@@ -35,9 +46,7 @@ pub(crate) fn plan_of<R: Abort>(
     texts: &[&[u8]],
 ) -> Result<SharedPlan, Refusal<QueryFault>> {
     let queries = read_queries(alloc, texts)?;
-    assert!(rt; !queries.is_empty());
-    assert!(rt; queries.len() <= 16);
-    Ok(SharedPlan::make(alloc, queries.as_slice())?)
+    Ok(make_plan(rt, alloc, queries.as_slice())?)
 }
 
 // What is found in a game. The steps, which proofs alone count, are none for queries without a part, and at most one a searched node
@@ -135,17 +144,37 @@ fn is_found(verdicts: &Verdicts, query: u32, want: &Found<'_>) -> bool
     verdicts.nodes(query) == want.0 && verdicts.keys(query) == want.1
 }
 
-fn expect<R: Abort>(rt: &R, alloc: Global, row: &Row<'_>) -> Result<(), Fail> {
-    let (texts, parts, first, last) = row;
-    let plan = plan_of(rt, alloc, *texts)?;
+// Whether this is found of the first of so many queries, and of the last.
+fn are_found(verdicts: &Verdicts, count: u32, row: &Row<'_>) -> bool
+    requires { count ≡ length (nodes_of verdicts.now) }
+{
+    if count == 0 {
+        return false;
+    }
+    is_found(verdicts, 0, &row.2) && is_found(verdicts, count - 1, &row.3)
+}
+
+// Whether a plan has the queries and the parts of a row.
+fn has_parts(plan: &SharedPlan, row: &Row<'_>) -> bool {
+    plan.len() as usize == row.0.len() && plan.parts() == row.1
+}
+
+// Whether a plan is as a row says, and finds in a game what it says.
+fn finds(alloc: Global, plan: &SharedPlan, game: &Game, row: &Row<'_>) -> Result<bool, NoMemory> {
+    let verdicts = found(alloc, plan, game)?;
+    Ok(has_parts(plan, row) && are_found(&verdicts, plan.len(), row))
+}
+
+fn is_right(alloc: Global, plan: &SharedPlan, row: &Row<'_>) -> Result<bool, Fail> {
     let game = read_game(alloc, GAME, 0, true)?;
-    let verdicts = found(alloc, &plan, &game)?;
-    let count = plan.len();
-    assert!(rt; count >= 1);
-    assert!(rt; count as usize == texts.len());
-    assert!(rt; plan.parts() == *parts);
-    assert!(rt; is_found(&verdicts, 0, first));
-    assert!(rt; is_found(&verdicts, count - 1, last));
+    let right = finds(alloc, plan, &game, row);
+    drop(game);
+    Ok(right?)
+}
+
+fn expect<R: Abort>(rt: &R, alloc: Global, row: &Row<'_>) -> Result<(), Fail> {
+    let plan = plan_of(rt, alloc, row.0)?;
+    assert!(rt; is_right(alloc, &plan, row)?);
     Ok(())
 }
 

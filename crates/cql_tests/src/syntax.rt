@@ -1,21 +1,12 @@
 //! Trees of queries: their copies and kinds, and which are the same.
-use cq_outside::{NoMemory, Refusal};
+use crate::plans::parsed;
+use cq_outside::NoMemory;
 use cq_symmetry::{Family, Mapping, SquarePart};
-use cql_lexer::{query_tokens, tokens_are_read};
-use cql_parser::{parse, tokens_of_a_text_are_ended};
+use cql_lexer::tokens_are_read;
 use cql_rewrite::{same_filter, same_unplaced};
-use cql_syntax::{
-    Constituents, Filter, Filters, Form, Kind, Plain, Query, QueryFault, Terms, kind_of, weight,
-};
+use cql_syntax::{Constituents, Filter, Filters, Form, Kind, Plain, Query, Terms, kind_of, weight};
 use std::alloc::Global;
 use std::test::Fail;
-
-// The query that a text is, before its kinds are looked at.
-fn parsed(alloc: Global, text: &[u8]) -> Result<Query, Refusal<QueryFault>> {
-    let tokens = query_tokens(alloc, text)?;
-    tokens_of_a_text_are_ended();
-    parse(alloc, tokens.as_slice())
-}
 
 /// A query of each form, its weight, and the kind of its first item.
 type Row<'a> = (&'a [u8], u64, Kind);
@@ -66,19 +57,42 @@ fn is_copied(alloc: Global, query: &Query, kind: Kind) -> Result<bool, NoMemory>
     Ok(kind_of(&copy) == kind && same_filter(&copy, first))
 }
 
-// Whether a copy of a query has its weight, and a copy of its first item its kind.
+// Whether a query has this weight, and a copy of its first item this kind.
+fn has_weight_and_kind(
+    alloc: Global,
+    query: &Query,
+    heavy: u64,
+    kind: Kind,
+) -> Result<bool, NoMemory> {
+    let copied = is_copied(alloc, query, kind)?;
+    Ok(copied && weight(query) == heavy)
+}
+
+// Whether a copy of a query has its weight and its kind.
+fn is_right_copied(alloc: Global, query: &Query, row: &Row<'_>) -> Result<bool, NoMemory> {
+    let copy = query.copy()?;
+    has_weight_and_kind(alloc, &copy, row.1, row.2)
+}
+
 fn is_right(alloc: Global, row: &Row<'_>) -> Result<bool, Fail> {
-    let (text, heavy, kind) = *row;
-    let query = parsed(alloc, text)?.copy()?;
-    let copied = is_copied(alloc, &query, kind)?;
-    Ok(copied && weight(&query) == heavy)
+    let query = parsed(alloc, row.0)?;
+    let right = is_right_copied(alloc, &query, row);
+    drop(query);
+    Ok(right?)
+}
+
+fn are_all_right(alloc: Global) -> Result<bool, Fail> {
+    for row in FORMS.iter() {
+        if !is_right(alloc, row)? {
+            return Ok(false);
+        }
+    }
+    Ok(true)
 }
 
 #[test]
 fn copies_of_each_form_are_the_same(rt: HostRuntime) -> Result<(), Fail> {
-    for row in FORMS.iter() {
-        assert!(rt; is_right(rt.alloc(), row)?);
-    }
+    assert!(rt; are_all_right(rt.alloc())?);
     Ok(())
 }
 
@@ -113,29 +127,56 @@ fn is_pair(one: &Query, other: &Query, same: bool, but_for_places: bool) -> bool
     same_filter(f, g) == same && same_unplaced(f, g) == but_for_places
 }
 
+fn is_pair_of(alloc: Global, one: &Query, pair: &Pair<'_>) -> Result<bool, Fail> {
+    let other = parsed(alloc, pair.1)?;
+    Ok(is_pair(one, &other, pair.2, pair.3))
+}
+
+fn is_right_pair(alloc: Global, pair: &Pair<'_>) -> Result<bool, Fail> {
+    let one = parsed(alloc, pair.0)?;
+    is_pair_of(alloc, &one, pair)
+}
+
+fn are_pairs_right(alloc: Global) -> Result<bool, Fail> {
+    for pair in PAIRS.iter() {
+        if !is_right_pair(alloc, pair)? {
+            return Ok(false);
+        }
+    }
+    Ok(true)
+}
+
 #[test]
 fn trees_that_differ_are_not_the_same(rt: HostRuntime) -> Result<(), Fail> {
-    for (text, other_text, same, but_for_places) in PAIRS.iter() {
-        let one = parsed(rt.alloc(), text)?;
-        let other = parsed(rt.alloc(), other_text)?;
-        assert!(rt; is_pair(&one, &other, *same, *but_for_places));
-    }
+    assert!(rt; are_pairs_right(rt.alloc())?);
     Ok(())
+}
+
+fn one_check(alloc: Global) -> Result<Filters, NoMemory> {
+    let mut filters = Filters::new(alloc);
+    filters.push(Filter {
+        at: 6,
+        form: Form::Plain(Plain::Check),
+    })?;
+    Ok(filters)
+}
+
+// The kind of a family of sets that is written out.
+fn kind_of_family(filters: Filters) -> Kind {
+    let any = Filter {
+        at: 6,
+        form: Form::Any(Kind::Set, filters),
+    };
+    let kind = kind_of(&any);
+    drop(any);
+    kind
 }
 
 // A family that is written out, which is in no text.
 #[test]
 fn a_family_that_is_written_out_has_its_kind(rt: HostRuntime) -> Result<(), Fail> {
-    let mut filters = Filters::new(rt.alloc());
-    filters.push(Filter {
-        at: 6,
-        form: Form::Plain(Plain::Check),
-    })?;
-    let any = Filter {
-        at: 6,
-        form: Form::Any(Kind::Set, filters),
-    };
-    assert!(rt; kind_of(&any) == Kind::Set);
+    let filters = one_check(rt.alloc())?;
+    assert!(rt; kind_of_family(filters) == Kind::Set);
     Ok(())
 }
 

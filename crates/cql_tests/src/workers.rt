@@ -33,8 +33,8 @@ fn push_export(text: &mut Bytes, number: u32) -> Result<(), NoMemory> {
     text.push_all(b"} {CQL} *\n\n")
 }
 
-/// An archive of the games.
-pub(crate) fn archive_of(alloc: Global) -> Result<Bytes, NoMemory> {
+// An archive of the games.
+fn archive_of(alloc: Global) -> Result<Bytes, NoMemory> {
     let mut archive = Bytes::new(alloc);
     for number in 0..WATCHED {
         push_game(&mut archive, number)?;
@@ -190,19 +190,34 @@ fn answered<R: Threads + Sync>(
     Ok(run_batch(rt, alloc, plan, batch, 2, gate)?.len())
 }
 
-// Asks that two workers enter and leave each game of a batch once.
+/// The batch of the games at which two workers are watched.
+pub(crate) fn watched_batch<R: Abort>(rt: &R, alloc: Global) -> Result<Batch, NoMemory> {
+    let archive = archive_of(alloc)?;
+    batch_of(rt, alloc, archive.as_slice(), 0)
+}
+
+// Whether two workers enter and leave each game of a batch once.
+fn are_both_seen<R: Threads + Sync>(
+    rt: &R,
+    alloc: Global,
+    plan: &Plan,
+    batch: &Batch,
+    at_enter: bool,
+) -> Result<bool, NoMemory> {
+    let watch = Watch::new(alloc, at_enter)?;
+    let count = answered(rt, alloc, plan, batch, &watch)?;
+    Ok(count == 64 && watch.has_seen_all())
+}
+
+// Asks that two workers enter and leave each game once.
 fn expect_both<R: Threads + Sync + Abort>(
     rt: &R,
     alloc: Global,
     plan: &Plan,
     at_enter: bool,
 ) -> Result<(), Fail> {
-    let archive = archive_of(alloc)?;
-    let batch = batch_of(rt, alloc, archive.as_slice(), 0)?;
-    let watch = Watch::new(alloc, at_enter)?;
-    let count = answered(rt, alloc, plan, &batch, &watch)?;
-    assert!(rt; count == 64);
-    assert!(rt; watch.has_seen_all());
+    let batch = watched_batch(rt, alloc)?;
+    assert!(rt; are_both_seen(rt, alloc, plan, &batch, at_enter)?);
     Ok(())
 }
 
