@@ -9,7 +9,7 @@ use std::marker::Model;
 pub const LONGEST_PATH: u32 = 127;
 
 /// A number of nodes along a path, from 1 to `LONGEST_PATH`.
-#[derive(Clone, Copy, PartialEq, Eq)]
+#[derive(Clone, Copy, Debug, PartialEq, Eq)]
 pub struct PathLength {
     nodes: u32,
 }
@@ -47,7 +47,7 @@ impl PathLength {
 }
 
 /// Which paths a line speaks of.
-#[derive(Clone, Copy, PartialEq, Eq)]
+#[derive(Clone, Copy, Debug, PartialEq, Eq)]
 pub enum Extent {
     /// Those of every length.
     Any,

@@ -16,7 +16,7 @@ pub enum Kind {
 }
 
 /// A filter that is one word.
-#[derive(Clone, Copy, PartialEq, Eq)]
+#[derive(Clone, Copy, Debug, PartialEq, Eq)]
 pub enum Plain {
     Check,
     Mate,
@@ -50,7 +50,7 @@ impl Plain {
 }
 
 /// Whose tag or rating is meant.
-#[derive(Clone, Copy, PartialEq, Eq)]
+#[derive(Clone, Copy, Debug, PartialEq, Eq)]
 pub enum Of {
     Either,
     White,
@@ -58,7 +58,7 @@ pub enum Of {
 }
 
 /// A tag of the game whose text is searched.
-#[derive(Clone, Copy, PartialEq, Eq)]
+#[derive(Clone, Copy, Debug, PartialEq, Eq)]
 pub enum Field {
     Player(Of),
     Event,
@@ -66,7 +66,7 @@ pub enum Field {
 }
 
 /// The result of a game, by its marker: `1-0`, `0-1`, `1/2-1/2` and `*`.
-#[derive(Clone, Copy, PartialEq, Eq)]
+#[derive(Clone, Copy, Debug, PartialEq, Eq)]
 pub enum Outcome {
     White,
     Black,
@@ -75,7 +75,7 @@ pub enum Outcome {
 }
 
 /// A direction on the board, or several of them.
-#[derive(Clone, Copy, PartialEq, Eq)]
+#[derive(Clone, Copy, Debug, PartialEq, Eq)]
 pub enum Way {
     Up,
     Down,
@@ -94,7 +94,7 @@ pub enum Way {
 }
 
 /// A filter's word or mark that stands before one part.
-#[derive(Clone, Copy, PartialEq, Eq)]
+#[derive(Clone, Copy, Debug, PartialEq, Eq)]
 pub enum Unary {
     Not,
     /// `~`, the squares that are not in the part.
@@ -125,7 +125,7 @@ impl Unary {
 }
 
 /// A filter of any number of parts in a row, other than a sum.
-#[derive(Clone, Copy, PartialEq, Eq)]
+#[derive(Clone, Copy, Debug, PartialEq, Eq)]
 pub enum Chain {
     Or,
     And,
@@ -151,7 +151,7 @@ impl Chain {
 }
 
 /// A filter of two parts.
-#[derive(Clone, Copy, PartialEq, Eq)]
+#[derive(Clone, Copy, Debug, PartialEq, Eq)]
 pub enum Pair {
     Attacks,
     AttackedBy,
@@ -176,7 +176,7 @@ impl Pair {
 }
 
 /// How often a part of a line stands.
-#[derive(Clone, Copy, PartialEq, Eq)]
+#[derive(Clone, Copy, Debug, PartialEq, Eq)]
 pub enum Mark {
     Once,
     /// Any number of times.
@@ -190,7 +190,7 @@ pub enum Mark {
 }
 
 /// Men on squares.
-#[derive(Clone, Copy, PartialEq, Eq)]
+#[derive(Clone, Copy, Debug, PartialEq, Eq)]
 pub struct Designator {
     /// Bit k is man k of: white king, queen, rook, bishop, knight, pawn, the same in black, the empty square.
     pub men: u16,

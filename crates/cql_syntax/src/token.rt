@@ -4,7 +4,7 @@ use crate::leaves::{Designator, Outcome};
 use cq_outside::Bytes;
 
 /// A token, and where it stands.
-#[derive(Drop)]
+#[derive(Drop, PartialEq, Eq)]
 pub struct QueryToken {
     /// The place of its first byte in the query, from 0. Of the end, the number of bytes.
     pub at: u32,
@@ -12,7 +12,7 @@ pub struct QueryToken {
 }
 
 /// What a token is.
-#[derive(Drop)]
+#[derive(Drop, PartialEq, Eq)]
 pub enum QueryTokenKind {
     /// A word of the language, by its number in the list of the words, from 0.
     Word(u16),
