@@ -1,9 +1,23 @@
-use Rattle.std.proofs.Common.{arith, take}
-use Rattle.cq_shared.specs.Matching.{is_class}
+use Rattle.std.proofs.Common.{arith, subst, take}
+use Rattle.std.proofs.lemmas.List.{take_all}
+use Rattle.cq_shared.specs.Matching.{is_class, HaveRows}
 use Rattle.cq_shared.specs.Wanted.{both}
-use Rattle.cq_shared.proofs.After.{left_more, cost_more, narrowed_fewer, still_admits}
+use Rattle.cq_shared.proofs.After.{left_more, left_all, still_ready, cost_more, narrowed_fewer, still_admits}
 use Rattle.cq_shared.proofs.Sorting.{rows_more}
 use Rattle.cq_shared.proofs.matching.sorted_by.Goals as goal
+
+pub after_sort_if-requires : goal.after_sort_if-requires
+after_sort_if-requires g c = record {
+  ready = still_ready (is_class 5) c.args.game.now (take c.loop-k.k c.args.parts.now) c.index-parts-k.result c.args.left.items c.loop-k.later.items
+      (c.requires.ready c.loop-k.k c.index-parts-k.result c.loop-k-test.true c.index-parts-k.is) c.loop-k.invariant.left;
+}
+
+pub returns-clause-left : goal.returns-clause-left
+returns-clause-left g c = left_all (is_class 5) c.args.game.now c.args.parts.now c.loop-k.k c.args.left.items c.loop-k.later.items c.loop-k-test.false c.loop-k.invariant.left
+
+pub returns-clause-rows : goal.returns-clause-rows
+returns-clause-rows g c =
+    subst (λ ps. HaveRows c.args.game.now c.loop-k.later.items ps c.loop-k.rows.items) (take_all c.loop-k.k c.args.parts.now c.loop-k-test.false) c.loop-k.invariant.rows
 
 pub loop-k-preserved : goal.loop-k-preserved
 loop-k-preserved g c =
