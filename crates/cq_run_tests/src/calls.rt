@@ -6,8 +6,8 @@ use cq_run::{Status, run};
 use std::alloc::{AllocError, Global};
 use std::thread::Threads;
 
-/// The words as a command has them.
-pub(crate) fn texts_of(alloc: Global, words: &[&str]) -> Result<Vec<String>, AllocError> {
+// The words as a command has them.
+fn texts_of(alloc: Global, words: &[&str]) -> Result<Vec<String>, AllocError> {
     let mut texts = Vec::new(alloc);
     for word in words {
         texts.push(String::from_str(alloc, word)?)?;
@@ -51,15 +51,29 @@ pub(crate) fn is_part(taken: Option<&[u8]>, text: &str, count: Option<usize>) ->
     text.as_bytes().starts_with(taken) && taken.len() == count.unwrap_or(taken.len())
 }
 
-/// How words are answered. The contract of the top call is a large one, so that all tests make this call alone.
-pub(crate) fn status_of<R: Threads + Sync, D: Desk, O: Sink, E: Sink, G: Gate + Sync>(
+/// How texts are answered. The contract of the top call is a large one, so that all tests make this call alone.
+pub(crate) fn status_by<R: Threads + Sync, D: Desk, O: Sink, E: Sink, G: Gate + Sync>(
     rt: &R,
     alloc: Global,
-    words: &[String],
+    texts: &[String],
     desk: &mut D,
     out: &mut O,
     err: &mut E,
     gate: &G,
 ) -> Status {
-    run(rt, alloc, words, desk, out, err, gate)
+    run(rt, alloc, texts, desk, out, err, gate)
+}
+
+/// How words are answered.
+pub(crate) fn status_of<R: Threads + Sync, D: Desk, O: Sink, E: Sink, G: Gate + Sync>(
+    rt: &R,
+    alloc: Global,
+    words: &[&str],
+    desk: &mut D,
+    out: &mut O,
+    err: &mut E,
+    gate: &G,
+) -> Result<Status, NoMemory> {
+    let texts = texts_of(alloc, words)?;
+    Ok(status_by(rt, alloc, texts.as_slice(), desk, out, err, gate))
 }

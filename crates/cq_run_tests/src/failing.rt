@@ -1,8 +1,8 @@
 //! The top call over a desk of other hands, which answers each call as it is told.
 ghost use Rattle.std.specs.Prelude.{◌≡◌, ◌≤◌, None};
 
-use crate::calls::{status_of, texts_of};
-use cq_outside::{Desk, Failed, OpenFault, OpenGate, Source, SureSink};
+use crate::calls::status_of;
+use cq_outside::{Desk, Failed, NoMemory, OpenFault, OpenGate, Source, SureSink};
 use cq_run::Status;
 use std::alloc::Global;
 use std::process::Abort;
@@ -86,17 +86,34 @@ static ROWS: [Row; 4] = [
     (Ok(()), Ok(()), Status::Done),
 ];
 
+// The status of `eval` over a desk and a first sink.
+fn answered<R: Threads + Sync>(
+    rt: &R,
+    alloc: Global,
+    desk: &mut FailingDesk,
+    out: &mut SureSink,
+) -> Result<Status, NoMemory> {
+    let mut err = SureSink::new(alloc, 64)?;
+    let words = &["eval", "cql() Ka1"];
+    status_of(rt, alloc, words, desk, out, &mut err, &OpenGate)
+}
+
+// The same over the desk of a row.
+fn answered_by<R: Threads + Sync>(
+    rt: &R,
+    alloc: Global,
+    row: &Row,
+    out: &mut SureSink,
+) -> Result<Status, NoMemory> {
+    let mut desk = FailingDesk::new(row.0, row.1);
+    answered(rt, alloc, &mut desk, out)
+}
+
 // Asks that a row has its status, and that no game is written.
 fn expect<R: Threads + Sync + Abort>(rt: &R, alloc: Global, row: &Row) -> Result<(), Fail> {
-    let (open, read, want) = *row;
-    let mut desk = FailingDesk::new(open, read);
     let mut out = SureSink::new(alloc, 64)?;
-    let mut err = SureSink::new(alloc, 64)?;
-    let words = texts_of(alloc, &["eval", "cql() Ka1"])?;
-    let words = words.as_slice();
-    let status = status_of(rt, alloc, words, &mut desk, &mut out, &mut err, &OpenGate);
-    assert!(rt; status == want);
-    assert!(rt; out.taken() == Some(b"".as_slice()));
+    let status = answered_by(rt, alloc, row, &mut out)?;
+    assert!(rt; status == row.2 && out.taken() == Some(b"".as_slice()));
     Ok(())
 }
 

@@ -2,7 +2,7 @@
 //! the full batches before a failed read give, or a prefix.
 ghost use Rattle.std.specs.Prelude.{◌≤◌};
 
-use crate::calls::{is_part, sink_with, status_of, texts_of};
+use crate::calls::{is_part, sink_with, status_of};
 use cq_outside::{Bytes, Calls, MemDesk, MemSink, NoMemory, OpenGate};
 use cq_run::Status;
 use std::alloc::Global;
@@ -73,24 +73,19 @@ fn desk_with(alloc: Global, archive: &[u8], given: usize, read: u64) -> Result<M
     Ok(desk)
 }
 
-// The status of a case in a run, and its sinks.
+// The status of a case in a run, over two sinks.
 fn answered<R: Threads + Sync + Abort>(
     rt: &R,
     alloc: Global,
     words: &[&str],
     archive: &[u8],
     run: &Run,
-) -> Result<(Status, MemSink, MemSink), Fail> {
-    let (given, taken, read, at_out, at_err) = *run;
-    assert!(rt; given >= 1);
-    assert!(rt; taken >= 1);
-    let mut desk = desk_with(alloc, archive, given, read)?;
-    let mut out = sink_with(alloc, taken, &[at_out])?;
-    let mut err = sink_with(alloc, taken, &[at_err])?;
-    let texts = texts_of(alloc, words)?;
-    let words = texts.as_slice();
-    let status = status_of(rt, alloc, words, &mut desk, &mut out, &mut err, &OpenGate);
-    Ok((status, out, err))
+    out: &mut MemSink,
+    err: &mut MemSink,
+) -> Result<Status, NoMemory> {
+    assert!(rt; run.0 >= 1);
+    let mut desk = desk_with(alloc, archive, run.0, run.2)?;
+    status_of(rt, alloc, words, &mut desk, out, err, &OpenGate)
 }
 
 // Whether a case is answered as it should be in a run.
@@ -107,6 +102,35 @@ fn is_right(
     }
 }
 
+// Asks for this over two sinks, and says whether a call failed.
+fn expect_by<R: Threads + Sync + Abort>(
+    rt: &R,
+    alloc: Global,
+    case: &Case<'_>,
+    archive: &[u8],
+    run: &Run,
+    out: &mut MemSink,
+    err: &mut MemSink,
+) -> Result<bool, Fail> {
+    let status = answered(rt, alloc, case.0, archive, run, out, err)?;
+    assert!(rt; is_right(case, run, status, out.taken(), err.taken()));
+    Ok(status != case.1)
+}
+
+// The same over a first sink.
+fn expect_with<R: Threads + Sync + Abort>(
+    rt: &R,
+    alloc: Global,
+    case: &Case<'_>,
+    archive: &[u8],
+    run: &Run,
+    out: &mut MemSink,
+) -> Result<bool, Fail> {
+    assert!(rt; run.1 >= 1);
+    let mut err = sink_with(alloc, run.1, &[run.4])?;
+    expect_by(rt, alloc, case, archive, run, out, &mut err)
+}
+
 // Asks for this, and says whether a call failed.
 fn expect<R: Threads + Sync + Abort>(
     rt: &R,
@@ -115,10 +139,9 @@ fn expect<R: Threads + Sync + Abort>(
     archive: &[u8],
     run: &Run,
 ) -> Result<bool, Fail> {
-    let (status, out, err) = answered(rt, alloc, case.0, archive, run)?;
-    let right = is_right(case, run, status, out.taken(), err.taken());
-    assert!(rt; right);
-    Ok(status != case.1)
+    assert!(rt; run.1 >= 1);
+    let mut out = sink_with(alloc, run.1, &[run.3])?;
+    expect_with(rt, alloc, case, archive, run, &mut out)
 }
 
 // ---- one call after the other
@@ -298,15 +321,22 @@ static AT_FULL: [Run; 4] = [
     (4214, PIECE, 2, 0, 0),
 ];
 
+fn expect_three<R: Threads + Sync + Abort>(
+    rt: &R,
+    alloc: Global,
+    archive: &[u8],
+) -> Result<(), Fail> {
+    expect_turns(rt, alloc, &THREE_BATCHES, archive, &TURNS_OF_THREE)?;
+    for run in AT_FULL.iter() {
+        assert!(rt; expect(rt, alloc, &THREE_BATCHES, archive, run)?);
+    }
+    Ok(())
+}
+
 #[test]
 fn calls_over_three_batches_fail(rt: HostRuntime) -> Result<(), Fail> {
     let archive = three_batches(rt.alloc())?;
-    let archive = archive.as_slice();
-    expect_turns(&rt, rt.alloc(), &THREE_BATCHES, archive, &TURNS_OF_THREE)?;
-    for run in AT_FULL.iter() {
-        assert!(rt; expect(&rt, rt.alloc(), &THREE_BATCHES, archive, run)?);
-    }
-    Ok(())
+    expect_three(&rt, rt.alloc(), archive.as_slice())
 }
 
 // ---- up to the first match
@@ -375,15 +405,22 @@ fn archive_of(alloc: Global, games: u64, first: u64) -> Result<Bytes, NoMemory> 
     Ok(archive)
 }
 
+// Asks for the case of a row, and says whether the second read failed.
+fn fails_at_second<R: Threads + Sync + Abort>(
+    rt: &R,
+    alloc: Global,
+    row: &First<'_>,
+) -> Result<bool, Fail> {
+    let archive = archive_of(alloc, row.0, row.1)?;
+    expect(rt, alloc, &row.3, archive.as_slice(), &SECOND)
+}
+
 fn expect_first<R: Threads + Sync + Abort>(
     rt: &R,
     alloc: Global,
     row: &First<'_>,
 ) -> Result<(), Fail> {
-    let (games, first, fails, case) = *row;
-    let archive = archive_of(alloc, games, first)?;
-    let failed = expect(rt, alloc, &case, archive.as_slice(), &SECOND)?;
-    assert!(rt; failed == fails);
+    assert!(rt; fails_at_second(rt, alloc, row)? == row.2);
     Ok(())
 }
 

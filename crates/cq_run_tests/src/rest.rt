@@ -1,5 +1,7 @@
 //! What `answer` leaves in a source behind a first match, and what `answer_many` writes.
-ghost use Rattle.std.specs.Prelude.{◌≤◌, length};
+ghost use Rattle.std.specs.Prelude.{◌≡◌, ◌≤◌, length, false, IfOk};
+ghost use Rattle.cql_syntax.specs.TreeFaults.{has_any};
+ghost use Rattle.cql_syntax.specs.TreeOf.{query_tree};
 
 use cq_outside::{Bytes, MemSource, NoMemory, OpenGate, Refusal, SureSink, read_up_to};
 use cq_run::{Status, answer, answer_many};
@@ -7,7 +9,7 @@ use cq_words::Settings;
 use cql_kinds::check;
 use cql_lexer::query_tokens;
 use cql_parser::{parse, spelled_queries_have_no_any, tokens_of_a_text_are_ended};
-use cql_syntax::{QueryFault, TypedQuery};
+use cql_syntax::{Query, QueryFault, TypedQuery};
 use std::alloc::Global;
 use std::test::Fail;
 use std::thread::Threads;
@@ -21,13 +23,19 @@ const EXPORT: &[u8] =
 
 const REPORT: &[u8] = b"games 1 matched 1 refused 0\n";
 
-// The query that a text is.
-fn read_query(alloc: Global, text: &[u8]) -> Result<TypedQuery, Refusal<QueryFault>> {
+// The query that a text is, before its kinds are looked at.
+fn parsed(alloc: Global, text: &[u8]) -> Result<Query, Refusal<QueryFault>>
+    ensures { IfOk result (λ query. has_any (query_tree query) ≡ false) }
+{
     tokens_of_a_text_are_ended();
     spelled_queries_have_no_any();
     let tokens = query_tokens(alloc, text)?;
-    let query = parse(alloc, tokens.as_slice())?;
-    check(&query)
+    parse(alloc, tokens.as_slice())
+}
+
+// The query that a text is.
+fn read_query(alloc: Global, text: &[u8]) -> Result<TypedQuery, Refusal<QueryFault>> {
+    check(&parsed(alloc, text)?)
 }
 
 // How a query is answered up to its first match. The contract of this call is a large one.
@@ -56,21 +64,74 @@ fn archive_of(alloc: Global) -> Result<Bytes, NoMemory> {
     Ok(archive)
 }
 
+// Whether all is answered, with this text and the report of one match.
+fn is_done(status: Status, out: &SureSink, err: &SureSink, text: &[u8]) -> bool {
+    status == Status::Done && out.taken() == Some(text) && err.taken() == Some(REPORT)
+}
+
+fn is_answered_with<R: Threads + Sync>(
+    rt: &R,
+    alloc: Global,
+    query: &TypedQuery,
+    source: &mut MemSource,
+    out: &mut SureSink,
+) -> Result<bool, NoMemory> {
+    let mut err = SureSink::new(alloc, 4096)?;
+    let status = answered(rt, alloc, query, source, out, &mut err);
+    Ok(is_done(status, out, &err, EXPORT))
+}
+
+// Whether the answer of a query up to its first match is as it should be.
+fn is_answered<R: Threads + Sync>(
+    rt: &R,
+    alloc: Global,
+    query: &TypedQuery,
+    source: &mut MemSource,
+) -> Result<bool, NoMemory> {
+    let mut out = SureSink::new(alloc, 4096)?;
+    is_answered_with(rt, alloc, query, source, &mut out)
+}
+
+// How many bytes are left in a source.
+fn count_left(alloc: Global, source: &mut MemSource) -> Result<usize, Fail> {
+    Ok(read_up_to(source, alloc, 65_536)?.len())
+}
+
+// Whether a query is answered over a source, and so many bytes are left there.
+fn leaves_rest<R: Threads + Sync>(
+    rt: &R,
+    alloc: Global,
+    query: &TypedQuery,
+    source: &mut MemSource,
+    rest: usize,
+) -> Result<bool, Fail> {
+    Ok(is_answered(rt, alloc, query, source)? && count_left(alloc, source)? >= rest)
+}
+
+fn leaves_rest_of<R: Threads + Sync>(
+    rt: &R,
+    alloc: Global,
+    query: &TypedQuery,
+    archive: &[u8],
+) -> Result<bool, Fail> {
+    let mut source = MemSource::new(alloc, archive, 8, &[])?;
+    leaves_rest(rt, alloc, query, &mut source, 8000)
+}
+
+fn leaves_rest_of_archive<R: Threads + Sync>(
+    rt: &R,
+    alloc: Global,
+    query: &TypedQuery,
+) -> Result<bool, Fail> {
+    let archive = archive_of(alloc)?;
+    leaves_rest_of(rt, alloc, query, archive.as_slice())
+}
+
 // No more is read than the batch of the match, with a piece after it.
 #[test]
 fn the_rest_is_left_in_the_source(rt: HostRuntime) -> Result<(), Fail> {
-    let alloc = rt.alloc();
-    let query = read_query(alloc, b"cql() Pd4")?;
-    let archive = archive_of(alloc)?;
-    let mut source = MemSource::new(alloc, archive.as_slice(), 8, &[])?;
-    let mut out = SureSink::new(alloc, 4096)?;
-    let mut err = SureSink::new(alloc, 4096)?;
-    let status = answered(&rt, alloc, &query, &mut source, &mut out, &mut err);
-    let left = read_up_to(&mut source, alloc, 65_536)?;
-    assert!(rt; status == Status::Done);
-    assert!(rt; out.taken() == Some(EXPORT));
-    assert!(rt; err.taken() == Some(REPORT));
-    assert!(rt; left.len() >= 8000);
+    let query = read_query(rt.alloc(), b"cql() Pd4")?;
+    assert!(rt; leaves_rest_of_archive(&rt, rt.alloc(), &query)?);
     Ok(())
 }
 
@@ -97,18 +158,56 @@ const HEADED: &[u8] = b"query 1 bytes 108\n\
     [Event \"?\"]\n[Site \"?\"]\n[Date \"????.??.??\"]\n[Round \"?\"]\n[White \"?\"]\n[Black \"?\"]\n\
     [Result \"*\"]\n\n1. d4 {CQL} *\n\n";
 
-#[test]
-fn a_query_of_several_is_answered(rt: HostRuntime) -> Result<(), Fail> {
-    let alloc = rt.alloc();
+fn are_answered_with<R: Threads + Sync>(
+    rt: &R,
+    alloc: Global,
+    queries: &[TypedQuery],
+    source: &mut MemSource,
+    out: &mut SureSink,
+) -> Result<bool, NoMemory>
+    requires { (1 ≤ length queries.now) × (length queries.now ≤ 16) }
+{
+    let mut err = SureSink::new(alloc, 4096)?;
+    let status = many_answered(rt, alloc, queries, source, out, &mut err);
+    Ok(is_done(status, out, &err, HEADED))
+}
+
+// Whether the answers of queries at once are as they should be.
+fn are_answered<R: Threads + Sync>(
+    rt: &R,
+    alloc: Global,
+    queries: &[TypedQuery],
+    source: &mut MemSource,
+) -> Result<bool, NoMemory>
+    requires { (1 ≤ length queries.now) × (length queries.now ≤ 16) }
+{
+    let mut out = SureSink::new(alloc, 4096)?;
+    are_answered_with(rt, alloc, queries, source, &mut out)
+}
+
+// The same over a game that matches.
+fn are_answered_over_match<R: Threads + Sync>(
+    rt: &R,
+    alloc: Global,
+    queries: &[TypedQuery],
+) -> Result<bool, NoMemory>
+    requires { (1 ≤ length queries.now) × (length queries.now ≤ 16) }
+{
+    let mut source = MemSource::new(alloc, MATCH, 8, &[])?;
+    are_answered(rt, alloc, queries, &mut source)
+}
+
+fn one_query(alloc: Global) -> Result<Vec<TypedQuery>, Refusal<QueryFault>>
+    ensures { IfOk result (λ queries. length queries.items ≡ 1) }
+{
     let mut queries = Vec::new(alloc);
     queries.push(read_query(alloc, b"cql() Pd4")?)?;
-    let queries = queries.as_slice();
-    let mut source = MemSource::new(alloc, MATCH, 8, &[])?;
-    let mut out = SureSink::new(alloc, 4096)?;
-    let mut err = SureSink::new(alloc, 4096)?;
-    let status = many_answered(&rt, alloc, queries, &mut source, &mut out, &mut err);
-    assert!(rt; status == Status::Done);
-    assert!(rt; out.taken() == Some(HEADED));
-    assert!(rt; err.taken() == Some(REPORT));
+    Ok(queries)
+}
+
+#[test]
+fn a_query_of_several_is_answered(rt: HostRuntime) -> Result<(), Fail> {
+    let queries = one_query(rt.alloc())?;
+    assert!(rt; are_answered_over_match(&rt, rt.alloc(), queries.as_slice())?);
     Ok(())
 }

@@ -1,6 +1,6 @@
 //! The program has as many workers as it is told, and each of them tells the gate that was handed in.
-use crate::calls::{desk_of, job_of, status_of};
-use cq_outside::{Gate, SureSink};
+use crate::calls::{desk_of, job_of, status_by};
+use cq_outside::{Gate, NoMemory, SureDesk, SureSink};
 use cq_run::Status;
 use std::alloc::Global;
 use std::process::Abort;
@@ -111,6 +111,32 @@ static JOBS: [&[&str]; 6] = [
     &["many", "two.cql", "games.pgn"],
 ];
 
+// The status of words over a desk, at a gate.
+fn answered<R: Threads + Sync>(
+    rt: &R,
+    alloc: Global,
+    words: &[String],
+    desk: &mut SureDesk,
+    gate: &Meeting,
+) -> Result<Status, NoMemory> {
+    let mut out = SureSink::new(alloc, 4096)?;
+    let mut err = SureSink::new(alloc, 4096)?;
+    Ok(status_by(rt, alloc, words, desk, &mut out, &mut err, gate))
+}
+
+// The status of a job, at a gate.
+fn status_at<R: Threads + Sync>(
+    rt: &R,
+    alloc: Global,
+    job: &[&str],
+    workers: &str,
+    gate: &Meeting,
+) -> Result<Status, NoMemory> {
+    let words = job_of(alloc, job, workers)?;
+    let mut desk = desk_of(alloc, &FILES)?;
+    answered(rt, alloc, words.as_slice(), &mut desk, gate)
+}
+
 // Asks that so many workers enter and leave each game of a job once, none of them a worker too many.
 fn expect<R: Threads + Sync + Abort>(
     rt: &R,
@@ -119,13 +145,8 @@ fn expect<R: Threads + Sync + Abort>(
     workers: &str,
     told: u64,
 ) -> Result<(), Fail> {
-    let mut desk = desk_of(alloc, &FILES)?;
-    let mut out = SureSink::new(alloc, 4096)?;
-    let mut err = SureSink::new(alloc, 4096)?;
-    let words = job_of(alloc, job, workers)?;
-    let words = words.as_slice();
     let gate = Meeting::new(told);
-    let status = status_of(rt, alloc, words, &mut desk, &mut out, &mut err, &gate);
+    let status = status_at(rt, alloc, job, workers, &gate)?;
     assert!(rt; status == Status::Done);
     assert!(rt; gate.has_seen_all());
     Ok(())

@@ -56,12 +56,26 @@ fn are_all_one(counts: &[AtomicU32]) -> bool {
     true
 }
 
+// The number that would be drawn next, once four threads have drawn until None.
+fn next_after<R: Threads + Sync>(
+    rt: &R,
+    alloc: Global,
+    times: &[AtomicU32],
+) -> Result<u64, NoMemory> {
+    let (board, mut seats) = Board::make(alloc, 100_000, 4)?;
+    draw_by_threads(rt, &board, seats.as_mut_slice(), times);
+    board.close(seats)
+}
+
+// Whether each number is drawn once.
+fn are_drawn_once<R: Threads + Sync>(rt: &R, alloc: Global) -> Result<bool, NoMemory> {
+    let times = counts(alloc)?;
+    let next = next_after(rt, alloc, times.as_slice())?;
+    Ok(next == 100_004 && are_all_one(times.as_slice()))
+}
+
 #[test]
 fn four_threads_draw_each_number_once(rt: HostRuntime) -> Result<(), NoMemory> {
-    let times = counts(rt.alloc())?;
-    let (board, mut seats) = Board::make(rt.alloc(), 100_000, 4)?;
-    draw_by_threads(&rt, &board, seats.as_mut_slice(), times.as_slice());
-    assert!(rt; are_all_one(times.as_slice()));
-    assert!(rt; board.close(seats) == Ok(100_004));
+    assert!(rt; are_drawn_once(&rt, rt.alloc())?);
     Ok(())
 }

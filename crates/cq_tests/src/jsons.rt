@@ -5,16 +5,20 @@ use pgn_json::{
     strings_are_read_back, texts_are_bytes,
 };
 use pgn_reader::{GameFault, read_game};
+use std::alloc::Global;
 
 /// A game with a tag that has to be escaped and is no UTF-8, comments, glyphs, a variation and a null move.
 const GAME: &[u8] =
     b"[White \"a\\\"b\xe9\"] {at the start} 1. e4 $1 $3 {CQL} {x\xc3\xa9} (1. -- e5) 1... c5 1-0";
 
+fn is_kept_with_bytes(alloc: Global) -> Result<bool, Refusal<GameFault>> {
+    let game = read_game(alloc, GAME, 0, true)?;
+    Ok(games_are_kept(&game) && texts_are_bytes(&game))
+}
+
 #[test]
 fn a_game_has_what_the_laws_of_lines_ask(rt: HostRuntime) -> Result<(), Refusal<GameFault>> {
-    let game = read_game(rt.alloc(), GAME, 0, true)?;
-    assert!(rt; games_are_kept(&game));
-    assert!(rt; texts_are_bytes(&game));
+    assert!(rt; is_kept_with_bytes(rt.alloc())?);
     Ok(())
 }
 

@@ -138,11 +138,24 @@ fn has_tokens(alloc: Global, text: &[u8], want: &[(u64, u32, TokenKind)]) -> Res
     Ok(are_tokens(tokens(alloc, text, 1000, true)?.as_slice(), want))
 }
 
+fn is_right(alloc: Global, row: &Row<'_>) -> Result<bool, Fail> {
+    if row.0.len() > 64 {
+        return Ok(false);
+    }
+    has_tokens(alloc, row.0, row.1)
+}
+
+fn are_all_right(alloc: Global) -> Result<bool, Fail> {
+    for row in ROWS.iter() {
+        if !is_right(alloc, row)? {
+            return Ok(false);
+        }
+    }
+    Ok(true)
+}
+
 #[test]
 fn texts_have_their_tokens(rt: HostRuntime) -> Result<(), Fail> {
-    for (text, want) in ROWS.iter() {
-        assert!(rt; text.len() <= 64);
-        assert!(rt; has_tokens(rt.alloc(), text, want)?);
-    }
+    assert!(rt; are_all_right(rt.alloc())?);
     Ok(())
 }

@@ -28,7 +28,9 @@ fn reads_so<S: Source>(source: &mut S, want: Answers<'_>) -> bool {
 }
 
 /// The longest piece of a source of five bytes, its reads that fail, and what its reads answer in turn.
-static READS: [(usize, &[u64], Answers<'static>); 6] = [
+type Reads<'a> = (usize, &'a [u64], Answers<'a>);
+
+static READS: [Reads<'static>; 6] = [
     (2, &[], &[Some(2), Some(2), Some(1), Some(0)]),
     (3, &[], &[Some(3), Some(2), Some(0)]),
     (usize::MAX, &[], &[Some(4), Some(1), Some(0)]),
@@ -41,23 +43,19 @@ static READS: [(usize, &[u64], Answers<'static>); 6] = [
     ),
 ];
 
-fn source_reads_so(
-    alloc: Global,
-    piece: usize,
-    fails: &[u64],
-    want: Answers<'_>,
-) -> Result<bool, NoMemory>
-    requires { 1 ≤ piece }
-{
-    let mut source = MemSource::new(alloc, b"abcde", piece, fails)?;
-    Ok(reads_so(&mut source, want))
+// Whether a source reads so; no piece is empty.
+fn source_reads_so(alloc: Global, row: &Reads<'_>) -> Result<bool, NoMemory> {
+    if row.0 < 1 {
+        return Ok(false);
+    }
+    let mut source = MemSource::new(alloc, b"abcde", row.0, row.1)?;
+    Ok(reads_so(&mut source, row.2))
 }
 
 #[test]
 fn a_source_in_memory_gives_pieces_and_fails_at_given_reads(rt: HostRuntime) -> Result<(), Fail> {
-    for (piece, fails, want) in READS.iter() {
-        assert!(rt; *piece >= 1);
-        assert!(rt; source_reads_so(rt.alloc(), *piece, fails, want)?);
+    for row in READS.iter() {
+        assert!(rt; source_reads_so(rt.alloc(), row)?);
     }
     Ok(())
 }
@@ -81,26 +79,27 @@ fn writes_so(sink: &mut MemSink, want: Answers<'_>) -> bool {
 
 /// The writes that fail of a sink that takes three bytes a write, what its writes answer in turn, and what it has taken then: nothing
 /// is told once more than its room of seven was taken.
-static WRITES: [(&[u64], Answers<'static>, Option<&[u8]>); 3] = [
+type Writes<'a> = (&'a [u64], Answers<'a>, Option<&'a [u8]>);
+
+static WRITES: [Writes<'static>; 3] = [
     (&[], &[Some(3), Some(3), Some(3)], None),
     (&[2, 9], &[Some(3), None, Some(3)], Some(b"gamgam")),
     (&[1, 1, 3], &[None, Some(3), None], Some(b"gam")),
 ];
 
-fn sink_takes_so(
-    alloc: Global,
-    fails: &[u64],
-    want: Answers<'_>,
-    taken: Option<&[u8]>,
-) -> Result<bool, NoMemory> {
-    let mut sink = MemSink::new(alloc, 7, 3, Calls::of(alloc, fails)?)?;
-    Ok(writes_so(&mut sink, want) && sink.taken() == taken)
+fn failing_sink(alloc: Global, fails: &[u64]) -> Result<MemSink, NoMemory> {
+    MemSink::new(alloc, 7, 3, Calls::of(alloc, fails)?)
+}
+
+fn sink_takes_so(alloc: Global, row: &Writes<'_>) -> Result<bool, NoMemory> {
+    let mut sink = failing_sink(alloc, row.0)?;
+    Ok(writes_so(&mut sink, row.1) && sink.taken() == row.2)
 }
 
 #[test]
 fn a_sink_in_memory_takes_pieces_and_fails_at_given_writes(rt: HostRuntime) -> Result<(), Fail> {
-    for (fails, want, taken) in WRITES.iter() {
-        assert!(rt; sink_takes_so(rt.alloc(), fails, want, *taken)?);
+    for row in WRITES.iter() {
+        assert!(rt; sink_takes_so(rt.alloc(), row)?);
     }
     Ok(())
 }
@@ -134,18 +133,29 @@ static OPENINGS: [Opening<'static>; 4] = [
     (b"a.pgn", Ok(())),
 ];
 
+/// The second read fails.
+static READS_OF_DESK: [Option<usize>; 4] = [Some(2), None, Some(1), Some(0)];
+
+fn empty_desk(alloc: Global) -> Result<MemDesk, NoMemory> {
+    Ok(MemDesk::new(alloc, Calls::of(alloc, &[2])?))
+}
+
 // A desk with a file whose second read fails, and whose second opening does.
 fn failing_desk(alloc: Global) -> Result<MemDesk, NoMemory> {
-    let mut desk = MemDesk::new(alloc, Calls::of(alloc, &[2])?);
+    let mut desk = empty_desk(alloc)?;
     desk.add(b"a.pgn", b"abc", 2, &[2])?;
     Ok(desk)
 }
 
+// Whether it fails so.
+fn desk_fails_so(alloc: Global) -> Result<bool, NoMemory> {
+    let mut desk = failing_desk(alloc)?;
+    Ok(opens_so(alloc, &mut desk, &OPENINGS) && reads_so(&mut desk, &READS_OF_DESK))
+}
+
 #[test]
 fn a_desk_in_memory_fails_at_given_openings_and_reads(rt: HostRuntime) -> Result<(), Fail> {
-    let mut desk = failing_desk(rt.alloc())?;
-    assert!(rt; opens_so(rt.alloc(), &mut desk, &OPENINGS));
-    assert!(rt; reads_so(&mut desk, &[Some(2), None, Some(1), Some(0)]));
+    assert!(rt; desk_fails_so(rt.alloc())?);
     Ok(())
 }
 
@@ -159,13 +169,17 @@ static FILES: [Opening<'static>; 4] = [
     (b".", Ok(())),
 ];
 
-// At first nothing is open. A folder is opened, and can't be read.
+// Whether nothing is open at first, and a folder is opened, but can't be read.
+fn opens_and_fails_so<D: Desk>(alloc: Global, desk: &mut D) -> bool {
+    let first = read_one(desk);
+    let opens = opens_so(alloc, desk, &FILES);
+    first == Some(0) && opens && read_one(desk).is_none()
+}
+
 #[test]
 fn a_desk_fails_at_no_file_and_at_a_folder(rt: HostRuntime) -> Result<(), Fail> {
     let mut desk = FileDesk::new(rt.alloc(), rt, b"in a pipe".as_slice())?;
-    assert!(rt; read_one(&mut desk) == Some(0));
-    assert!(rt; opens_so(rt.alloc(), &mut desk, &FILES));
-    assert!(rt; read_one(&mut desk).is_none());
+    assert!(rt; opens_and_fails_so(rt.alloc(), &mut desk));
     Ok(())
 }
 

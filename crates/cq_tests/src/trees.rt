@@ -68,10 +68,14 @@ fn has_nodes(game: &Game, nodes: &[Node<'_>]) -> bool {
     game.len() as usize == nodes.len()
 }
 
+// Whether a game has the result and the nodes of a row.
+fn is_tree(game: &Game, tree: &Tree<'_>) -> bool {
+    game.result() == tree.1 && has_nodes(game, tree.2)
+}
+
 fn has_tree(alloc: Global, tree: &Tree<'_>) -> Result<bool, Refusal<GameFault>> {
-    let (text, result, nodes) = *tree;
-    let game = read_game(alloc, text, 0, true)?;
-    Ok(game.result() == result && has_nodes(&game, nodes))
+    let game = read_game(alloc, tree.0, 0, true)?;
+    Ok(is_tree(&game, tree))
 }
 
 #[test]
@@ -115,29 +119,53 @@ fn has_paths(game: &Game) -> Result<bool, NoMemory> {
     Ok(true)
 }
 
+fn has_main_line(game: &Game, line: &[u32]) -> Result<bool, NoMemory> {
+    Ok(game.main_line()?.as_slice() == line)
+}
+
+fn has_paths_and_line(game: &Game) -> Result<bool, Refusal<GameFault>> {
+    Ok(has_paths(game)? && has_main_line(game, &[0, 1, 2])?)
+}
+
+fn tells_its_paths(alloc: Global, text: &[u8]) -> Result<bool, Refusal<GameFault>> {
+    let game = read_game(alloc, text, 0, true)?;
+    has_paths_and_line(&game)
+}
+
 #[test]
 fn trees_tell_their_paths(rt: HostRuntime) -> Result<(), Refusal<GameFault>> {
-    let game = read_game(rt.alloc(), BRANCHED, 0, true)?;
-    assert!(rt; has_paths(&game)?);
-    assert!(rt; game.main_line()?.as_slice() == [0, 1, 2].as_slice());
+    assert!(rt; tells_its_paths(rt.alloc(), BRANCHED)?);
     Ok(())
+}
+
+// The men of a game without its variations, and with them.
+fn men_of(alloc: Global, text: &[u8]) -> Result<(u16, u16), Refusal<GameFault>> {
+    let game = read_game(alloc, text, 0, true)?;
+    Ok((game.men(false), game.men(true)))
 }
 
 // White promotes in the variation alone: kings and a pawn, and with the variations a queen too.
 #[test]
 fn trees_tell_their_men(rt: HostRuntime) -> Result<(), Refusal<GameFault>> {
     let text = b"[FEN \"4k3/P7/8/8/8/8/8/4K3 w - - 0 1\"] 1. Kd2 (1. a8Q) *";
-    let game = read_game(rt.alloc(), text, 0, true)?;
-    assert!(rt; game.men(false) == 0b1_0000_0110_0001);
-    assert!(rt; game.men(true) == 0b1_0000_0110_0011);
+    let (main, all) = men_of(rt.alloc(), text)?;
+    assert!(rt; main == 0b1_0000_0110_0001);
+    assert!(rt; all == 0b1_0000_0110_0011);
     Ok(())
+}
+
+fn new_game(alloc: Global) -> Result<Game, NoMemory> {
+    Game::new(alloc, Tags::new(alloc), GameResult::Draw, Position::start())
+}
+
+fn keeps_its_glyph(alloc: Global) -> Result<bool, NoMemory> {
+    let mut game = new_game(alloc)?;
+    game.add_nag(0, 14)?;
+    Ok(game.nags(0) == b"\x0e".as_slice())
 }
 
 #[test]
 fn a_node_keeps_its_glyph(rt: HostRuntime) -> Result<(), NoMemory> {
-    let tags = Tags::new(rt.alloc());
-    let mut game = Game::new(rt.alloc(), tags, GameResult::Draw, Position::start())?;
-    game.add_nag(0, 14)?;
-    assert!(rt; game.nags(0) == b"\x0e".as_slice());
+    assert!(rt; keeps_its_glyph(rt.alloc())?);
     Ok(())
 }

@@ -99,6 +99,8 @@ fn skips_after_the_match<R: Threads + Sync + Abort>(
 #[test]
 fn a_skipped_game_is_not_read(rt: HostRuntime) -> Result<(), Fail> {
     let plan = plan_of(rt.alloc(), b"cql() mate")?;
-    assert!(rt; skips_after_the_match(&rt, rt.alloc(), &plan)?);
+    let skips = skips_after_the_match(&rt, rt.alloc(), &plan);
+    drop(plan);
+    assert!(rt; skips?);
     Ok(())
 }

@@ -174,7 +174,9 @@ fn is_right(alloc: Global, plan: &SharedPlan, row: &Row<'_>) -> Result<bool, Fai
 
 fn expect<R: Abort>(rt: &R, alloc: Global, row: &Row<'_>) -> Result<(), Fail> {
     let plan = plan_of(rt, alloc, row.0)?;
-    assert!(rt; is_right(alloc, &plan, row)?);
+    let right = is_right(alloc, &plan, row);
+    drop(plan);
+    assert!(rt; right?);
     Ok(())
 }
 

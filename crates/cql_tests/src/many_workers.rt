@@ -78,5 +78,7 @@ fn expect_told<R: Threads + Sync + Abort>(
 fn the_first_querys_export_is_told(rt: HostRuntime) -> Result<(), Fail> {
     let texts: [&[u8]; 2] = [b"cql() initial", b"cql(matchstring \"X\") initial"];
     let plan = plan_of(&rt, rt.alloc(), &texts)?;
-    Ok(expect_told(&rt, rt.alloc(), &plan)?)
+    let told = expect_told(&rt, rt.alloc(), &plan);
+    drop(plan);
+    Ok(told?)
 }

@@ -54,7 +54,9 @@ fn is_copied(alloc: Global, query: &Query, kind: Kind) -> Result<bool, NoMemory>
         return Ok(false);
     };
     let copy = first.copy(alloc)?;
-    Ok(kind_of(&copy) == kind && same_filter(&copy, first))
+    let right = kind_of(&copy) == kind && same_filter(&copy, first);
+    drop(copy);
+    Ok(right)
 }
 
 // Whether a query has this weight, and a copy of its first item this kind.
