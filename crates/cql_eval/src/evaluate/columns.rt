@@ -97,8 +97,9 @@ pub(super) fn found_column(
     requires tree { IsTree scope.now.game.now.nodes }
     requires asked { AreAsked (tree_in scope.now) wide.now }
     requires word { asks_elsewhere word ≡ true }
-    ensures { IfOk result (λ c. (v : ℕ → spec.Value) → IsColumn column.now wide.now v → (live : List Bool) → AreAsked (tree_in scope.now) live
-        → AreLookedAt (tree_in scope.now) word live wide.now → IsColumn c live (meaning.unary_of (tree_in scope.now) word v)) }
+    ensures { IfOk result (λ c. (v : ℕ → spec.Value) → IsColumn column.now wide.now v
+        → (live : List Bool) → AreAsked (tree_in scope.now) live → AreLookedAt (tree_in scope.now) word live wide.now
+        → IsColumn c live (meaning.unary_of (tree_in scope.now) word v)) }
 {
     let set = narrowed(alloc, wide, column, true)?;
     let found = found_from(alloc, word, scope.game, set)?;

@@ -114,7 +114,8 @@ fn free_columns<L: Ledger>(
     requires tree { IsTree trial.now.scope.now.game.now.nodes }
     requires asked { AreAsked (tree_in trial.now.scope.now) live.now }
     requires flat { IsFlatMove (played_tree played.now) }
-    ensures asks { IfOk result (AskNoMore (tree_in trial.now.scope.now) trial.now.opened.now trial.now.scope.now.names.now played.now live.now) }
+    ensures asks { IfOk result
+        (AskNoMore (tree_in trial.now.scope.now) trial.now.opened.now trial.now.scope.now.names.now played.now live.now) }
     ensures cost { steps.new ≡ steps.old }
 {
     let wide = befores(alloc, trial.scope, live)?;
