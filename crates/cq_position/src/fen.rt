@@ -56,17 +56,27 @@ pub enum FenFault {
 pub fn read_fen(text: &[u8]) -> Result<Position, FenFault>
     ensures { result ≡ fen_meaning text.now }
 {
-    let fields = split_fields(text).ok_or(FenFault::Fields)?;
-    let listed = read_placement(fields.placement).ok_or(FenFault::Placement)?;
-    let side = read_side(fields.side).ok_or(FenFault::Side)?;
+    let Some(fields) = split_fields(text) else {
+        return Err(FenFault::Fields);
+    };
+    let Some(listed) = read_placement(fields.placement) else {
+        return Err(FenFault::Placement);
+    };
+    let Some(side) = read_side(fields.side) else {
+        return Err(FenFault::Side);
+    };
     if !is_castling_field(fields.castling) {
         return Err(FenFault::Castling);
     }
     if !is_passant_field(fields.passant) {
         return Err(FenFault::EnPassant);
     }
-    let _clock = read_number(fields.clock).ok_or(FenFault::Number)?;
-    let number = read_number(fields.number).ok_or(FenFault::Number)?;
+    let Some(_clock) = read_number(fields.clock) else {
+        return Err(FenFault::Number);
+    };
+    let Some(number) = read_number(fields.number) else {
+        return Err(FenFault::Number);
+    };
     if !has_kings(&listed) {
         return Err(FenFault::Kings);
     }
