@@ -119,7 +119,10 @@ pub fn attack_truths(
 {
     let goals = standing_sets(alloc, d, scope, live)?;
     let goals = FilterColumn::Sets(goals);
-    let attacking = pair_column(alloc, Pair::Attacks, scope, squares, &goals, live)?;
-    let truths = held(alloc, &attacking, live)?;
-    Ok(truths)
+    let attacking = pair_column(alloc, Pair::Attacks, scope, squares, &goals, live);
+    drop(goals);
+    let attacking = attacking?;
+    let truths = held(alloc, &attacking, live);
+    drop(attacking);
+    truths
 }

@@ -10,6 +10,7 @@ ghost use Rattle.cql_columns.specs.Columns.{AreAsked, AreSets, AreTruths, AreVal
 ghost use Rattle.cql_columns.specs.Scopes.{tree_in};
 
 use crate::filter_column::{FilterColumn, blank_sets, blank_truths, blank_values};
+use crate::narrow::has_number;
 use crate::scope::Scope;
 use crate::spans::{asked_end, end_of, first_asked, first_live};
 use cq_geometry::Compass;
@@ -64,7 +65,7 @@ pub fn numbered(alloc: Global, column: &FilterColumn, live: &[bool]) -> Result<V
 {
     let mut left = Vec::with_capacity(alloc, live.len())?;
     for n in 0..live.len() {
-        let there = live[n] && column.at(n).number().is_some();
+        let there = has_number(live[n], column, n);
         left.push(there)?;
     }
     Ok(left)

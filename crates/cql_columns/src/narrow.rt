@@ -96,7 +96,7 @@ pub fn keep_numbered(left: &mut [bool], column: &FilterColumn)
     }
 }
 
-fn has_number(asked: bool, column: &FilterColumn, n: usize) -> bool
+pub(crate) fn has_number(asked: bool, column: &FilterColumn, n: usize) -> bool
     ensures { result ≡ (asked && is_some (amount (shown column.now n))) }
 {
     asked && column.at(n).number().is_some()

@@ -134,7 +134,8 @@ pub fn empty_table<L: Ledger>(
 {
     let mut atoms = 0;
     // The pattern numbers the atoms, and so counts them.
-    let _pattern = parts_pattern(alloc, parts, &mut atoms)?;
+    let pattern = parts_pattern(alloc, parts, &mut atoms)?;
+    drop(pattern);
     let table = AtomTable::new(alloc, atoms, game.len())?;
     Ok(table)
 }

@@ -1,6 +1,6 @@
 //! Sets of nodes that follow the tree, for all nodes in one pass.
-ghost use Rattle.std.specs.Prelude.{◌≡◌, ℕ, ◌<◌, ◌||◌, length, get_or, replicate, false, IfOk};
-ghost use Rattle.cq_position.specs.Games.{IsTree, node_at};
+ghost use Rattle.std.specs.Prelude.{◌≡◌, ℕ, ◌<◌, ◌&&◌, ◌||◌, length, get_or, replicate, false, IfOk};
+ghost use Rattle.cq_position.specs.Games.{IsTree, is_searched as is_searched_in, node_at};
 ghost use Rattle.cql_columns.specs.Columns.{AreAsked};
 ghost use Rattle.cql_columns.specs.Scopes.{tree_in};
 ghost use Rattle.cql_columns.specs.SpelledParts.{AreOnward, AreReached};
@@ -140,10 +140,18 @@ pub fn children(alloc: Global, scope: &Scope, live: &[bool]) -> Result<Vec<bool>
 {
     let mut wide = blank_truths(alloc, scope.game.len() as usize)?;
     for k in 0..scope.game.len() {
-        wide[k as usize] = is_searched(scope.game, scope.variations, k)
-            && is_flagged(scope.game.parent(k), live);
+        wide[k as usize] = is_child(scope, live, k);
     }
     Ok(wide)
+}
+
+// Whether a node is searched and its parent is in a set.
+fn is_child(scope: &Scope, live: &[bool], k: u32) -> bool
+    requires { k < length scope.now.game.now.nodes }
+    ensures { result ≡ (is_searched_in scope.now.variations scope.now.game.now.nodes k
+        && flag_of live.now (node_at scope.now.game.now.nodes k).parent) }
+{
+    is_searched(scope.game, scope.variations, k) && is_flagged(scope.game.parent(k), live)
 }
 
 /// The parents of the nodes that are asked for.
