@@ -50,7 +50,7 @@ pub fn looked_at(
 }
 
 /// The nodes at which a word finds one of a set among those at which it asks its part.
-#[tactic(auto, using(crate::proofs::FoundLaw::raised_found, crate::proofs::FoundLaw::lowered_found, crate::proofs::FoundLaw::parents_found, crate::proofs::FoundLaw::flags_found, crate::proofs::FoundLaw::never_found))]
+#[tactic(auto, using(crate::proofs::FoundLaw::never_found))]
 pub fn found_from(
     alloc: Global,
     word: Unary,

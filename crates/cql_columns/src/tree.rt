@@ -188,7 +188,6 @@ pub fn of_parents(alloc: Global, game: &Game, set: &[bool]) -> Result<Vec<bool>,
 }
 
 /// The nodes that a step of a line leads to from those that are asked for: down or, with `back`, up.
-#[tactic(auto, using(crate::proofs::SpelledAlike::children_onward, crate::proofs::SpelledAlike::parents_onward))]
 pub fn onward(
     alloc: Global,
     scope: &Scope,
