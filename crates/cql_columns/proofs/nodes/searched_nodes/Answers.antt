@@ -1,9 +1,9 @@
-use Rattle.std.proofs.Common.{◌∷◌, [], ◌++◌, ◌∙◌, ap, sym, arith, length, map}
+use Rattle.std.proofs.Common.{◌≡◌, ◌∷◌, [], ◌++◌, ◌∙◌, ap, sym, arith, length, map}
 use Rattle.std.specs.List.{range_with_len}
 use Rattle.std.proofs.lemmas.List.FromFn.{map-range_with_len_more}
 use Rattle.cq_position.specs.Games.{is_searched}
 use Rattle.cql_values.specs.Trees.{searched_tree}
-use Rattle.cql_columns.proofs.Ticks.{all_left, steps_next}
+use Rattle.cql_columns.proofs.Ticks.{all_left, steps_next, steps_all}
 use Rattle.cql_columns.proofs.nodes.searched_nodes.Goals as goal
 
 pub loop-k-init : goal.loop-k-init
@@ -22,3 +22,19 @@ loop-k-preserved g c = record {
       c.is_searched-there.result (omega (arith, c.loop-k-test.true, c.len-k-end.ensures.len)) c.is_searched-there.ensures c.tick_if.ensures c.loop-k.invariant.left;
   rises = omega (arith, c.loop-k.invariant.rises, c.tick_if.ensures);
 }
+
+pub returns-in_err-push-clause-most : goal.returns-in_err-push-clause-most
+returns-in_err-push-clause-most g c = omega (arith, c.loop-k.invariant.left)
+
+pub returns-clause-exact : goal.returns-clause-exact
+returns-clause-exact g c =
+    steps_all (is_searched c.args.variations c.args.game.now.nodes) c.loop-k.k (length c.args.game.now.nodes) c.loop-k.steps _
+    (omega (arith, c.loop-k-test.false, c.len-k-end.ensures.len)) c.loop-k.invariant.left
+
+pub returns-clause-most : goal.returns-clause-most
+returns-clause-most g c = omega (arith, c.loop-k.invariant.left)
+
+pub returns-clause-nodes : goal.returns-clause-nodes
+returns-clause-nodes g c =
+    let whole : c.loop-k.k ≡ length c.args.game.now.nodes = omega (arith, c.loop-k-test.false, c.loop-k.auto.k-end, c.len-k-end.ensures.len) in
+    c.loop-k.invariant.nodes ∙ ap (λ n. map (is_searched c.args.variations c.args.game.now.nodes) (range_with_len 0 n)) whole

@@ -1,4 +1,4 @@
-use Rattle.std.proofs.Common.{◌∙◌, ap, ap₂, sym}
+use Rattle.std.proofs.Common.{◌∙◌, ap, ap₂, sym, refl}
 use Rattle.cql_syntax.specs.Trees.{filter_at, pair, square}
 use Rattle.cql_syntax.specs.TreeOf.{filter_tree, form_tree, filters_tree}
 use Rattle.cql_columns.specs.Scopes.{tree_in}
@@ -57,3 +57,18 @@ cut_third-returns-clause-cut t c =
     c.args.third.now (shown c.args.paired.now.column.now) (filter_tree c.args.part.now)
     c.args.every c.args.sets.now c.cut_paired.new.sets (c.is_third.ensures.some c.if-not-is_third.false) (c.is_third.ensures.first c.if-not-is_third.false)
     (c.is_third.ensures.second c.if-not-is_third.false) c.cut_paired.ensures.cut
+
+pub cut_paired-returns-in_default : goal.cut_paired-returns-in_default
+cut_paired-returns-in_default t c = record { cut = cut_same c.args.paired.now.live.now _ c.args.sets.now; len = refl }
+
+pub cut_chain-returns-then-not-is_all-clause-cut : goal.cut_chain-returns-then-not-is_all-clause-cut
+cut_chain-returns-then-not-is_all-clause-cut t c = cut_same c.args.paired.now.live.now _ c.args.sets.now
+
+pub cut_each-returns-clause-cut : goal.cut_each-returns-clause-cut
+cut_each-returns-clause-cut t c = c.loop-part.invariant
+
+pub cut_each-returns-clause-len : goal.cut_each-returns-clause-len
+cut_each-returns-clause-len t c = c.loop-part.invariant.count
+
+pub cut_third-returns-then-not-is_third-clause-cut : goal.cut_third-returns-then-not-is_third-clause-cut
+cut_third-returns-then-not-is_third-clause-cut t c = λ x. cut_same c.args.paired.now.live.now _ c.args.sets.now
