@@ -40,7 +40,6 @@ pub fn standing_sets(
     for n in first_asked(live, scope.game.len())..end {
         sets[n as usize] = standing_set(live[n as usize], d, &men, scope.game, n);
     }
-    drop(men);
     Ok(sets)
 }
 
@@ -91,7 +90,6 @@ fn counted_values(
     for n in first_asked(live, scope.game.len())..end {
         values[n as usize] = counted(counts[n as usize]);
     }
-    drop(counts);
     Ok(values)
 }
 
