@@ -29,3 +29,27 @@ returns-in-Err-NoMemory-clause-lost g c =
     lost_more c.batches_stay.ensures.closed c.args.self.now c.loop-self.self c.read_more.new.self _ _ _ c.loop-self.invariant.0 (c.has_none.ensures.none c.loop-self-test.true)
     (let t = c.if-not-self.true in search rules)
     (rw (c.in-Err-NoMemory.is ∙ ap Err c.in-Err-NoMemory.field-0-is) at c.read_more.ensures.lost)
+
+pub returns-else-self-clause-cause : goal.returns-else-self-clause-cause
+returns-else-self-clause-cause g c = c.loop-self.invariant.1
+
+pub returns-else-self-clause-next : goal.returns-else-self-clause-next
+returns-else-self-clause-next g c = c.loop-self.invariant.2
+
+pub returns-else-not-self-clause-cause : goal.returns-else-not-self-clause-cause
+returns-else-not-self-clause-cause g c = c.loop-self.invariant.1
+
+pub returns-else-not-self-clause-next : goal.returns-else-not-self-clause-next
+returns-else-not-self-clause-next g c = c.loop-self.invariant.2
+
+pub returns-after-loop-self-clause-cause : goal.returns-after-loop-self-clause-cause
+returns-after-loop-self-clause-cause g c = c.loop-self.invariant.1
+
+pub returns-after-loop-self-clause-next : goal.returns-after-loop-self-clause-next
+returns-after-loop-self-clause-next g c = c.loop-self.invariant.2
+
+pub returns-in-Err-Fault-clause-next : goal.returns-in-Err-Fault-clause-next
+returns-in-Err-Fault-clause-next g c = g.met.S.Source.follows_on c.args.source.now c.loop-self.source c.read_more.new.source c.loop-self.invariant.2 c.read_more.ensures.next
+
+pub returns-in-Err-NoMemory-clause-next : goal.returns-in-Err-NoMemory-clause-next
+returns-in-Err-NoMemory-clause-next g c = g.met.S.Source.follows_on c.args.source.now c.loop-self.source c.read_more.new.source c.loop-self.invariant.2 c.read_more.ensures.next
