@@ -29,15 +29,22 @@ pub fn plain_of(alloc: Global, pattern: &Pattern) -> Result<Plain, NoMemory>
     match pattern {
         Pattern::Atom(atom) => Ok(Plain::Atom(*atom)),
         Pattern::Sequence(parts) => plain_sequence(alloc, parts),
-        Pattern::Star(part) => Ok(Plain::Star(Box::new(alloc, plain_of(alloc, part)?)?)),
-        Pattern::Plus(part) => Ok(Plain::Plus(Box::new(alloc, plain_of(alloc, part)?)?)),
-        Pattern::Maybe(part) => Ok(Plain::Times(0, 1, Box::new(alloc, plain_of(alloc, part)?)?)),
-        Pattern::Times(least, most, part) => Ok(Plain::Times(
-            *least,
-            *most,
-            Box::new(alloc, plain_of(alloc, part)?)?,
-        )),
+        Pattern::Star(part) => Ok(Plain::Star(boxed(alloc, part)?)),
+        Pattern::Plus(part) => Ok(Plain::Plus(boxed(alloc, part)?)),
+        Pattern::Maybe(part) => Ok(Plain::Times(0, 1, boxed(alloc, part)?)),
+        Pattern::Times(least, most, part) => {
+            Ok(Plain::Times(*least, *most, boxed(alloc, part)?))
+        }
     }
+}
+
+// The same, to stand in another.
+#[cycle(plain_of)]
+fn boxed(alloc: Global, pattern: &Pattern) -> Result<Box<Plain>, NoMemory>
+    ensures { IfOk result (λ plain. plain_tree plain.value ≡ pattern_tree pattern.now) }
+{
+    let plain = plain_of(alloc, pattern)?;
+    Ok(Box::new(alloc, plain)?)
 }
 
 #[tactic(auto, using(crate::proofs::Lists::from_end, crate::proofs::Lists::from_none, crate::proofs::Lists::from_start))]
