@@ -50,6 +50,13 @@ module _ {Row : Type 0} (cells : Row → ℕ → ℕ) where
   pub cell_of : (rows : List Row) (n : ℕ) (other : Row) → n < length rows → cell (map cells rows) n ≡ cells (get_or rows n other)
   cell_of rows n other low = get_or-map cells rows n other (λ j. 0) low
 
+  -- as many rows as there are of their cells
+  pub as_many : (rows : List Row) (size : ℕ) → length (map cells rows) ≡ size → length rows ≡ size
+  as_many rows size count = sym (length-map rows cells) ∙ count
+
+  pub within : (rows : List Row) (size node : ℕ) → node < size → length (map cells rows) ≡ size → node < length rows
+  within rows size node low count = let same = as_many rows size count in omega arith
+
   pub blank_more : (rows : List Row) (row : Row) → ((j : ℕ) → cells row j ≡ 0) → ((n j : ℕ) → cell (map cells rows) n j ≡ 0)
       → (n j : ℕ) → cell (map cells (rows ++ row ∷ [])) n j ≡ 0
   blank_more [] row blank before zero j = blank j

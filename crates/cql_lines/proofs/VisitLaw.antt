@@ -22,6 +22,9 @@ unsearched_by : (primary : Bool) (o : Option Spot) → searched_by o ≡ false �
 unsearched_by primary None e = refl
 unsearched_by primary (Some s) e = rw e refl
 
+pub below_few : (atom atoms : ℕ) → atom < atoms → atoms ≤ 64 → atom < 64
+below_few atom atoms low few = omega arith
+
 pub answered_by : (s : Bool) (P : ℕ → Type 0) (o : Option ℕ) → s ≡ true → IsGreatest P o → AnswerAt s P o
 answered_by true P o e l = l
 answered_by false P o e l = absurd (cc)

@@ -1,12 +1,11 @@
-use Rattle.std.proofs.Common.{◌≡◌, ◌∙◌, ℕ, ◌<◌, length, map, false, sym, ap, subst, arith}
-use Rattle.std.proofs.lemmas.List.{length-map}
+use Rattle.std.proofs.Common.{◌∙◌, length, map, false, sym, ap, subst, arith}
 use Rattle.cql_lines.specs.Cells.{Known, both_kinds, place_cell, LeavesRoom, Allowed}
 use Rattle.cql_lines.specs.Reads.{Read}
 use Rattle.cql_lines.specs.Shapes.{Edge, is_searched}
 use Rattle.cql_lines.specs.Tables.{holds}
 use Rattle.cql_lines.proofs.CellsLaw.{same_known, two_known, none_known, goes_known, room_below, read_answer}
-use Rattle.cql_lines.proofs.RowsLaw.{cell_of}
-use Rattle.cql_lines.proofs.VisitLaw.{unvisited, whole_at, known_at, visited, answered_by}
+use Rattle.cql_lines.proofs.RowsLaw.{as_many, cell_of, within}
+use Rattle.cql_lines.proofs.VisitLaw.{unvisited, whole_at, known_at, visited, answered_by, below_few}
 use Rattle.cql_lines.proofs.visits.visit_down.Goals as goal
 
 pub returns-then-not-searched-clause-stands : goal.returns-then-not-searched-clause-stands
@@ -16,15 +15,11 @@ returns-then-not-searched-clause-stands g c =
     unvisited (Known b) (both_kinds b) (same_known b) (two_known b) c.args.table.now.words.items c.args.rules.now s.primary s.spots.items s.below c.args.node (map g.R.Row.cells c.args.rows.now)
     c.requires.node c.requires.stands (sym c.searched.ensures ∙ c.if-not-searched.true)
 
-within : (node size len rows : ℕ) → node < size → len ≡ size → len ≡ rows → node < rows
-within node size len rows low a b = omega arith
-
 pub own-own-requires-clause-room : goal.own-own-requires-clause-room
 own-own-requires-clause-room g c = λ j.
     let s = c.args.shape.now in
     let b = g.R.Row.sets in
-    let low = within c.args.node (length s.spots.items) (length (map g.R.Row.cells c.args.rows.now))
-    (length c.args.rows.now) c.requires.node c.requires.stands.count (length-map c.args.rows.now g.R.Row.cells) in
+    let low = within g.R.Row.cells c.args.rows.now (length s.spots.items) c.args.node c.requires.node c.requires.stands.count in
     subst (λ row. LeavesRoom b (row j)) (cell_of g.R.Row.cells c.args.rows.now c.args.node c.index-rows-node.result low)
     (room_below s.primary s.spots.items s.below c.args.table.now.words.items c.args.rules.now c.requires.fit.nodes b c.args.node j _
     (whole_at (Known b) (both_kinds b) (same_known b) (two_known b) c.args.table.now.words.items c.args.rules.now s.primary s.spots.items s.below c.args.node (map g.R.Row.cells c.args.rows.now)
@@ -35,7 +30,7 @@ returns-clause-stands g c =
     let s = c.args.shape.now in
     let b = g.R.Row.sets in
     let rows = map g.R.Row.cells c.args.rows.now in
-    let low = within c.args.node (length s.spots.items) (length rows) (length c.args.rows.now) c.requires.node c.requires.stands.count (length-map c.args.rows.now g.R.Row.cells) in
+    let low = within g.R.Row.cells c.args.rows.now (length s.spots.items) c.args.node c.requires.node c.requires.stands.count in
     let same = sym (cell_of g.R.Row.cells c.args.rows.now c.args.node c.index-rows-node.result low) in
     visited (Known b) (both_kinds b) (same_known b) (two_known b) c.args.table.now.words.items c.args.rules.now s.primary s.spots.items s.below c.args.node rows
     (map g.R.Row.cells c.pass_up.new.rows) (g.R.Row.cells c.own-own.result) c.requires.node c.requires.stands
@@ -50,7 +45,7 @@ returns-clause-value g c =
     let s = c.args.shape.now in
     let b = g.R.Row.sets in
     let rows = map g.R.Row.cells c.args.rows.now in
-    let low = within c.args.node (length s.spots.items) (length rows) (length c.args.rows.now) c.requires.node c.requires.stands.count (length-map c.args.rows.now g.R.Row.cells) in
+    let low = within g.R.Row.cells c.args.rows.now (length s.spots.items) c.args.node c.requires.node c.requires.stands.count in
     let same = sym (cell_of g.R.Row.cells c.args.rows.now c.args.node c.index-rows-node.result low) in
     answered_by (is_searched s.spots.items c.args.node)
     (Allowed s.extent (Read (holds c.args.table.now.words.items) c.args.rules.now (Edge false s.primary s.spots.items) c.args.first c.args.node))
@@ -62,3 +57,15 @@ returns-clause-value g c =
     (g.R.Row.cells c.own-own.result) c.held-held.result c.args.table.now.atoms c.requires.node c.requires.stands c.held-held.ensures.held c.requires.fit.atoms
     (λ i r e. c.own-own.ensures.here i r e ∙ ap (λ row. place_cell b r c.held-held.result row (length c.args.rules.now)) same) c.own-own.ensures.past)
     c.answer.ensures)
+
+pub pass_up-requires-clause-rows : goal.pass_up-requires-clause-rows
+pass_up-requires-clause-rows g c = as_many g.R.Row.cells c.args.rows.now _ c.requires.stands.count
+
+pub own-own-requires-clause-atoms : goal.own-own-requires-clause-atoms
+own-own-requires-clause-atoms g c = λ i r e. below_few r.atom c.args.table.now.atoms (c.requires.fit.atoms i r e) c.args.table.now.few
+
+pub bounds-rows-node : goal.bounds-rows-node
+bounds-rows-node g c = within g.R.Row.cells c.args.rows.now _ c.args.node c.requires.node c.requires.stands.count
+
+pub returns-clause-cost : goal.returns-clause-cost
+returns-clause-cost g c = omega (arith, c.held-held.ensures.cost)

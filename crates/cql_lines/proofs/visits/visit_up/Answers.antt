@@ -1,4 +1,4 @@
-use Rattle.std.proofs.Common.{◌∙◌, ◌+◌, map, true, sym, subst}
+use Rattle.std.proofs.Common.{◌∙◌, ◌+◌, map, true, sym, subst, arith}
 use Rattle.std.proofs.lemmas.List.{map-set}
 use Rattle.cql_lines.specs.Cells.{Known, place_cell, Allowed}
 use Rattle.cql_lines.specs.Reads.{Read}
@@ -6,8 +6,9 @@ use Rattle.cql_lines.specs.Shapes.{Edge, is_searched}
 use Rattle.cql_lines.specs.Tables.{holds}
 use Rattle.cql_lines.specs.Up.{StandsUp}
 use Rattle.cql_lines.proofs.CellsLaw.{same_known, none_known, goes_known, room_above, read_answer}
+use Rattle.cql_lines.proofs.RowsLaw.{as_many, within}
 use Rattle.cql_lines.proofs.UpLaw.{row_here, above_known, stands_up, stands_up_same}
-use Rattle.cql_lines.proofs.VisitLaw.{answered_by}
+use Rattle.cql_lines.proofs.VisitLaw.{answered_by, below_few}
 use Rattle.cql_lines.proofs.visits.visit_up.Goals as goal
 
 pub returns-then-not-searched-clause-stands : goal.returns-then-not-searched-clause-stands
@@ -55,3 +56,15 @@ returns-clause-value g c =
     (g.R.Row.cells c.own-own.result) c.held-held.result c.args.table.now.atoms c.requires.stands c.row_above-above.ensures c.held-held.ensures.held c.requires.fit.atoms
     c.own-own.ensures.here c.own-own.ensures.past)
     c.answer.ensures)
+
+pub row_above-above-requires-clause-rows : goal.row_above-above-requires-clause-rows
+row_above-above-requires-clause-rows g c = as_many g.R.Row.cells c.args.rows.now _ c.requires.stands.count
+
+pub own-own-requires-clause-atoms : goal.own-own-requires-clause-atoms
+own-own-requires-clause-atoms g c = λ i r e. below_few r.atom c.args.table.now.atoms (c.requires.fit.atoms i r e) c.args.table.now.few
+
+pub bounds-rows-node : goal.bounds-rows-node
+bounds-rows-node g c = within g.R.Row.cells c.args.rows.now _ c.args.node c.requires.node c.requires.stands.count
+
+pub returns-clause-cost : goal.returns-clause-cost
+returns-clause-cost g c = omega (arith, c.held-held.ensures.cost)
