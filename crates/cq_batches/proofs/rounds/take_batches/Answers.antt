@@ -32,6 +32,13 @@ returns-in-Ok-None-clause-says g c =
     ends laws (place_of c.args.limit c.next.new.self (left c.args.source.now) (left c.next.new.source)) (g.T.Taker.has_taken was now) c.rounds.games
     (called laws place c.next.new.self (left c.next.new.source) (g.T.Taker.has_taken was now) c.rounds.games (HasGivenAll c.next.new.self) c.rounds.invariant.rounds says)
 
+pub returns-in-Ok-None-clause-cause : goal.returns-in-Ok-None-clause-cause
+returns-in-Ok-None-clause-cause g c =
+    rw (c.in-Ok-None.is ∙ ap Ok c.in-Ok-None.field-0-is) at c.next.ensures.cause ∙ c.rounds.invariant.counts
+
+pub returns-in-Ok-None-clause-next : goal.returns-in-Ok-None-clause-next
+returns-in-Ok-None-clause-next g c = g.met.S.Source.follows_on c.args.source.now c.rounds.source c.next.new.source c.rounds.invariant.next c.next.ensures.next
+
 pub returns-in-Err-clause-says : goal.returns-in-Err-clause-says
 returns-in-Err-clause-says g c =
     let left = g.S.Source.left in
@@ -40,6 +47,9 @@ returns-in-Err-clause-says g c =
     let place = place_of c.args.limit c.rounds.batches (left c.args.source.now) (left c.rounds.source) in
     refused c.archives_come_in_batches.ensures place c.next.new.self (left c.next.new.source) (g.T.Taker.has_taken was now) (g.T.Taker.has_stopped was now) c.rounds.games
     c.in-Err.refusal c.rounds.invariant.rounds (rw c.in-Err.is at c.next.ensures.says)
+
+pub returns-in-Err-clause-next : goal.returns-in-Err-clause-next
+returns-in-Err-clause-next g c = g.met.S.Source.follows_on c.args.source.now c.rounds.source c.next.new.source c.rounds.invariant.next c.next.ensures.next
 
 pub take-requires : goal.take-requires
 take-requires g c =
@@ -73,6 +83,10 @@ returns-in-Some-clause-says g c =
     let games = given turn.before.front turn.before.m in
     let turned = c.take.ensures was games turn.before.taken turn.index in
     (games, games_of batch, stops laws next (g.T.Taker.has_taken was now) c.rounds.games batch turn, rw c.in-Some.is at turned)
+
+pub returns-in-Some-clause-cause : goal.returns-in-Some-clause-cause
+returns-in-Some-clause-cause g c =
+    rw (c.in-Ok-Some.is ∙ ap Ok c.in-Ok-Some.field-0-is) at c.next.ensures.cause ∙ c.rounds.invariant.counts
 
 pub returns-in-Some-clause-next : goal.returns-in-Some-clause-next
 returns-in-Some-clause-next g c = g.met.S.Source.follows_on c.args.source.now c.rounds.source c.next.new.source c.rounds.invariant.next c.next.ensures.next
