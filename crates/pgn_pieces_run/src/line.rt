@@ -6,8 +6,7 @@ ghost use Rattle.pgn_pieces_run.specs.Line.{line, number_word, word};
 use crate::job::BYTES_LIMIT;
 use clap::builder::ValueParser;
 use clap::{Arg, Command};
-use cq_outside::NoMemory;
-use std::alloc::Global;
+use std::alloc::{AllocError, Global};
 
 // A word that has to be there, by its place.
 fn word<'a>(alloc: Global, id: &'a str) -> Arg<'a>
@@ -28,14 +27,13 @@ fn number_word<'a>(alloc: Global, id: &'a str, most: u64) -> Arg<'a>
 }
 
 // The whole command line.
-pub(crate) fn line<'a>(alloc: Global) -> Result<Command<'a>, NoMemory>
+pub(crate) fn line<'a>(alloc: Global) -> Result<Command<'a>, AllocError>
     ensures { IfOk result (λ command. app_of command ≡ line) }
 {
-    let command = Command::new(alloc, "pgnpieces")
+    Command::new(alloc, "pgnpieces")
         .no_binary_name(true)
         .disable_help_flag(true)
         .disable_version_flag(true)
         .arg(word(alloc, "archive"))?
-        .arg(number_word(alloc, "bytes", BYTES_LIMIT))?;
-    Ok(command)
+        .arg(number_word(alloc, "bytes", BYTES_LIMIT))
 }
