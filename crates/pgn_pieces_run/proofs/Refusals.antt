@@ -1,10 +1,11 @@
 -- What `clap` says of the words.
-use Rattle.std.proofs.Common.{◌≡◌, List, [], ◌∷◌, true, sym, subst, ap, inl, inr}
+use Rattle.std.proofs.Common.{◌≡◌, ◌↔◌, List, [], ◌∷◌, true, sym, subst, ap, inl, inr}
 use Rattle.clap.specs.Words.{App, HasKind, HasMatchesOf, Kinds, Text, fault_of, found_of, is_simple, is_simple_and_free, kind_of, matches_of, rows_of}
 use Rattle.clap.specs.declared.error.Error.{Error}
 use Rattle.clap.specs.declared.error.kind.ErrorKind.TheVariants.{OutOfMemory}
 use Rattle.clap.specs.declared.parser.matches.ArgMatches.{ArgMatches}
-use Rattle.cq_outside.specs.declared.faults.Refusal.TheVariants.{Fault}
+use Rattle.cq_outside.specs.declared.faults.Refusal.{Refusal}
+use Rattle.cq_outside.specs.declared.faults.Refusal.TheVariants.{Fault, NoMemory}
 use Rattle.pgn_pieces_run.specs.Jobs.{HasMatches, IsRefused}
 use Rattle.pgn_pieces_run.specs.Line.{line}
 use Rattle.pgn_pieces_run.specs.declared.job.WordsRefused.{WordsRefused}
@@ -21,8 +22,10 @@ only_memory [] e (inl memory) empty = memory
 only_memory [] e (inr none) empty = absurd none
 only_memory (k ∷ ks) e h empty = cc
 
--- an error of another kind than memory
-pub refused_words : (a : App) (words : List Text) (e : Error) (refused : WordsRefused) → a ≡ line
-    → (is_simple_and_free a ≡ true → HasKind (fault_of a words) e) → (kind_of e ≡ OutOfMemory → ⊥) → IsRefused words (Fault refused)
-refused_words a words e refused is kinds other = λ empty. other (only_memory (fault_of a words) e (kinds (ap is_simple_and_free is))
-    (subst (λ (x : App). fault_of x words ≡ []) (sym is) empty))
+-- out of memory is answered of an error of that kind alone
+pub refused_words : (a : App) (words : List Text) (e : Error) (refusal : Refusal WordsRefused) → a ≡ line
+    → (is_simple_and_free a ≡ true → HasKind (fault_of a words) e) → ((refusal ≡ NoMemory) ↔ (kind_of e ≡ OutOfMemory)) → IsRefused words refusal
+refused_words a words e NoMemory is kinds memory = tt
+refused_words a words e (Fault refused) is kinds memory = λ empty.
+    let never : Fault refused ≡ NoMemory = memory.1 (only_memory (fault_of a words) e (kinds (ap is_simple_and_free is))
+    (subst (λ (x : App). fault_of x words ≡ []) (sym is) empty)) in cc

@@ -1,13 +1,13 @@
 //! From the words to a job.
-ghost use Rattle.std.specs.Prelude.{◌≡◌, ◌≤◌, IfOk, IfSome, MatchResult, map, option_map};
+ghost use Rattle.std.specs.Prelude.{◌≡◌, ◌≤◌, ◌↔◌, IfOk, IfSome, MatchResult, map, option_map};
 ghost use Rattle.std.specs.String.{string_bytes};
-ghost use Rattle.clap.specs.Words.{first_of, found_of, rows_of};
+ghost use Rattle.clap.specs.Words.{first_of, found_of, kind_of, rows_of};
 ghost use Rattle.pgn_pieces_run.specs.Jobs.{Answers, HasMatches, IsRefused, asked, job_in, number_of};
 
 use crate::job::{BYTES_LIMIT, Job, WordsRefused};
 use crate::line::line;
 use clap::ArgMatches;
-use clap::error::ErrorKind;
+use clap::error::{Error, ErrorKind};
 use cq_outside::{Bytes, Refusal};
 use std::alloc::Global;
 
@@ -29,14 +29,23 @@ fn number_of(text: &str) -> Option<u64>
     }
 }
 
+// Why there are no matches: the words, unless memory was lacking.
+fn refusal_of(error: &Error) -> Refusal<WordsRefused>
+    ensures { (result ≡ Refusal.NoMemory) ↔ (kind_of error.now ≡ ErrorKind.OutOfMemory) }
+{
+    match error.kind() {
+        ErrorKind::OutOfMemory => Refusal::NoMemory,
+        _ => Refusal::Fault(WordsRefused),
+    }
+}
+
 // The matches that `clap` gives of the words.
 fn matched<'a>(alloc: Global, words: &'a [String]) -> Result<ArgMatches<'a>, Refusal<WordsRefused>>
     ensures { MatchResult result (HasMatches (map string_bytes words.now)) (IsRefused (map string_bytes words.now)) }
 {
     match line(alloc)?.try_get_matches_from(words) {
         Ok(matches) => Ok(matches),
-        Err(error) if error.kind() == ErrorKind::OutOfMemory => Err(Refusal::NoMemory),
-        Err(_) => Err(Refusal::Fault(WordsRefused)),
+        Err(error) => Err(refusal_of(&error)),
     }
 }
 
