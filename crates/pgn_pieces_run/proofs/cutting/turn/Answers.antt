@@ -36,3 +36,15 @@ returns-clause-stops g c = λ least count was cut.
     (subst (λ (t : List ℕ). TakesBytes c.args.pieces.now c.feed.new.self bytes t text) c.new-text.ensures c.in-Ok-feed.ensures.takes) c.in-Ok-feed.ensures.least
     (part.0, subst (λ (t : List ℕ). Grew (g.O.Sink.taken c.args.out.now) (g.O.Sink.taken c.write_all_of.new.sink) (take part.0 t)) c.as_slice.ensures part.1)
     c.in-Err-write_all_of.ensures.cause.failed
+
+pub slice_bounds-feed-end : goal.slice_bounds-feed-end
+slice_bounds-feed-end g c = omega (arith, c.in-Ok.ensures.bound, c.read_piece.auto.buf)
+
+pub feed-requires : goal.feed-requires
+feed-requires g c =
+    let stands = c.requires.stands in
+    let n = c.in-Ok.n in
+    (stands.0, stands.1, stands.2, omega (arith, stands.3, length-take n c.read_piece.new.buf, c.in-Ok.ensures.bound, c.read_piece.auto.buf))
+
+pub returns-in-Ok-write_all_of-clause-bound : goal.returns-in-Ok-write_all_of-clause-bound
+returns-in-Ok-write_all_of-clause-bound g c = c.in-Ok.ensures.bound
