@@ -1,4 +1,4 @@
-//! Tests of the top call: workers at the gate, failures of the outside at each place, and what is left in a source.
+//! Tests of the top call: workers at the gate, and failures of the outside at each place.
 #![tactic(auto)]
 
 #[cfg(test)]
@@ -7,7 +7,5 @@ mod calls;
 mod failing;
 #[cfg(test)]
 mod prefixes;
-#[cfg(test)]
-mod rest;
 #[cfg(test)]
 mod workers;
