@@ -44,14 +44,8 @@ pub(super) fn goal_truths<L: Ledger>(
     ensures cost { steps.new ≡ steps.old }
 {
     match &asked.form {
-        Form::Chain(chain, parts) => {
-            let in_chain = goal_in(alloc, opened, binding, *chain, parts, live, steps)?;
-            Ok(in_chain)
-        }
-        Form::Played(played) => {
-            let met = goal_met(alloc, opened, binding, played, live, steps)?;
-            Ok(met)
-        }
+        Form::Chain(chain, parts) => goal_in(alloc, opened, binding, *chain, parts, live, steps),
+        Form::Played(played) => goal_met(alloc, opened, binding, played, live, steps),
         _ => Ok(None),
     }
 }
@@ -84,8 +78,7 @@ fn goal_in<L: Ledger>(
         return Ok(None);
     }
     for part in parts.as_slice() {
-        let alone = goal_truths(alloc, opened, binding, part, live, steps)?;
-        return Ok(alone);
+        return goal_truths(alloc, opened, binding, part, live, steps);
     }
     Ok(None)
 }
@@ -119,7 +112,9 @@ fn goal_met<L: Ledger>(
     let some = promoting(alloc, binding.scope, promotes, live)?;
     let some = some.as_slice();
     let parts = part_columns(alloc, played, binding.scope, some, steps)?;
-    moved_there(alloc, binding, &parts, some)
+    let there = moved_there(alloc, binding, &parts, some);
+    drop(parts);
+    there
 }
 
 // Whether the moves to the nodes of a set went to squares of the column, and are as the columns of their other parts ask.
