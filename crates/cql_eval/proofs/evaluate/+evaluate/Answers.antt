@@ -195,9 +195,6 @@ covers::cover_set-cover_related-requires = flats.covers::cover_set-cover_related
 pub cover_squares::cover_square-cover_inner-requires : goal.cover_squares::cover_square-cover_inner-requires
 cover_squares::cover_square-cover_inner-requires = flats.cover_squares::cover_square-cover_inner-requires
 
-pub goals::goal_truths-goal_in-requires : goal.goals::goal_truths-goal_in-requires
-goals::goal_truths-goal_in-requires = flats.goals::goal_truths-goal_in-requires
-
 pub goals::goal_truths-goal_met-requires : goal.goals::goal_truths-goal_met-requires
 goals::goal_truths-goal_met-requires = flats.goals::goal_truths-goal_met-requires
 
@@ -464,17 +461,14 @@ pub squares::asked_truths-returns-clause-value : goal.squares::asked_truths-retu
 squares::asked_truths-returns-clause-value = squares.squares::asked_truths-returns-clause-value
 
 -- squares that are tried all at once
-pub goals::goal_truths-returns-in-Chain-clause-value : goal.goals::goal_truths-returns-in-Chain-clause-value
-goals::goal_truths-returns-in-Chain-clause-value = goals.goals::goal_truths-returns-in-Chain-clause-value
-
 pub goals::goal_truths-returns-in-Played-clause-value : goal.goals::goal_truths-returns-in-Played-clause-value
 goals::goal_truths-returns-in-Played-clause-value = goals.goals::goal_truths-returns-in-Played-clause-value
 
-pub goals::goal_in-loop-part-init : goal.goals::goal_in-loop-part-init
-goals::goal_in-loop-part-init = goals.goals::goal_in-loop-part-init
+pub goals::goal_truths-loop-part-init : goal.goals::goal_truths-loop-part-init
+goals::goal_truths-loop-part-init = goals.goals::goal_truths-loop-part-init
 
-pub goals::goal_in-returns-in-loop-part-clause-value : goal.goals::goal_in-returns-in-loop-part-clause-value
-goals::goal_in-returns-in-loop-part-clause-value = goals.goals::goal_in-returns-in-loop-part-clause-value
+pub goals::goal_truths-returns-in-loop-part-clause-value : goal.goals::goal_truths-returns-in-loop-part-clause-value
+goals::goal_truths-returns-in-loop-part-clause-value = goals.goals::goal_truths-returns-in-loop-part-clause-value
 
 pub goals::goal_met-returns-clause-value : goal.goals::goal_met-returns-clause-value
 goals::goal_met-returns-clause-value = goals.goals::goal_met-returns-clause-value

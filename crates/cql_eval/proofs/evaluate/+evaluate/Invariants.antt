@@ -39,8 +39,8 @@ invariant-chains::ask_class-loop-filter g l = record {
   flat : (i : ℕ) (f : Filter) → i < length l.filter-items → f ≡ get_or l.filter-items i f → IsFlat (filter_tree f);
 }
 
-abbrev pub invariant-goals::goal_in-loop-part : goal.invariant-goals::goal_in-loop-part
-invariant-goals::goal_in-loop-part g l = record {
+abbrev pub invariant-goals::goal_truths-loop-part : goal.invariant-goals::goal_truths-loop-part
+invariant-goals::goal_truths-loop-part g l = record {
   first : l.part-index ≡ 0;
   cost : l.steps ≡ l.fn.steps;
   flat : (i : ℕ) (f : Filter) → i < length l.part-items → f ≡ get_or l.part-items i f → IsFlat (filter_tree f);

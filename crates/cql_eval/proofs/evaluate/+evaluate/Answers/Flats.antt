@@ -126,11 +126,6 @@ unfolding unflat
 cover_squares::cover_square-cover_inner-requires g t c = λ κs low.
     (search (rules, the_lemmas), (low, (c.requires.tree, (c.requires.asked, (c.requires.count, (boxed_flat _ _ c.deref.ensures (none_rest _ _ (form_flat c.args.asked.now _ (ap form_tree c.in-Square.is) c.requires.flat)), c.is_other.ensures.other c.if-not-is_other.false))))))
 
-pub goals::goal_truths-goal_in-requires : goal.goals::goal_truths-goal_in-requires
-unfolding unflat
-goals::goal_truths-goal_in-requires g t c = λ κs low.
-    (search (rules, the_lemmas), (low, (c.requires.tree, (c.requires.asked, (form_flat c.args.asked.now _ (ap form_tree c.in-Chain.is) c.requires.flat, (c.requires.some, c.requires.opened))))))
-
 pub goals::goal_truths-goal_met-requires : goal.goals::goal_truths-goal_met-requires
 unfolding unflat
 goals::goal_truths-goal_met-requires g t c = λ κs low.
