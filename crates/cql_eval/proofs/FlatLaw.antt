@@ -1,5 +1,5 @@
 -- The items of a flat query are flat at every depth.
-use Rattle.std.proofs.Common.{◌≡◌, ℕ, zero, suc, ◌<◌, ◌≤◌, Bool, true, false, ◌&&◌, List, [], ◌∷◌, ◌++◌, length, get_or, refl, sym, ◌∙◌, arith, subst}
+use Rattle.std.proofs.Common.{◌≡◌, ℕ, zero, suc, ◌<◌, ◌≤◌, Bool, true, false, ◌&&◌, List, [], ◌∷◌, ◌++◌, length, get_or, refl, sym, ap, ◌∙◌, arith, subst}
 use Rattle.std.specs.Prelude.{not, nat_lt, ◌||◌, ◌+◌, ◌-◌}
 use Rattle.std.specs.List.{list_all, list_any}
 use Rattle.std.proofs.lemmas.Bool.{ltb-false}
@@ -10,14 +10,14 @@ use Rattle.cql_syntax.specs.Kinds.{chain_kind}
 use Rattle.cql_syntax.specs.Occurrences.{Standing, Occurrence, top_item, part_of, part_of_square, asked_of_each, occurrences, inner, all_of, of_terms, of_line, of_played, of_written, of_parts, of_body, sorts_with, of_items}
 use Rattle.cql_syntax.specs.Places.{places, parts_places}
 use Rattle.cql_syntax.specs.TreeFaults.{broken_rules, is_long_line, is_fifth_square, is_family}
-use Rattle.cql_syntax.specs.TreeOf.{filter_tree, filter_trees, term_trees}
+use Rattle.cql_syntax.specs.TreeOf.{filter_tree, form_tree, filter_trees, term_trees}
 use Rattle.cql_syntax.specs.Trees.{FilterTree, filter_at, FormTree, designator, number, name, plain, tagged, outcome, elo, unary, direction, chain, sum_of, pair, if_, square, line, played, transform, sort, comment, any, FilterTrees, no_filters, more_filters, TermTrees, no_terms, more_terms, LineTree, path, PlayedTree, move_of, WrittenTree, left_out, written, PartTrees, no_parts, more_parts, BodyTree, atom, group}
 use Rattle.cql_syntax.specs.Wants.{unary_wants, pair_wants}
 use Rattle.cql_syntax.specs.declared.leaves.Kind.TheVariants.{Position, Set, Number}
 use Rattle.cql_syntax.specs.declared.tree.Filter.{Filter}
 use Rattle.cql_syntax.specs.declared.tree.Term.{Term}
 use Rattle.cql_values.proofs.Ranges.{left, right, both}
-use Rattle.cql_columns.specs.FlatTrees.{unflat, unflat_all, unflat_terms, unflat_part, unflat_parts, unflat_body, IsFlat, IsFlatForm, AreFlat, AreFlatTerms, IsFlatLine, IsFlatMove, IsFlatPart, AreFlatParts, IsFlatBody}
+use Rattle.cql_columns.specs.FlatTrees.{unflat, unflat_form, unflat_all, unflat_terms, unflat_part, unflat_parts, unflat_body, IsFlat, IsFlatForm, AreFlat, AreFlatTerms, IsFlatLine, IsFlatMove, IsFlatPart, AreFlatParts, IsFlatBody}
 
 -- no family, and no long line
 abbrev free : Occurrence → Bool
@@ -39,10 +39,10 @@ few_places n h = ltb-false 64 n (turned (nat_lt 64 n) h)
 none : (a b : ℕ) → a ≡ 0 → b ≡ 0 → a + b ≡ 0
 none a b e f = omega (arith, e, f)
 
-none_first : (a b : ℕ) → a + b ≡ 0 → a ≡ 0
+pub none_first : (a b : ℕ) → a + b ≡ 0 → a ≡ 0
 none_first a b e = omega (arith, e)
 
-none_rest : (a b : ℕ) → a + b ≡ 0 → b ≡ 0
+pub none_rest : (a b : ℕ) → a + b ≡ 0 → b ≡ 0
 none_rest a b e = omega (arith, e)
 
 no_more : (n : ℕ) → n ≤ 64 → n - 64 ≡ 0
@@ -160,6 +160,15 @@ all_free (o ∷ os) f h = both (free o) (list_all free os)
 pub items_flat : (fs : FilterTrees) → has_family fs ≡ false → break_no_rule fs ≡ true → AreFlat fs
 unfolding has_family break_no_rule
 items_flat fs family rules = items_free fs 0 (all_free (of_items 0 fs) family rules)
+
+-- a form, and the filter in a box, are flat where the filter in which they stand is
+
+pub form_flat : (f : Filter) (form : FormTree) → form_tree f.form ≡ form → IsFlat (filter_tree f) → IsFlatForm form
+unfolding unflat
+form_flat f form is flat = sym (ap unflat_form is) ∙ flat
+
+pub boxed_flat : (boxed part : Filter) → part ≡ boxed → IsFlat (filter_tree boxed) → IsFlat (filter_tree part)
+boxed_flat boxed part same flat = ap (λ f. unflat (filter_tree f)) same ∙ flat
 
 -- the filters of a list one by one
 

@@ -1,6 +1,7 @@
 pub mod CostSums
 pub mod FlatLaw
 pub mod FormLaws
+mod CoverFree
 mod CoverMoves
 mod HereLaw
 pub mod HitsLaw

@@ -8,7 +8,6 @@ ghost use Rattle.cql_syntax.specs.Values as spec;
 ghost use Rattle.cql_columns.specs.Asked.{AreUnsettled};
 ghost use Rattle.cql_columns.specs.Columns.{AreAsked, AreTruths, IsColumn, Where, is_so, shown, all_shown, terms_shown};
 ghost use Rattle.cql_columns.specs.Costs.{filter_cost, filters_cost, terms_cost, played_cost, written_cost, line_cost, searched_len};
-ghost use Rattle.cql_columns.specs.Elsewhere.{asks_elsewhere};
 ghost use Rattle.cql_columns.specs.FlatTrees.{IsFlat, AreFlat, AreFlatTerms, IsFlatMove, IsFlatPart, IsFlatLine};
 ghost use Rattle.cql_columns.specs.Scopes.{tree_in, value_in, values_in};
 
@@ -25,17 +24,17 @@ mod squares;
 mod trial;
 
 pub(crate) use chains::left_by;
-use chains::{all_column, columns_of, some_column, terms_of};
+use chains::{columns_of, some_column, terms_of};
 use columns::{
     any_values_column, chain_values_column, chosen_column, found_column, here_column,
-    numbered_column, reached_column, standing_column, sum_column, word_column,
+    numbered_column, paired_column, reached_column, standing_column, sum_column, word_column,
 };
 use cq_outside::{NoMemory, Steps};
 use cql_columns::binding::Binding;
-use cql_columns::combine::pair_column;
 use cql_columns::elsewhere::{looked_at, looks_elsewhere};
 use cql_columns::filter_column::FilterColumn;
 use cql_columns::nodes::{any_live, part_of};
+use cql_columns::order::CLASSES;
 use cql_columns::scope::Scope;
 use cql_syntax::{Chain, Filter, Filters, Form, Kind, Unary};
 use cql_values::headers::{has_text, is_result, rating};
@@ -86,23 +85,23 @@ pub(crate) fn evaluate<L: Ledger>(
         Form::Unary(word, part) => { unary_column(alloc, *word, part, scope, live, steps) }
         Form::Steps(way, m, n, part) => {
             let column = evaluate(alloc, part, scope, live, steps)?;
-            reached_column(alloc, directions(*way), *m, *n, &column, live)
+            reached_column(alloc, directions(*way), *m, *n, column, live)
         }
         Form::Chain(chain, parts) => { chain_column(alloc, *chain, parts, scope, live, steps) }
         Form::Sum(terms) => {
             let columns = terms_of(alloc, terms, scope, live, steps)?;
-            sum_column(alloc, columns.as_slice(), live)
+            sum_column(alloc, columns, live)
         }
         Form::Pair(pair, first, second) => {
             let first = evaluate(alloc, first, scope, live, steps)?;
             let second = evaluate(alloc, second, scope, live, steps)?;
-            pair_column(alloc, *pair, scope, &first, &second, live)
+            paired_column(alloc, *pair, scope, first, second, live)
         }
         Form::If(condition, then, otherwise) => {
             let first = evaluate(alloc, condition, scope, live, steps)?;
             let second = column_where(alloc, true, &first, then, scope, live, steps)?;
             let third = column_where(alloc, false, &first, otherwise, scope, live, steps)?;
-            chosen_column(alloc, &first, &second, &third, live)
+            chosen_column(alloc, first, second, third, live)
         }
         Form::Square(every, name, squares, asked) => {
             let squares = evaluate(alloc, squares, scope, live, steps)?;
@@ -112,13 +111,14 @@ pub(crate) fn evaluate<L: Ledger>(
                 name: name.as_slice(),
                 squares: &squares,
             };
-            let truths = asked_truths(alloc, &binding, asked, live, steps)?;
-            Ok(FilterColumn::Truths(truths))
+            let truths = asked_truths(alloc, &binding, asked, live, steps);
+            drop(squares);
+            Ok(FilterColumn::Truths(truths?))
         }
         Form::Played(played) => played_column(alloc, played, scope, live, steps),
         Form::Sort(.., part) => {
             let column = evaluate(alloc, part, scope, live, steps)?;
-            numbered_column(alloc, &column, live)
+            numbered_column(alloc, column, live)
         }
         Form::Comment(_) => Ok(FilterColumn::Same(Value::Truth(true))),
         Form::Any(kind, parts) => { any_column(alloc, *kind, parts, scope, live, steps) }
@@ -151,7 +151,7 @@ fn column_where<L: Ledger>(
     evaluate(alloc, part, scope, &there, steps)
 }
 
-/// What a word or mark before a part gives.
+/// What a word or mark before a part gives. Some words ask their part at other nodes.
 #[cycle(evaluate)]
 fn unary_column<L: Ledger>(
     alloc: Global,
@@ -170,35 +170,13 @@ fn unary_column<L: Ledger>(
     ensures rises { steps.old ≤ steps.new }
 {
     if looks_elsewhere(word) {
-        return elsewhere_column(alloc, word, part, scope, live, steps);
+        let wide = looked_at(alloc, word, scope, live)?;
+        let wide = wide.as_slice();
+        let column = evaluate(alloc, part, scope, wide, steps)?;
+        return found_column(alloc, word, scope, wide, column);
     }
     let column = evaluate(alloc, part, scope, live, steps)?;
-    here_column(alloc, word, scope, &column, live)
-}
-
-/// What a word gives that asks its part at other nodes.
-#[cycle(evaluate)]
-fn elsewhere_column<L: Ledger>(
-    alloc: Global,
-    word: Unary,
-    part: &Filter,
-    scope: &Scope,
-    live: &[bool],
-    steps: &mut Steps<L>,
-) -> Result<FilterColumn, NoMemory>
-    requires tree { IsTree scope.now.game.now.nodes }
-    requires asked { AreAsked (tree_in scope.now) live.now }
-    requires flat { IsFlat (filter_tree part.now) }
-    requires word { asks_elsewhere word ≡ true }
-    ensures value { IfOk result (λ c. IsColumn c live.now (meaning.unary_of (tree_in scope.now) word
-        (value_in scope.now (filter_tree part.now)))) }
-    ensures cost { steps.new ≤ steps.old + filter_cost (searched_len (tree_in scope.now)) (filter_tree part.now) }
-    ensures rises { steps.old ≤ steps.new }
-{
-    let wide = looked_at(alloc, word, scope, live)?;
-    let wide = wide.as_slice();
-    let column = evaluate(alloc, part, scope, wide, steps)?;
-    found_column(alloc, word, scope, wide, &column)
+    here_column(alloc, word, scope, column, live)
 }
 
 /// What a filter of any number of parts gives.
@@ -220,11 +198,14 @@ fn chain_column<L: Ledger>(
     ensures rises { steps.old ≤ steps.new }
 {
     match chain {
-        Chain::And | Chain::All => all_column(alloc, parts, scope, live, steps),
+        Chain::And | Chain::All => {
+            let left = left_by(alloc, CLASSES, true, parts, scope, live, steps)?;
+            Ok(FilterColumn::Truths(left))
+        }
         Chain::Or => some_column(alloc, parts, scope, live, steps),
         _ => {
             let columns = columns_of(alloc, parts, scope, live, steps)?;
-            chain_values_column(alloc, chain, columns.as_slice(), live)
+            chain_values_column(alloc, chain, columns, live)
         }
     }
 }
@@ -251,7 +232,7 @@ fn any_column<L: Ledger>(
         Kind::Position => some_column(alloc, parts, scope, live, steps),
         _ => {
             let columns = columns_of(alloc, parts, scope, live, steps)?;
-            any_values_column(alloc, kind, columns.as_slice(), live)
+            any_values_column(alloc, kind, columns, live)
         }
     }
 }

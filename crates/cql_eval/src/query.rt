@@ -177,6 +177,7 @@ fn sort_by<L: Ledger>(
             let column = evaluate(alloc, number, scope, left, steps)?;
             push_row(alloc, &column, left, keys)?;
             keep_numbered(left, &column);
+            drop(column);
             Ok(())
         }
         _ => Ok(()),
@@ -212,13 +213,15 @@ fn narrowed_by<L: Ledger>(
         Form::Sort(.., number) => {
             let column = evaluate(alloc, number, scope, asked, steps)?;
             push_row(alloc, &column, asked, keys)?;
-            let later = numbered(alloc, &column, left)?;
-            Ok(later)
+            let later = numbered(alloc, &column, left);
+            drop(column);
+            Ok(later?)
         }
         _ => {
             let column = evaluate(alloc, item, scope, left, steps)?;
-            let later = narrowed(alloc, left, &column, true)?;
-            Ok(later)
+            let later = narrowed(alloc, left, &column, true);
+            drop(column);
+            Ok(later?)
         }
     }
 }

@@ -25,27 +25,6 @@ use cql_syntax::{Filter, Filters, Terms};
 use std::alloc::Global;
 use std::sync::ledger::Ledger;
 
-/// Whether all of some filters hold.
-#[cycle(evaluate)]
-pub(super) fn all_column<L: Ledger>(
-    alloc: Global,
-    filters: &Filters,
-    scope: &Scope,
-    live: &[bool],
-    steps: &mut Steps<L>,
-) -> Result<FilterColumn, NoMemory>
-    requires tree { IsTree scope.now.game.now.nodes }
-    requires asked { AreAsked (tree_in scope.now) live.now }
-    requires flat { AreFlat (filters_tree filters.now) }
-    ensures value { IfOk result (λ c. IsColumn c live.now
-        (λ n. spec.all_hold (values_in scope.now (filters_tree filters.now) n))) }
-    ensures cost { steps.new ≤ steps.old + filters_cost (searched_len (tree_in scope.now)) (filters_tree filters.now) }
-    ensures rises { steps.old ≤ steps.new }
-{
-    let left = left_by(alloc, CLASSES, true, filters, scope, live, steps)?;
-    Ok(FilterColumn::Truths(left))
-}
-
 /// Whether some of several filters holds.
 #[cycle(evaluate)]
 pub(super) fn some_column<L: Ledger>(
@@ -64,7 +43,7 @@ pub(super) fn some_column<L: Ledger>(
     ensures rises { steps.old ≤ steps.new }
 {
     let fails = left_by(alloc, CLASSES, false, filters, scope, live, steps)?;
-    negated_column(alloc, &FilterColumn::Truths(fails), live)
+    negated_column(alloc, FilterColumn::Truths(fails), live)
 }
 
 /// Of the nodes of a set those at which each filter of a class before `past` holds, or each doesn't: class by class, each filter where
@@ -168,10 +147,12 @@ fn ask_if<L: Ledger>(
     let told = told_column(alloc, asking, parts, left)?;
     if let Some(column) = told {
         narrow(left, &column, asking.want);
+        drop(column);
         return Ok(());
     }
     let column = evaluate(alloc, filter, scope, left, steps)?;
     narrow(left, &column, asking.want);
+    drop(column);
     Ok(())
 }
 

@@ -12,7 +12,8 @@ ghost use Rattle.cql_columns.specs.Scopes.{tree_in};
 use cq_geometry::Compass;
 use cq_outside::NoMemory;
 use cql_columns::combine::{
-    any_values, chain_values, chosen, negated, numbered, reached_values, sum_values, unary_values,
+    any_values, chain_values, chosen, negated, numbered, pair_column, reached_values, sum_values,
+    unary_values,
 };
 use cql_columns::elsewhere::found_from;
 use cql_columns::filter_column::FilterColumn;
@@ -20,7 +21,7 @@ use cql_columns::leaves::{standing_sets, word_values};
 use cql_columns::moves::{PartColumns, moves_met};
 use cql_columns::nodes::narrowed;
 use cql_columns::scope::Scope;
-use cql_syntax::{Chain, Designator, Kind, Plain, Unary};
+use cql_syntax::{Chain, Designator, Kind, Pair, Plain, Unary};
 use std::alloc::Global;
 
 /// The squares of a designator on which its men stand.
@@ -58,12 +59,12 @@ pub(super) fn here_column(
     alloc: Global,
     word: Unary,
     scope: &Scope,
-    column: &FilterColumn,
+    column: FilterColumn,
     live: &[bool],
 ) -> Result<FilterColumn, NoMemory>
     requires asked { AreAsked (tree_in scope.now) live.now }
     ensures { IfOk result (λ c. IsColumn c live.now
-        (λ n. of_value (node_at scope.now.game.now.nodes n).position.men word (shown column.now n))) }
+        (λ n. of_value (node_at scope.now.game.now.nodes n).position.men word (shown column n))) }
 {
     match word {
         Unary::Not => negated_column(alloc, column, live),
@@ -75,15 +76,16 @@ fn unary_values_column(
     alloc: Global,
     word: Unary,
     scope: &Scope,
-    column: &FilterColumn,
+    column: FilterColumn,
     live: &[bool],
 ) -> Result<FilterColumn, NoMemory>
     requires asked { AreAsked (tree_in scope.now) live.now }
     ensures { IfOk result (λ c. IsColumn c live.now
-        (λ n. of_value (node_at scope.now.game.now.nodes n).position.men word (shown column.now n))) }
+        (λ n. of_value (node_at scope.now.game.now.nodes n).position.men word (shown column n))) }
 {
-    let values = unary_values(alloc, word, scope, column, live)?;
-    Ok(FilterColumn::Values(values))
+    let values = unary_values(alloc, word, scope, &column, live);
+    drop(column);
+    Ok(FilterColumn::Values(values?))
 }
 
 /// What a word gives that asks its part at other nodes, of the column of its part at the nodes that it looks at.
@@ -92,16 +94,17 @@ pub(super) fn found_column(
     word: Unary,
     scope: &Scope,
     wide: &[bool],
-    column: &FilterColumn,
+    column: FilterColumn,
 ) -> Result<FilterColumn, NoMemory>
     requires tree { IsTree scope.now.game.now.nodes }
     requires asked { AreAsked (tree_in scope.now) wide.now }
     requires word { asks_elsewhere word ≡ true }
-    ensures { IfOk result (λ c. (v : ℕ → spec.Value) → IsColumn column.now wide.now v
+    ensures { IfOk result (λ c. (v : ℕ → spec.Value) → IsColumn column wide.now v
         → (live : List Bool) → AreAsked (tree_in scope.now) live → AreLookedAt (tree_in scope.now) word live wide.now
         → IsColumn c live (meaning.unary_of (tree_in scope.now) word v)) }
 {
-    let set = narrowed(alloc, wide, column, true)?;
+    let set = narrowed(alloc, wide, &column, true)?;
+    drop(column);
     let found = found_from(alloc, word, scope.game, set)?;
     Ok(FilterColumn::Truths(found))
 }
@@ -110,56 +113,82 @@ pub(super) fn found_column(
 pub(super) fn met_column(
     alloc: Global,
     scope: &Scope,
-    parts: &PartColumns,
-    goal: &Option<FilterColumn>,
+    parts: PartColumns,
+    goal: Option<FilterColumn>,
     live: &[bool],
 ) -> Result<FilterColumn, NoMemory>
     requires tree { IsTree scope.now.game.now.nodes }
     requires asked { AreAsked (tree_in scope.now) live.now }
     ensures { IfOk result (λ c. (n : ℕ) → shown c n ≡ spec.as_truth
-        (is_live live.now n && is_as_asked (tree_in scope.now) parts.now (option_map (λ c. shown c n) goal.now) n)) }
+        (is_live live.now n && is_as_asked (tree_in scope.now) parts (option_map (λ c. shown c n) goal) n)) }
 {
-    let truths = moves_met(alloc, scope, parts, goal, live)?;
-    Ok(FilterColumn::Truths(truths))
+    let truths = moves_met(alloc, scope, &parts, &goal, live);
+    drop(parts);
+    drop(goal);
+    Ok(FilterColumn::Truths(truths?))
 }
 
 /// Whether a column doesn't hold.
 pub(super) fn negated_column(
     alloc: Global,
-    column: &FilterColumn,
+    column: FilterColumn,
     live: &[bool],
 ) -> Result<FilterColumn, NoMemory>
-    ensures { IfOk result (λ c. IsColumn c live.now (λ n. spec.as_truth (not (spec.holds (shown column.now n))))) }
+    ensures { IfOk result (λ c. IsColumn c live.now (λ n. spec.as_truth (not (spec.holds (shown column n))))) }
 {
-    let truths = negated(alloc, column, live)?;
-    Ok(FilterColumn::Truths(truths))
+    let truths = negated(alloc, &column, live);
+    drop(column);
+    Ok(FilterColumn::Truths(truths?))
 }
 
 /// Whether a column has a number.
 pub(super) fn numbered_column(
     alloc: Global,
-    column: &FilterColumn,
+    column: FilterColumn,
     live: &[bool],
 ) -> Result<FilterColumn, NoMemory>
-    ensures { IfOk result (λ c. IsColumn c live.now (λ n. spec.as_truth (is_some (spec.amount (shown column.now n))))) }
+    ensures { IfOk result (λ c. IsColumn c live.now (λ n. spec.as_truth (is_some (spec.amount (shown column n))))) }
 {
-    let truths = numbered(alloc, column, live)?;
-    Ok(FilterColumn::Truths(truths))
+    let truths = numbered(alloc, &column, live);
+    drop(column);
+    Ok(FilterColumn::Truths(truths?))
 }
 
 /// Whether the second column holds where the first does, and the third elsewhere.
 pub(super) fn chosen_column(
     alloc: Global,
-    first: &FilterColumn,
-    second: &FilterColumn,
-    third: &FilterColumn,
+    first: FilterColumn,
+    second: FilterColumn,
+    third: FilterColumn,
     live: &[bool],
 ) -> Result<FilterColumn, NoMemory>
     ensures { IfOk result (λ c. IsColumn c live.now
-        (λ n. spec.if_of (shown first.now n) (shown second.now n) (shown third.now n))) }
+        (λ n. spec.if_of (shown first n) (shown second n) (shown third n))) }
 {
-    let truths = chosen(alloc, first, second, third, live)?;
-    Ok(FilterColumn::Truths(truths))
+    let truths = chosen(alloc, &first, &second, &third, live);
+    drop(first);
+    drop(second);
+    drop(third);
+    Ok(FilterColumn::Truths(truths?))
+}
+
+/// What a filter of two parts makes of their columns.
+pub(super) fn paired_column(
+    alloc: Global,
+    pair: Pair,
+    scope: &Scope,
+    first: FilterColumn,
+    second: FilterColumn,
+    live: &[bool],
+) -> Result<FilterColumn, NoMemory>
+    requires asked { AreAsked (tree_in scope.now) live.now }
+    ensures { IfOk result (λ c. IsColumn c live.now
+        (λ n. spec.pair_of (node_at scope.now.game.now.nodes n).position.men pair (shown first n) (shown second n))) }
+{
+    let paired = pair_column(alloc, pair, scope, &first, &second, live);
+    drop(first);
+    drop(second);
+    paired
 }
 
 /// The squares that lie in some directions of those of a column.
@@ -168,50 +197,54 @@ pub(super) fn reached_column(
     directions: &[Compass],
     least: u32,
     most: u32,
-    column: &FilterColumn,
+    column: FilterColumn,
     live: &[bool],
 ) -> Result<FilterColumn, NoMemory>
     ensures { IfOk result (λ c. IsColumn c live.now
-        (λ n. spec.reached_of directions.now least most (shown column.now n))) }
+        (λ n. spec.reached_of directions.now least most (shown column n))) }
 {
-    let values = reached_values(alloc, directions, least, most, column, live)?;
-    Ok(FilterColumn::Values(values))
+    let values = reached_values(alloc, directions, least, most, &column, live);
+    drop(column);
+    Ok(FilterColumn::Values(values?))
 }
 
 /// What a filter of any number of parts gives.
 pub(super) fn chain_values_column(
     alloc: Global,
     chain: Chain,
-    columns: &[FilterColumn],
+    columns: Vec<FilterColumn>,
     live: &[bool],
 ) -> Result<FilterColumn, NoMemory>
-    ensures { IfOk result (λ c. IsColumn c live.now (λ n. spec.chain_of chain (all_shown columns.now n))) }
+    ensures { IfOk result (λ c. IsColumn c live.now (λ n. spec.chain_of chain (all_shown columns.items n))) }
 {
-    let values = chain_values(alloc, chain, columns, live)?;
-    Ok(FilterColumn::Values(values))
+    let values = chain_values(alloc, chain, columns.as_slice(), live);
+    drop(columns);
+    Ok(FilterColumn::Values(values?))
 }
 
 /// What any of some filters of a kind gives.
 pub(super) fn any_values_column(
     alloc: Global,
     kind: Kind,
-    columns: &[FilterColumn],
+    columns: Vec<FilterColumn>,
     live: &[bool],
 ) -> Result<FilterColumn, NoMemory>
-    ensures { IfOk result (λ c. IsColumn c live.now (λ n. spec.any_of kind (all_shown columns.now n))) }
+    ensures { IfOk result (λ c. IsColumn c live.now (λ n. spec.any_of kind (all_shown columns.items n))) }
 {
-    let values = any_values(alloc, kind, columns, live)?;
-    Ok(FilterColumn::Values(values))
+    let values = any_values(alloc, kind, columns.as_slice(), live);
+    drop(columns);
+    Ok(FilterColumn::Values(values?))
 }
 
 /// The sum of columns, some of which are subtracted.
 pub(super) fn sum_column(
     alloc: Global,
-    terms: &[(bool, FilterColumn)],
+    terms: Vec<(bool, FilterColumn)>,
     live: &[bool],
 ) -> Result<FilterColumn, NoMemory>
-    ensures { IfOk result (λ c. IsColumn c live.now (λ n. spec.total_of (terms_shown terms.now n))) }
+    ensures { IfOk result (λ c. IsColumn c live.now (λ n. spec.total_of (terms_shown terms.items n))) }
 {
-    let values = sum_values(alloc, terms, live)?;
-    Ok(FilterColumn::Values(values))
+    let values = sum_values(alloc, terms.as_slice(), live);
+    drop(terms);
+    Ok(FilterColumn::Values(values?))
 }

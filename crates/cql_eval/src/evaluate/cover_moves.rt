@@ -25,8 +25,10 @@ use cql_values::names::Names;
 use std::alloc::Global;
 use std::sync::ledger::Ledger;
 
-/// Leaves those squares of sets with which the moves may be as they are asked for.
+/// Leaves those squares of sets with which the moves may be as they are asked for: those of the moves where a part is the name's own square,
+/// and all where the parts in which no open name stands are met.
 #[cycle(evaluate)]
+#[tactic(auto, unfolding(cql_syntax::specs::Meaning::value, cql_columns::specs::FlatTrees::unflat))]
 pub(super) fn cover_played<L: Ledger>(
     alloc: Global,
     trial: &Trial,
@@ -47,29 +49,6 @@ pub(super) fn cover_played<L: Ledger>(
     let goal = is_own_part(trial.name, &played.goal);
     let taken = is_own_part(trial.name, &played.taken);
     cut_moves(sets, trial.live, trial.scope, origin, goal, taken);
-    cover_free_parts(alloc, trial, played, sets, steps)?;
-    Ok(())
-}
-
-// Of the parts in which no name that is open stands.
-#[cycle(evaluate)]
-#[tactic(auto, unfolding(cql_syntax::specs::Meaning::value, cql_columns::specs::FlatTrees::unflat))]
-fn cover_free_parts<L: Ledger>(
-    alloc: Global,
-    trial: &Trial,
-    played: &Played,
-    sets: &mut [u64],
-    steps: &mut Steps<L>,
-) -> Result<(), NoMemory>
-    requires tree { IsTree trial.now.scope.now.game.now.nodes }
-    requires asked { AreAsked (tree_in trial.now.scope.now) trial.now.live.now }
-    requires count { length sets.old ≡ length trial.now.live.now }
-    requires flat { IsFlatMove (played_tree played.now) }
-    ensures cut { OnOk result (LeavesHolding trial.now
-        (λ e n. spec.as_truth (meaning.played_value (tree_in trial.now.scope.now) [] e (played_tree played.now) n)) sets.old sets.new) }
-    ensures len { length sets.new ≡ length sets.old }
-    ensures cost { steps.new ≡ steps.old }
-{
     if !asks_without(trial.opened, played) {
         return Ok(());
     }
@@ -77,15 +56,15 @@ fn cover_free_parts<L: Ledger>(
     let some = some.as_slice();
     let parts = free_columns(alloc, trial, played, some, steps)?;
     let goal = free_column(alloc, trial, &played.goal, some, steps)?;
-    cut_unmet(alloc, trial.scope, &parts, &goal, some, sets)
+    cut_unmet(alloc, trial.scope, parts, goal, some, sets)
 }
 
 // Leaves squares at those nodes of a set alone to which a move led that is as columns ask.
 fn cut_unmet(
     alloc: Global,
     scope: &Scope,
-    parts: &PartColumns,
-    goal: &Option<FilterColumn>,
+    parts: PartColumns,
+    goal: Option<FilterColumn>,
     live: &[bool],
     sets: &mut [u64],
 ) -> Result<(), NoMemory>
@@ -93,11 +72,15 @@ fn cut_unmet(
     requires asked { AreAsked (tree_in scope.now) live.now }
     requires count { length sets.old ≡ length live.now }
     ensures cut { OnOk result (AreCut live.now
-        (λ n s. is_as_asked (tree_in scope.now) parts.now (option_map (λ c. shown c n) goal.now) n ≡ true) sets.old sets.new) }
+        (λ n s. is_as_asked (tree_in scope.now) parts (option_map (λ c. shown c n) goal) n ≡ true) sets.old sets.new) }
     ensures len { length sets.new ≡ length sets.old }
 {
-    let met = moves_met(alloc, scope, parts, goal, live)?;
-    cut_where_fails(sets, live, &FilterColumn::Truths(met));
+    let met = moves_met(alloc, scope, &parts, &goal, live);
+    drop(parts);
+    drop(goal);
+    let truths = FilterColumn::Truths(met?);
+    cut_where_fails(sets, live, &truths);
+    drop(truths);
     Ok(())
 }
 
@@ -157,6 +140,5 @@ fn free_column<L: Ledger>(
     if !is_free_and_written(trial.opened, written) {
         return Ok(None);
     }
-    let column = written_column(alloc, written, trial.scope, live, steps)?;
-    Ok(column)
+    written_column(alloc, written, trial.scope, live, steps)
 }

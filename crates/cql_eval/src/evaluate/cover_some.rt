@@ -37,34 +37,12 @@ pub(super) fn cover_some<L: Ledger>(
     ensures cost { steps.new ≡ steps.old }
 {
     let mut kept = blank_sets(alloc, trial.live.len())?;
-    add_each(alloc, trial, parts, sets, &mut kept, steps)?;
-    cut(sets, trial.live, &FilterColumn::Sets(kept));
-    Ok(())
-}
-
-// Adds the squares with which one of the filters may hold.
-#[cycle(evaluate)]
-fn add_each<L: Ledger>(
-    alloc: Global,
-    trial: &Trial,
-    parts: &Filters,
-    sets: &[u64],
-    kept: &mut [u64],
-    steps: &mut Steps<L>,
-) -> Result<(), NoMemory>
-    requires tree { IsTree trial.now.scope.now.game.now.nodes }
-    requires asked { AreAsked (tree_in trial.now.scope.now) trial.now.live.now }
-    requires count { length sets.now ≡ length trial.now.live.now }
-    requires kept { length kept.old ≡ length trial.now.live.now }
-    requires flat { AreFlat (filters_tree parts.now) }
-    ensures added { OnOk result (AreAdded trial.now.live.now (MayHold trial.now.opened.now trial.now.scope.now.names.now trial.now.name.now
-        (λ e n. spec.some_holds (values_with trial.now.scope.now (filters_tree parts.now) e n))) sets.now kept.old kept.new) }
-    ensures len { length kept.new ≡ length kept.old }
-    ensures cost { steps.new ≡ steps.old }
-{
     for part in parts.as_slice() {
-        add_covered(alloc, trial, part, sets, kept, steps)?;
+        add_covered(alloc, trial, part, sets, &mut kept, steps)?;
     }
+    let left = FilterColumn::Sets(kept);
+    cut(sets, trial.live, &left);
+    drop(left);
     Ok(())
 }
 

@@ -48,8 +48,7 @@ pub(super) fn cover_square<L: Ledger>(
                 return Ok(());
             }
             cover_inner(alloc, trial, inner, part, sets, steps)?;
-            cover_pair(alloc, trial, inner, squares, part, sets, steps)?;
-            Ok(())
+            cover_pair(alloc, trial, inner, squares, part, sets, steps)
         }
         _ => Ok(()),
     }
@@ -124,5 +123,6 @@ fn cover_pair<L: Ledger>(
         column: &column,
     };
     cut_paired(sets, &paired, part);
+    drop(column);
     Ok(())
 }

@@ -24,7 +24,7 @@ use cql_columns::elsewhere::{brought_back, looked_at, looks_elsewhere};
 use cql_columns::filter_column::FilterColumn;
 use cql_columns::free::{is_all, is_attack, is_free, is_intersection, is_or, is_own, turned};
 use cql_columns::order::{SORTS, is_of_class};
-use cql_syntax::{Chain, Filter, Filters, Form, Pair, Unary};
+use cql_syntax::{Filter, Filters, Form, Pair, Unary};
 use std::alloc::Global;
 use std::sync::ledger::Ledger;
 
@@ -54,21 +54,31 @@ pub(super) fn cover<L: Ledger>(
         return cover_free(alloc, trial, asked, sets, steps);
     }
     if is_own(trial.name, asked) {
-        cover_set(alloc, trial, asked, sets, steps)?;
-        return Ok(());
+        return cover_set(alloc, trial, asked, sets, steps);
     }
     match &asked.form {
-        Form::Chain(chain, parts) => cover_chain(alloc, trial, *chain, parts, sets, steps),
+        Form::Chain(chain, parts) => {
+            if is_or(*chain) {
+                return cover_some(alloc, trial, parts, sets, steps);
+            }
+            if !is_all(*chain) {
+                return Ok(());
+            }
+            cover_all(alloc, trial, parts, sets, steps)
+        }
         Form::Square(..) => cover_square(alloc, trial, asked, sets, steps),
-        Form::Unary(word, part) => {
-            cover_elsewhere(alloc, trial, *word, part, sets, steps)?;
-            Ok(())
+        Form::Unary(word, part) => cover_elsewhere(alloc, trial, *word, part, sets, steps),
+        Form::Played(played) => cover_played(alloc, trial, played, sets, steps),
+        // Of a set whose men attack the square, or are attacked from it.
+        Form::Pair(pair, first, second) => {
+            if !is_attack(*pair) {
+                return Ok(());
+            }
+            if !is_own(trial.name, second) {
+                return Ok(());
+            }
+            cover_related(alloc, trial, turned(*pair), first, sets, steps)
         }
-        Form::Played(played) => {
-            cover_played(alloc, trial, played, sets, steps)?;
-            Ok(())
-        }
-        Form::Pair(..) => cover_turned(alloc, trial, asked, sets, steps),
         _ => Ok(()),
     }
 }
@@ -95,71 +105,7 @@ fn cover_free<L: Ledger>(
     let some = with_squares(alloc, trial.scope, trial.live, sets)?;
     let column = evaluate(alloc, asked, trial.scope, &some, steps)?;
     cut_where_fails(sets, &some, &column);
-    Ok(())
-}
-
-// Of a set whose men attack the square, or are attacked from it.
-#[cycle(evaluate)]
-#[tactic(auto, unfolding(cql_syntax::specs::Meaning::value, cql_columns::specs::FlatTrees::unflat))]
-fn cover_turned<L: Ledger>(
-    alloc: Global,
-    trial: &Trial,
-    asked: &Filter,
-    sets: &mut [u64],
-    steps: &mut Steps<L>,
-) -> Result<(), NoMemory>
-    requires tree { IsTree trial.now.scope.now.game.now.nodes }
-    requires asked { AreAsked (tree_in trial.now.scope.now) trial.now.live.now }
-    requires count { length sets.old ≡ length trial.now.live.now }
-    requires flat { IsFlat (filter_tree asked.now) }
-    ensures cut { OnOk result (LeavesHolding trial.now
-        (value_with trial.now.scope.now (filter_tree asked.now)) sets.old sets.new) }
-    ensures len { length sets.new ≡ length sets.old }
-    ensures cost { steps.new ≡ steps.old }
-{
-    match &asked.form {
-        Form::Pair(pair, first, second) => {
-            if !is_attack(*pair) {
-                return Ok(());
-            }
-            if !is_own(trial.name, second) {
-                return Ok(());
-            }
-            let other = turned(*pair);
-            cover_related(alloc, trial, other, first, sets, steps)?;
-            Ok(())
-        }
-        _ => Ok(()),
-    }
-}
-
-// Of the filters of a chain: of those that must all hold, or one of which must.
-#[cycle(evaluate)]
-fn cover_chain<L: Ledger>(
-    alloc: Global,
-    trial: &Trial,
-    chain: Chain,
-    parts: &Filters,
-    sets: &mut [u64],
-    steps: &mut Steps<L>,
-) -> Result<(), NoMemory>
-    requires tree { IsTree trial.now.scope.now.game.now.nodes }
-    requires asked { AreAsked (tree_in trial.now.scope.now) trial.now.live.now }
-    requires count { length sets.old ≡ length trial.now.live.now }
-    requires flat { AreFlat (filters_tree parts.now) }
-    ensures cut { OnOk result (LeavesHolding trial.now
-        (λ e n. spec.chain_of chain (values_with trial.now.scope.now (filters_tree parts.now) e n)) sets.old sets.new) }
-    ensures len { length sets.new ≡ length sets.old }
-    ensures cost { steps.new ≡ steps.old }
-{
-    if is_or(chain) {
-        cover_some(alloc, trial, parts, sets, steps)?;
-        return Ok(());
-    }
-    if !is_all(chain) {
-        return Ok(());
-    }
-    cover_all(alloc, trial, parts, sets, steps)?;
+    drop(column);
     Ok(())
 }
 
@@ -269,7 +215,9 @@ fn cover_elsewhere<L: Ledger>(
     };
     cover(alloc, &elsewhere, part, &mut there, steps)?;
     let back = brought_back(alloc, word, trial.scope.game, there)?;
-    cut(sets, trial.live, &FilterColumn::Sets(back));
+    let left = FilterColumn::Sets(back);
+    cut(sets, trial.live, &left);
+    drop(left);
     Ok(())
 }
 
@@ -296,14 +244,18 @@ fn cover_set<L: Ledger>(
         return cover_free_set(alloc, trial, asked, sets, steps);
     }
     match &asked.form {
-        Form::Chain(chain, parts) => cover_common(alloc, trial, *chain, parts, sets, steps),
+        Form::Chain(chain, parts) => {
+            if !is_intersection(*chain) {
+                return Ok(());
+            }
+            cover_each(alloc, trial, parts, sets, steps)
+        }
         Form::Pair(pair, first, second) => {
             if !is_attack(*pair) {
                 return Ok(());
             }
             cover_set(alloc, trial, first, sets, steps)?;
-            cover_related(alloc, trial, *pair, second, sets, steps)?;
-            Ok(())
+            cover_related(alloc, trial, *pair, second, sets, steps)
         }
         _ => Ok(()),
     }
@@ -331,32 +283,7 @@ fn cover_free_set<L: Ledger>(
     let some = with_squares(alloc, trial.scope, trial.live, sets)?;
     let column = evaluate(alloc, asked, trial.scope, &some, steps)?;
     cut(sets, &some, &column);
-    Ok(())
-}
-
-// Of the squares that some sets have in common.
-#[cycle(evaluate)]
-fn cover_common<L: Ledger>(
-    alloc: Global,
-    trial: &Trial,
-    chain: Chain,
-    parts: &Filters,
-    sets: &mut [u64],
-    steps: &mut Steps<L>,
-) -> Result<(), NoMemory>
-    requires tree { IsTree trial.now.scope.now.game.now.nodes }
-    requires asked { AreAsked (tree_in trial.now.scope.now) trial.now.live.now }
-    requires count { length sets.old ≡ length trial.now.live.now }
-    requires flat { AreFlat (filters_tree parts.now) }
-    ensures cut { OnOk result (LeavesHaving trial.now
-        (λ e n. spec.chain_of chain (values_with trial.now.scope.now (filters_tree parts.now) e n)) sets.old sets.new) }
-    ensures len { length sets.new ≡ length sets.old }
-    ensures cost { steps.new ≡ steps.old }
-{
-    if !is_intersection(chain) {
-        return Ok(());
-    }
-    cover_each(alloc, trial, parts, sets, steps)?;
+    drop(column);
     Ok(())
 }
 
@@ -411,5 +338,6 @@ fn cover_related<L: Ledger>(
     let some = with_squares(alloc, trial.scope, trial.live, sets)?;
     let column = evaluate(alloc, second, trial.scope, &some, steps)?;
     cut_related(sets, &some, trial.scope, pair, &column);
+    drop(column);
     Ok(())
 }

@@ -3,13 +3,13 @@ ghost use Rattle.std.specs.Prelude.{◌≡◌, ℕ, ◌&&◌, ◌∷◌, [], get
 ghost use Rattle.cq_position.specs.Games.{IsTree};
 ghost use Rattle.cq_symmetry.specs.Images.{is_in};
 ghost use Rattle.cql_syntax.specs.Meaning as meaning;
-ghost use Rattle.cql_syntax.specs.TreeOf.{filter_tree, filters_tree, played_tree};
+ghost use Rattle.cql_syntax.specs.TreeOf.{filter_tree, played_tree};
 ghost use Rattle.cql_syntax.specs.Values as spec;
 ghost use Rattle.cql_eval.specs.Bindings.{holds_with};
 ghost use Rattle.cql_columns.specs.Columns.{AreAsked, AreTruths, is_live, shown};
-ghost use Rattle.cql_columns.specs.FlatTrees.{IsFlat, AreFlat, IsFlatMove};
+ghost use Rattle.cql_columns.specs.FlatTrees.{IsFlat, IsFlatMove};
 ghost use Rattle.cql_columns.specs.Moved.{goes_as_asked};
-ghost use Rattle.cql_columns.specs.Scopes.{tree_in, values_with};
+ghost use Rattle.cql_columns.specs.Scopes.{tree_in};
 
 use super::played::part_columns;
 use cq_outside::{NoMemory, Steps};
@@ -18,7 +18,7 @@ use cql_columns::covers::sets_of;
 use cql_columns::free::is_all;
 use cql_columns::moved::{asks_goal, moves_to};
 use cql_columns::moves::{PartColumns, promoting};
-use cql_syntax::{Chain, Filter, Filters, Form, Played};
+use cql_syntax::{Filter, Form, Played};
 use cql_values::names::Names;
 use std::alloc::Global;
 use std::sync::ledger::Ledger;
@@ -44,50 +44,22 @@ pub(super) fn goal_truths<L: Ledger>(
     ensures cost { steps.new ≡ steps.old }
 {
     match &asked.form {
+        // Of a chain of one filter.
         Form::Chain(chain, parts) => {
-            let in_chain = goal_in(alloc, opened, binding, *chain, parts, live, steps)?;
-            Ok(in_chain)
+            if !is_all(*chain) {
+                return Ok(None);
+            }
+            if parts.len() != 1 {
+                return Ok(None);
+            }
+            for part in parts.as_slice() {
+                return goal_truths(alloc, opened, binding, part, live, steps);
+            }
+            Ok(None)
         }
-        Form::Played(played) => {
-            let met = goal_met(alloc, opened, binding, played, live, steps)?;
-            Ok(met)
-        }
+        Form::Played(played) => goal_met(alloc, opened, binding, played, live, steps),
         _ => Ok(None),
     }
-}
-
-// Of a chain of one filter.
-#[cycle(evaluate)]
-fn goal_in<L: Ledger>(
-    alloc: Global,
-    opened: &Names,
-    binding: &Binding,
-    chain: Chain,
-    parts: &Filters,
-    live: &[bool],
-    steps: &mut Steps<L>,
-) -> Result<Option<Vec<bool>>, NoMemory>
-    requires tree { IsTree binding.now.scope.now.game.now.nodes }
-    requires asked { AreAsked (tree_in binding.now.scope.now) live.now }
-    requires flat { AreFlat (filters_tree parts.now) }
-    requires some { binding.now.every ≡ false }
-    requires opened { opened.now ≡ (binding.now.name.now, 0) ∷ [] }
-    ensures value { IfOk result (λ at_once. IfSome at_once (λ truths. AreTruths truths.items live.now
-        (λ n. spec.square_of binding.now.every (shown binding.now.squares.now n) (λ s. spec.holds (spec.chain_of chain
-        (values_with binding.now.scope.now (filters_tree parts.now) ((binding.now.name.now, s) ∷ binding.now.scope.now.names.now) n)))))) }
-    ensures cost { steps.new ≡ steps.old }
-{
-    if !is_all(chain) {
-        return Ok(None);
-    }
-    if parts.len() != 1 {
-        return Ok(None);
-    }
-    for part in parts.as_slice() {
-        let alone = goal_truths(alloc, opened, binding, part, live, steps)?;
-        return Ok(alone);
-    }
-    Ok(None)
 }
 
 // Of the move: whether it went to a square of the node's set. Where a promotion is asked for, no other move is looked at.
@@ -119,7 +91,9 @@ fn goal_met<L: Ledger>(
     let some = promoting(alloc, binding.scope, promotes, live)?;
     let some = some.as_slice();
     let parts = part_columns(alloc, played, binding.scope, some, steps)?;
-    moved_there(alloc, binding, &parts, some)
+    let there = moved_there(alloc, binding, &parts, some);
+    drop(parts);
+    there
 }
 
 // Whether the moves to the nodes of a set went to squares of the column, and are as the columns of their other parts ask.

@@ -46,8 +46,9 @@ struct Row<L: Ledger> {
 }
 
 /// The greatest length of a path from each node that a line's pattern spells. Its atoms are asked for where they may begin on a path, one
-/// after the other, and the automaton of its pattern then answers all nodes at once.
+/// after the other, and the automaton of its pattern then answers all nodes at once. Where the row isn't met at the end, no path is spelled.
 #[cycle(evaluate)]
+#[tactic(auto, using(cql_columns::proofs::SpelledAlike::all_tabled, cql_columns::proofs::SpelledAlike::all_never))]
 pub(super) fn line_column<L: Ledger>(
     alloc: Global,
     line: &Line,
@@ -69,7 +70,11 @@ pub(super) fn line_column<L: Ledger>(
         scope: &*scope,
         back: line.back,
     };
-    let row = filled_row(alloc, parts, &way, steps)?;
+    let all = all_nodes(alloc, scope)?;
+    let table = empty_table(alloc, parts, scope.game)?;
+    let mut row = Row { table, met: true };
+    put_row(alloc, parts, 0, &way, &all, &mut row, steps)?;
+    drop(all);
     let met = row.met;
     if !met {
         // A column that ends before a node has no number there.
@@ -102,8 +107,11 @@ fn spelled_column<L: Ledger>(
     let mut atoms = 0;
     let pattern = parts_pattern(alloc, &line.parts, &mut atoms)?;
     let automaton = Automaton::build(alloc, &pattern)?;
+    drop(pattern);
     let shape = shape_of(alloc, scope, line.back, line.primary, &line.extent)?;
     let values = line_values(alloc, &automaton, table, &shape, steps)?;
+    drop(shape);
+    drop(automaton);
     let numbers = wide_numbers(alloc, values.as_slice())?;
     Ok(FilterColumn::Numbers(numbers))
 }
@@ -117,36 +125,6 @@ fn has_flat_parts(line: &Line) -> bool
     ensures few { parts_atoms (spec.parts_within line.now) ≤ 64 }
 {
     true
-}
-
-// Parts in a row that may begin at all searched nodes. Where the row isn't met at the end, no path is spelled.
-#[cycle(evaluate)]
-#[tactic(auto, using(cql_columns::proofs::SpelledAlike::all_tabled, cql_columns::proofs::SpelledAlike::all_never))]
-fn filled_row<L: Ledger>(
-    alloc: Global,
-    parts: &Constituents,
-    way: &LineWay,
-    steps: &mut Steps<L>,
-) -> Result<Row<L>, NoMemory>
-    requires tree { IsTree way.now.scope.now.game.now.nodes }
-    requires flat { AreFlatParts (parts_tree parts.now) }
-    requires few { parts_atoms (parts_tree parts.now) ≤ 64 }
-    ensures value { IfOk result (λ row. AreTabled (tree_in way.now.scope.now) way.now.back (IsAsked (tree_in way.now.scope.now))
-        row.table (0 + parts_atoms (parts_tree parts.now)) (spec.parts_numbered 0 (parts_tree parts.now))
-        (parts_in way.now.scope.now (parts_tree parts.now))) }
-    ensures never { IfOk result (λ row. row.met ≡ false
-        → IsNever (IsStep (tree_in way.now.scope.now) way.now.back false) (IsAsked (tree_in way.now.scope.now))
-        (parts_in way.now.scope.now (parts_tree parts.now))) }
-    ensures atoms { IfOk result (λ row. atoms_of row.table ≡ parts_atoms (parts_tree parts.now)) }
-    ensures nodes { IfOk result (λ row. nodes_of row.table ≡ length way.now.scope.now.game.now.nodes) }
-    ensures cost { steps.new ≤ steps.old + parts_cost (searched_len (tree_in way.now.scope.now)) (parts_tree parts.now) }
-    ensures rises { steps.old ≤ steps.new }
-{
-    let all = all_nodes(alloc, way.scope)?;
-    let table = empty_table(alloc, parts, way.scope.game)?;
-    let mut row = Row { table, met: true };
-    put_row(alloc, parts, 0, way, &all, &mut row, steps)?;
-    Ok(row)
 }
 
 // Puts the atoms of parts in a row that begins at the nodes of a set into the table, with the numbers from the first on, and answers the
@@ -185,7 +163,8 @@ fn put_row<L: Ledger>(
     Ok(at)
 }
 
-// Puts the atoms of a part that may begin at the nodes of a set, which becomes that of the nodes at which the next part may begin.
+// Puts the atoms of a part that may begin at the nodes of a set, which becomes that of the nodes at which the next part may begin. Those of a
+// part with a mark are asked for at all nodes on ways from where it may begin.
 #[cycle(evaluate)]
 fn put_part<L: Ledger>(
     alloc: Global,
@@ -213,38 +192,9 @@ fn put_part<L: Ledger>(
     ensures rises { steps.old ≤ steps.new }
 {
     match part.mark {
-        Mark::Once => put_once(alloc, &part.body, first, way, starts, row, steps),
-        _ => put_marked(alloc, part, first, way, starts, row, steps),
+        Mark::Once => return put_once(alloc, &part.body, first, way, starts, row, steps),
+        _ => {}
     }
-}
-
-// Puts the atoms of a part with any mark: they are asked for at all nodes on ways from where it may begin.
-#[cycle(evaluate)]
-fn put_marked<L: Ledger>(
-    alloc: Global,
-    part: &Constituent,
-    first: u32,
-    way: &LineWay,
-    starts: &mut Vec<bool>,
-    row: &mut Row<L>,
-    steps: &mut Steps<L>,
-) -> Result<u32, NoMemory>
-    requires tree { IsTree way.now.scope.now.game.now.nodes }
-    requires asked { AreAsked (tree_in way.now.scope.now) starts.old.items }
-    requires flat { IsFlatBody (body_tree part.now.body) }
-    requires room { HasRoom (length way.now.scope.now.game.now.nodes) first (first + body_atoms (body_tree part.now.body)) row.old.table }
-    ensures next { IfOk result (λ next. next ≡ first + body_atoms (body_tree part.now.body)) }
-    ensures leads { OnOk result (LeadsOn (tree_in way.now.scope.now) way.now.back starts.old.items starts.new.items
-        row.new.table (first + body_atoms (body_tree part.now.body))
-        (meaning.marked part.now.mark (spec.body_numbered first (body_tree part.now.body)))
-        (meaning.marked part.now.mark (body_in way.now.scope.now (body_tree part.now.body)))) }
-    ensures ends { OnOk result (row.old.met ≡ true → row.new.met ≡ false
-        → EndsHere (tree_in way.now.scope.now) way.now.back starts.old.items
-        (meaning.marked part.now.mark (body_in way.now.scope.now (body_tree part.now.body)))) }
-    ensures others { OnOk result (IsFilledIn row.old.table row.new.table first (first + body_atoms (body_tree part.now.body))) }
-    ensures cost { steps.new ≤ steps.old + body_cost (searched_len (tree_in way.now.scope.now)) (body_tree part.now.body) }
-    ensures rises { steps.old ≤ steps.new }
-{
     let wide = reached(alloc, way.scope, way.back, starts)?;
     let met = row.met;
     row.met = true;
@@ -349,6 +299,7 @@ fn put_atom_once<L: Ledger>(
     }
     let column = evaluate(alloc, filter, way.scope, live, steps)?;
     let held = part_of(alloc, way.scope, live, &column, true)?;
+    drop(column);
     put_nodes(&mut row.table, first, way.scope.game, &held);
     if !any_live(&held) {
         row.met = false;
@@ -389,6 +340,7 @@ fn put_wherever<L: Ledger>(
         Body::Atom(filter) => {
             let column = evaluate(alloc, filter, way.scope, live, steps)?;
             let held = part_of(alloc, way.scope, live, &column, true)?;
+            drop(column);
             put_nodes(&mut row.table, first, way.scope.game, &held);
             let some = any_live(&held);
             row.met = both(row.met, some);

@@ -45,7 +45,7 @@ pub(super) fn played_column<L: Ledger>(
     let some = some.as_slice();
     let parts = part_columns(alloc, played, scope, some, steps)?;
     let goal = written_column(alloc, &played.goal, scope, some, steps)?;
-    met_column(alloc, scope, &parts, &goal, some)
+    met_column(alloc, scope, parts, goal, some)
 }
 
 /// The columns of the parts of a move, its goal aside, for the moves that led to the nodes of a set.

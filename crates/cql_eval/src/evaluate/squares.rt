@@ -69,8 +69,9 @@ pub(super) fn asked_truths<L: Ledger>(
         squares: &worth,
         ..*binding
     };
-    let truths = square_truths(alloc, &among, asked, live, steps)?;
-    Ok(truths)
+    let truths = square_truths(alloc, &among, asked, live, steps);
+    drop(worth);
+    truths
 }
 
 // Of the squares of a column those with which what is asked may hold.
@@ -134,8 +135,7 @@ fn square_truths<L: Ledger>(
         let square = Square::new(number);
         left = square_turn(alloc, binding, square, wanted, asked, left, steps)?;
     }
-    let truths = decided(alloc, binding.every, left)?;
-    Ok(truths)
+    decided(alloc, binding.every, left)
 }
 
 /// The nodes that no square up to this one settles, of those that none before it does.
@@ -172,5 +172,6 @@ fn square_turn<L: Ledger>(
     };
     let column = evaluate(alloc, asked, &inner, &there, steps)?;
     let later = unsettled(binding.every, left, &there, &column);
+    drop(column);
     Ok(later)
 }

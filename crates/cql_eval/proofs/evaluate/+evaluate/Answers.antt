@@ -1,44 +1,212 @@
+mod Forms
+mod Flats
 mod Chains
+mod Moves
 mod Lines
 mod Squares
-mod Covers
 mod Goals
-use Rattle.std.proofs.Common.{[], ◌∷◌, ◌&&◌, ◌∙◌, ap, ap₂, arith, option_map, refl, sym, subst}
-use Rattle.std.specs.Prelude.{IfOk, is_some}
-use Rattle.cq_position.specs.Games.{node_at}
-use Rattle.cql_syntax.specs.Meaning.{value, before}
-use Rattle.cql_syntax.specs.TreeOf.{filter_tree, form_tree, filters_tree}
-use Rattle.cql_syntax.specs.Trees.{filter_at, unary, direction, pair, square, if_}
-use Rattle.cql_syntax.specs.Values.{amount, as_number, as_truth, holds, square_of, chain_of, pair_of, any_of, reached_of, total_of}
-use Rattle.cql_columns.specs.Scopes.{tree_in, value_in, values_in}
-use Rattle.cql_values.proofs.Evaluated.{word_here}
-use Rattle.cql_columns.specs.Columns.{IsColumn, is_live, is_so, shown, all_shown, terms_shown}
-use Rattle.cql_columns.proofs.Chains.{unary_form, square_form, if_form}
-use Rattle.cql_columns.specs.Promoting.{ArePromoting}
-use Rattle.cql_columns.proofs.Lives.{none_live}
-use Rattle.cql_eval.proofs.FlatLaw.{no_family}
-use Rattle.cql_eval.proofs.HitsLaw.{sort_form}
-use Rattle.cql_columns.specs.Elsewhere.{asks_elsewhere, AreLookedAt}
-use Rattle.cql_columns.specs.Moved.{is_as_asked}
-use Rattle.cql_columns.specs.Trees.{AreBeforeLive}
-use Rattle.cql_columns.specs.Costs.{filter_cost, searched_len}
-use Rattle.cql_eval.proofs.FormLaws.{IfOk_then, number_form, elo_form, comment_form, pair_form, part_form, parts_form, if_parts, within, within_first, within_both, designator_form, plain_form, direction_form, chain_form, sum_form, line_form, played_form, sorted_form, any_form, if_where, chain_all}
-use Rattle.cql_columns.proofs.MoveLaw.{met_is, move_is, move_costs, part_is, no_part_is, part_costs}
+mod Covers
+use Rattle.cql_eval.proofs.evaluate.+evaluate.Answers.Forms as forms
+use Rattle.cql_eval.proofs.evaluate.+evaluate.Answers.Flats as flats
 use Rattle.cql_eval.proofs.evaluate.+evaluate.Answers.Chains as chains
+use Rattle.cql_eval.proofs.evaluate.+evaluate.Answers.Moves as moves
 use Rattle.cql_eval.proofs.evaluate.+evaluate.Answers.Lines as lines
 use Rattle.cql_eval.proofs.evaluate.+evaluate.Answers.Squares as squares
-use Rattle.cql_eval.proofs.evaluate.+evaluate.Answers.Covers as covers
 use Rattle.cql_eval.proofs.evaluate.+evaluate.Answers.Goals as goals
+use Rattle.cql_eval.proofs.evaluate.+evaluate.Answers.Covers as covers
 use Rattle.cql_eval.proofs.evaluate.+evaluate.Goals as goal
 
-pub chains::all_column-returns-clause-value : goal.chains::all_column-returns-clause-value
-chains::all_column-returns-clause-value = chains.chains::all_column-returns-clause-value
+-- what forms of filters give and cost
+pub unary_column-returns-then-looks_elsewhere-clause-value : goal.unary_column-returns-then-looks_elsewhere-clause-value
+unary_column-returns-then-looks_elsewhere-clause-value = forms.unary_column-returns-then-looks_elsewhere-clause-value
 
-pub chains::all_column-returns-clause-cost : goal.chains::all_column-returns-clause-cost
-chains::all_column-returns-clause-cost = chains.chains::all_column-returns-clause-cost
+pub unary_column-returns-clause-value : goal.unary_column-returns-clause-value
+unary_column-returns-clause-value = forms.unary_column-returns-clause-value
 
-pub chains::all_column-returns-in_err-left-clause-cost : goal.chains::all_column-returns-in_err-left-clause-cost
-chains::all_column-returns-in_err-left-clause-cost = chains.chains::all_column-returns-in_err-left-clause-cost
+pub column_where-returns-clause-value : goal.column_where-returns-clause-value
+column_where-returns-clause-value = forms.column_where-returns-clause-value
+
+pub chain_column-returns-in-Or-clause-value : goal.chain_column-returns-in-Or-clause-value
+chain_column-returns-in-Or-clause-value = forms.chain_column-returns-in-Or-clause-value
+
+pub chain_column-returns-in_ok-columns-in_default-clause-value : goal.chain_column-returns-in_ok-columns-in_default-clause-value
+chain_column-returns-in_ok-columns-in_default-clause-value = forms.chain_column-returns-in_ok-columns-in_default-clause-value
+
+pub any_column-returns-in-Position-clause-value : goal.any_column-returns-in-Position-clause-value
+any_column-returns-in-Position-clause-value = forms.any_column-returns-in-Position-clause-value
+
+pub any_column-returns-in_ok-columns-in_default-clause-value : goal.any_column-returns-in_ok-columns-in_default-clause-value
+any_column-returns-in_ok-columns-in_default-clause-value = forms.any_column-returns-in_ok-columns-in_default-clause-value
+
+pub evaluate-returns-in-Unary : goal.evaluate-returns-in-Unary
+evaluate-returns-in-Unary = forms.evaluate-returns-in-Unary
+
+pub evaluate-returns-in_ok-truths-in-Square : goal.evaluate-returns-in_ok-truths-in-Square
+evaluate-returns-in_ok-truths-in-Square = forms.evaluate-returns-in_ok-truths-in-Square
+
+pub evaluate-returns-in-Squares : goal.evaluate-returns-in-Squares
+evaluate-returns-in-Squares = forms.evaluate-returns-in-Squares
+
+pub evaluate-returns-in-Plain : goal.evaluate-returns-in-Plain
+evaluate-returns-in-Plain = forms.evaluate-returns-in-Plain
+
+pub evaluate-returns-in-Played : goal.evaluate-returns-in-Played
+evaluate-returns-in-Played = forms.evaluate-returns-in-Played
+
+pub evaluate-returns-in-Line : goal.evaluate-returns-in-Line
+evaluate-returns-in-Line = forms.evaluate-returns-in-Line
+
+pub evaluate-returns-in_ok-column-in-Steps : goal.evaluate-returns-in_ok-column-in-Steps
+evaluate-returns-in_ok-column-in-Steps = forms.evaluate-returns-in_ok-column-in-Steps
+
+pub evaluate-returns-in_ok-columns-in-Sum : goal.evaluate-returns-in_ok-columns-in-Sum
+evaluate-returns-in_ok-columns-in-Sum = forms.evaluate-returns-in_ok-columns-in-Sum
+
+pub evaluate-returns-in_ok-column-in-Sort : goal.evaluate-returns-in_ok-column-in-Sort
+evaluate-returns-in_ok-column-in-Sort = forms.evaluate-returns-in_ok-column-in-Sort
+
+pub evaluate-returns-in_ok-third-in-If : goal.evaluate-returns-in_ok-third-in-If
+evaluate-returns-in_ok-third-in-If = forms.evaluate-returns-in_ok-third-in-If
+
+pub evaluate-returns-in-Number : goal.evaluate-returns-in-Number
+evaluate-returns-in-Number = forms.evaluate-returns-in-Number
+
+pub evaluate-returns-in-Comment : goal.evaluate-returns-in-Comment
+evaluate-returns-in-Comment = forms.evaluate-returns-in-Comment
+
+pub evaluate-returns-in-Elo : goal.evaluate-returns-in-Elo
+evaluate-returns-in-Elo = forms.evaluate-returns-in-Elo
+
+pub evaluate-returns-in_ok-second-in-Pair : goal.evaluate-returns-in_ok-second-in-Pair
+evaluate-returns-in_ok-second-in-Pair = forms.evaluate-returns-in_ok-second-in-Pair
+
+pub evaluate-returns-then-not-any_live : goal.evaluate-returns-then-not-any_live
+evaluate-returns-then-not-any_live = forms.evaluate-returns-then-not-any_live
+
+pub evaluate-returns-in-Transform : goal.evaluate-returns-in-Transform
+evaluate-returns-in-Transform = forms.evaluate-returns-in-Transform
+
+pub evaluate-returns-in-Chain : goal.evaluate-returns-in-Chain
+evaluate-returns-in-Chain = forms.evaluate-returns-in-Chain
+
+pub evaluate-returns-in-Any : goal.evaluate-returns-in-Any
+evaluate-returns-in-Any = forms.evaluate-returns-in-Any
+
+pub evaluate-returns-in_err-columns-in-Sum : goal.evaluate-returns-in_err-columns-in-Sum
+evaluate-returns-in_err-columns-in-Sum = forms.evaluate-returns-in_err-columns-in-Sum
+
+pub evaluate-returns-in_err-column-in-Steps : goal.evaluate-returns-in_err-column-in-Steps
+evaluate-returns-in_err-column-in-Steps = forms.evaluate-returns-in_err-column-in-Steps
+
+pub evaluate-returns-in_err-column-in-Sort : goal.evaluate-returns-in_err-column-in-Sort
+evaluate-returns-in_err-column-in-Sort = forms.evaluate-returns-in_err-column-in-Sort
+
+pub evaluate-returns-in_err-first-in-Pair : goal.evaluate-returns-in_err-first-in-Pair
+evaluate-returns-in_err-first-in-Pair = forms.evaluate-returns-in_err-first-in-Pair
+
+pub evaluate-returns-in_err-second-in-Pair : goal.evaluate-returns-in_err-second-in-Pair
+evaluate-returns-in_err-second-in-Pair = forms.evaluate-returns-in_err-second-in-Pair
+
+pub evaluate-returns-in_err-squares-in-Square : goal.evaluate-returns-in_err-squares-in-Square
+evaluate-returns-in_err-squares-in-Square = forms.evaluate-returns-in_err-squares-in-Square
+
+pub evaluate-returns-in_err-truths-in-Square : goal.evaluate-returns-in_err-truths-in-Square
+evaluate-returns-in_err-truths-in-Square = forms.evaluate-returns-in_err-truths-in-Square
+
+pub evaluate-returns-in_err-first-in-If : goal.evaluate-returns-in_err-first-in-If
+evaluate-returns-in_err-first-in-If = forms.evaluate-returns-in_err-first-in-If
+
+pub evaluate-returns-in_err-second-in-If : goal.evaluate-returns-in_err-second-in-If
+evaluate-returns-in_err-second-in-If = forms.evaluate-returns-in_err-second-in-If
+
+pub evaluate-returns-in_err-third-in-If : goal.evaluate-returns-in_err-third-in-If
+evaluate-returns-in_err-third-in-If = forms.evaluate-returns-in_err-third-in-If
+
+-- what the parts of filters are asked under
+pub evaluate-unary_column-requires : goal.evaluate-unary_column-requires
+evaluate-unary_column-requires = flats.evaluate-unary_column-requires
+
+pub evaluate-evaluate-requires : goal.evaluate-evaluate-requires
+evaluate-evaluate-requires = flats.evaluate-evaluate-requires
+
+pub evaluate-chain_column-requires : goal.evaluate-chain_column-requires
+evaluate-chain_column-requires = flats.evaluate-chain_column-requires
+
+pub evaluate-terms_of-requires : goal.evaluate-terms_of-requires
+evaluate-terms_of-requires = flats.evaluate-terms_of-requires
+
+pub evaluate-evaluate-requires-in-Pair : goal.evaluate-evaluate-requires-in-Pair
+evaluate-evaluate-requires-in-Pair = flats.evaluate-evaluate-requires-in-Pair
+
+pub evaluate-evaluate-requires-in-Pair-2 : goal.evaluate-evaluate-requires-in-Pair-2
+evaluate-evaluate-requires-in-Pair-2 = flats.evaluate-evaluate-requires-in-Pair-2
+
+pub evaluate-evaluate-requires-in-If : goal.evaluate-evaluate-requires-in-If
+evaluate-evaluate-requires-in-If = flats.evaluate-evaluate-requires-in-If
+
+pub evaluate-column_where-requires : goal.evaluate-column_where-requires
+evaluate-column_where-requires = flats.evaluate-column_where-requires
+
+pub evaluate-column_where-requires-in-If : goal.evaluate-column_where-requires-in-If
+evaluate-column_where-requires-in-If = flats.evaluate-column_where-requires-in-If
+
+pub evaluate-evaluate-requires-in-Square : goal.evaluate-evaluate-requires-in-Square
+evaluate-evaluate-requires-in-Square = flats.evaluate-evaluate-requires-in-Square
+
+pub evaluate-asked_truths-truths-requires : goal.evaluate-asked_truths-truths-requires
+evaluate-asked_truths-truths-requires = flats.evaluate-asked_truths-truths-requires
+
+pub evaluate-played_column-requires : goal.evaluate-played_column-requires
+evaluate-played_column-requires = flats.evaluate-played_column-requires
+
+pub evaluate-evaluate-requires-in-Sort : goal.evaluate-evaluate-requires-in-Sort
+evaluate-evaluate-requires-in-Sort = flats.evaluate-evaluate-requires-in-Sort
+
+pub evaluate-any_column-requires : goal.evaluate-any_column-requires
+evaluate-any_column-requires = flats.evaluate-any_column-requires
+
+pub evaluate-line_column-requires : goal.evaluate-line_column-requires
+evaluate-line_column-requires = flats.evaluate-line_column-requires
+
+pub covers::cover-cover_some-requires : goal.covers::cover-cover_some-requires
+covers::cover-cover_some-requires = flats.covers::cover-cover_some-requires
+
+pub covers::cover-cover_all-requires : goal.covers::cover-cover_all-requires
+covers::cover-cover_all-requires = flats.covers::cover-cover_all-requires
+
+pub covers::cover-cover_elsewhere-requires : goal.covers::cover-cover_elsewhere-requires
+covers::cover-cover_elsewhere-requires = flats.covers::cover-cover_elsewhere-requires
+
+pub covers::cover-cover_played-requires : goal.covers::cover-cover_played-requires
+covers::cover-cover_played-requires = flats.covers::cover-cover_played-requires
+
+pub covers::cover-cover_related-requires : goal.covers::cover-cover_related-requires
+covers::cover-cover_related-requires = flats.covers::cover-cover_related-requires
+
+pub covers::cover_set-cover_each-requires : goal.covers::cover_set-cover_each-requires
+covers::cover_set-cover_each-requires = flats.covers::cover_set-cover_each-requires
+
+pub covers::cover_set-cover_set-requires : goal.covers::cover_set-cover_set-requires
+covers::cover_set-cover_set-requires = flats.covers::cover_set-cover_set-requires
+
+pub covers::cover_set-cover_related-requires : goal.covers::cover_set-cover_related-requires
+covers::cover_set-cover_related-requires = flats.covers::cover_set-cover_related-requires
+
+pub cover_squares::cover_square-cover_inner-requires : goal.cover_squares::cover_square-cover_inner-requires
+cover_squares::cover_square-cover_inner-requires = flats.cover_squares::cover_square-cover_inner-requires
+
+pub goals::goal_truths-goal_met-requires : goal.goals::goal_truths-goal_met-requires
+goals::goal_truths-goal_met-requires = flats.goals::goal_truths-goal_met-requires
+
+-- chains
+pub chain_column-returns-in_ok-left-in-And-clause-value : goal.chain_column-returns-in_ok-left-in-And-clause-value
+chain_column-returns-in_ok-left-in-And-clause-value = chains.chain_column-returns-in_ok-left-in-And-clause-value
+
+pub chain_column-returns-in_ok-left-in-And-clause-cost : goal.chain_column-returns-in_ok-left-in-And-clause-cost
+chain_column-returns-in_ok-left-in-And-clause-cost = chains.chain_column-returns-in_ok-left-in-And-clause-cost
+
+pub chain_column-returns-in_err-left-in-And-clause-cost : goal.chain_column-returns-in_err-left-in-And-clause-cost
+chain_column-returns-in_err-left-in-And-clause-cost = chains.chain_column-returns-in_err-left-in-And-clause-cost
 
 pub chains::some_column-returns-clause-value : goal.chains::some_column-returns-clause-value
 chains::some_column-returns-clause-value = chains.chains::some_column-returns-clause-value
@@ -100,168 +268,6 @@ chains::ask_if-returns-clause-cost = chains.chains::ask_if-returns-clause-cost
 pub chains::ask_if-returns-in_err-column-clause-cost : goal.chains::ask_if-returns-in_err-column-clause-cost
 chains::ask_if-returns-in_err-column-clause-cost = chains.chains::ask_if-returns-in_err-column-clause-cost
 
-pub squares::square_truths-loop-number-init : goal.squares::square_truths-loop-number-init
-squares::square_truths-loop-number-init = squares.squares::square_truths-loop-number-init
-
-pub squares::square_truths-loop-number-preserved : goal.squares::square_truths-loop-number-preserved
-squares::square_truths-loop-number-preserved = squares.squares::square_truths-loop-number-preserved
-
-pub squares::square_truths-returns-clause-value : goal.squares::square_truths-returns-clause-value
-squares::square_truths-returns-clause-value = squares.squares::square_truths-returns-clause-value
-
-pub squares::square_truths-returns-in-Some-clause-value : goal.squares::square_truths-returns-in-Some-clause-value
-squares::square_truths-returns-in-Some-clause-value = squares.squares::square_truths-returns-in-Some-clause-value
-
-pub squares::square_turn-returns-clause-value : goal.squares::square_turn-returns-clause-value
-squares::square_turn-returns-clause-value = squares.squares::square_turn-returns-clause-value
-
-pub squares::square_turn-returns-then-not-any_live-clause-value : goal.squares::square_turn-returns-then-not-any_live-clause-value
-squares::square_turn-returns-then-not-any_live-clause-value = squares.squares::square_turn-returns-then-not-any_live-clause-value
-
-pub squares::square_turn-returns-then-not-has_square-clause-value : goal.squares::square_turn-returns-then-not-has_square-clause-value
-squares::square_turn-returns-then-not-has_square-clause-value = squares.squares::square_turn-returns-then-not-has_square-clause-value
-
-pub elsewhere_column-returns-clause-value : goal.elsewhere_column-returns-clause-value
-elsewhere_column-returns-clause-value g t c =
-    IfOk_then c.found_column.result c.found_column.ensures
-    (λ found is. is (value_in c.args.scope.now (filter_tree c.args.part.now)) c.in_ok-column.ensures.value c.args.live.now c.requires.asked
-    (subst (AreLookedAt (tree_in c.args.scope.now) c.args.word c.args.live.now) (sym c.as_slice-wide.ensures.value) c.in_ok-wide.ensures))
-
-pub unary_column-returns-clause-value : goal.unary_column-returns-clause-value
-unary_column-returns-clause-value g t c =
-    let here = sym c.looks_elsewhere.ensures ∙ c.if-looks_elsewhere.false in
-    IfOk_then c.here_column.result c.here_column.ensures
-    (λ column is n l. is n l
-    ∙ word_here (tree_in c.args.scope.now) c.args.word (value_in c.args.scope.now (filter_tree c.args.part.now)) n (shown c.in_ok-column.column n)
-    (λ e. let no = sym (ap asks_elsewhere e) ∙ here in cc) (λ e. let no = sym (ap asks_elsewhere e) ∙ here in cc)
-    (λ e. let no = sym (ap asks_elsewhere e) ∙ here in cc) (λ e. let no = sym (ap asks_elsewhere e) ∙ here in cc)
-    (c.in_ok-column.ensures.value n l))
-
-pub evaluate-returns-in-Unary-clause-value : goal.evaluate-returns-in-Unary-clause-value
-evaluate-returns-in-Unary-clause-value g t c =
-    let f = c.args.f.now in
-    let part = c.deref.result.now in
-    subst (λ v. IfOk c.unary_column.result (λ x. IsColumn x c.args.live.now v))
-    (unary_form (tree_in c.args.scope.now) c.args.scope.now.names.now (filter_tree f) (filter_tree part) f.at c.in-Unary.word
-    (ap (λ form. filter_at f.at (form_tree form)) c.in-Unary.is ∙ ap (λ p. filter_at f.at (unary c.in-Unary.word (filter_tree p))) (sym c.deref.ensures)))
-    c.unary_column.ensures.value
-
-pub evaluate-returns-in_ok-truths-in-Square-clause-value : goal.evaluate-returns-in_ok-truths-in-Square-clause-value
-evaluate-returns-in_ok-truths-in-Square-clause-value g t c = λ n l.
-    let f = c.args.f.now in
-    let every = c.in-Square.every in
-    let text = c.as_slice-in-Square.result.now in
-    let a = c.deref-in-Square.result.now in
-    let b = c.deref-in-Square-2.result.now in
-    c.in_ok-truths-in-Square.ensures.value n l
-    ∙ ap (λ x. square_of every x (λ s. holds (value (tree_in c.args.scope.now) [] ((text, s) ∷ c.args.scope.now.names.now)
-    (filter_tree b) n))) (c.in_ok-squares-in-Square.ensures.value n l)
-    ∙ square_form (tree_in c.args.scope.now) c.args.scope.now.names.now (filter_tree f) (filter_tree a) (filter_tree b) f.at every text
-    (ap (λ form. filter_at f.at (form_tree form)) c.in-Square.is
-    ∙ ap (λ x. filter_at f.at (square every x (filter_tree c.in-Square.squares.value) (filter_tree c.in-Square.asked.value))) (sym c.as_slice-in-Square.ensures)
-    ∙ ap₂ (λ p q. filter_at f.at (square every text (filter_tree p) (filter_tree q))) (sym c.deref-in-Square.ensures) (sym c.deref-in-Square-2.ensures)) n
-
-pub evaluate-returns-in-Squares-clause-value : goal.evaluate-returns-in-Squares-clause-value
-evaluate-returns-in-Squares-clause-value g t c =
-    IfOk_then c.standing_column.result c.standing_column.ensures
-    (λ column is n l. is n l ∙ designator_form (tree_in c.args.scope.now) c.args.scope.now.names.now (filter_tree c.args.f.now) c.args.f.now.at _
-    (ap (λ form. filter_at c.args.f.now.at (form_tree form)) c.in-Squares.is) n)
-
-pub evaluate-returns-in-Plain-clause-value : goal.evaluate-returns-in-Plain-clause-value
-evaluate-returns-in-Plain-clause-value g t c =
-    IfOk_then c.word_column.result c.word_column.ensures
-    (λ column is n l. is n l ∙ plain_form (tree_in c.args.scope.now) c.args.scope.now.names.now (filter_tree c.args.f.now) c.args.f.now.at _
-    (ap (λ form. filter_at c.args.f.now.at (form_tree form)) c.in-Plain.is) n)
-
-pub evaluate-returns-in-Played-clause-value : goal.evaluate-returns-in-Played-clause-value
-evaluate-returns-in-Played-clause-value g t c =
-    IfOk_then c.played_column.result c.played_column.ensures.value
-    (λ column is n l. is n l ∙ played_form (tree_in c.args.scope.now) c.args.scope.now.names.now (filter_tree c.args.f.now) c.args.f.now.at _
-    (ap (λ form. filter_at c.args.f.now.at (form_tree form)) c.in-Played.is) n)
-
-pub evaluate-returns-in-Line-clause-value : goal.evaluate-returns-in-Line-clause-value
-evaluate-returns-in-Line-clause-value g t c =
-    IfOk_then c.line_column.result c.line_column.ensures.value
-    (λ column is n l. is n l ∙ line_form (tree_in c.args.scope.now) c.args.scope.now.names.now (filter_tree c.args.f.now) c.args.f.now.at _
-    (ap (λ form. filter_at c.args.f.now.at (form_tree form)) c.in-Line.is) n)
-
-pub evaluate-returns-in_ok-column-in-Steps-clause-value : goal.evaluate-returns-in_ok-column-in-Steps-clause-value
-evaluate-returns-in_ok-column-in-Steps-clause-value g t c =
-    let f = c.args.f.now in
-    let part = c.deref-in-Steps.result.now in
-    IfOk_then c.reached_column.result c.reached_column.ensures
-    (λ column is n l. is n l
-    ∙ ap₂ (λ ways v. reached_of ways c.in-Steps.m c.in-Steps.n v) c.directions.ensures (c.in_ok-column-in-Steps.ensures.value n l)
-    ∙ direction_form (tree_in c.args.scope.now) c.args.scope.now.names.now (filter_tree f) (filter_tree part) f.at c.in-Steps.way c.in-Steps.m c.in-Steps.n
-    (ap (λ form. filter_at f.at (form_tree form)) c.in-Steps.is
-    ∙ ap (λ p. filter_at f.at (direction c.in-Steps.way c.in-Steps.m c.in-Steps.n (filter_tree p))) (sym c.deref-in-Steps.ensures)) n)
-
-pub evaluate-returns-in_ok-columns-in-Sum-clause-value : goal.evaluate-returns-in_ok-columns-in-Sum-clause-value
-evaluate-returns-in_ok-columns-in-Sum-clause-value g t c =
-    IfOk_then c.sum_column.result c.sum_column.ensures
-    (λ column is n l. is n l
-    ∙ ap (λ columns. total_of (terms_shown columns n)) c.as_slice-in-Sum.ensures.value ∙ ap total_of (c.in_ok-columns-in-Sum.ensures.value n l)
-    ∙ sum_form (tree_in c.args.scope.now) c.args.scope.now.names.now (filter_tree c.args.f.now) c.args.f.now.at _
-    (ap (λ form. filter_at c.args.f.now.at (form_tree form)) c.in-Sum.is) n)
-
-pub evaluate-returns-in_ok-column-in-Sort-clause-value : goal.evaluate-returns-in_ok-column-in-Sort-clause-value
-evaluate-returns-in_ok-column-in-Sort-clause-value g t c =
-    let f = c.args.f.now in
-    let part = c.deref-in-Sort.result.now in
-    IfOk_then c.numbered_column.result c.numbered_column.ensures
-    (λ column is n l. is n l ∙ ap (λ v. as_truth (is_some (amount v))) (c.in_ok-column-in-Sort.ensures.value n l)
-    ∙ sorted_form (tree_in c.args.scope.now) c.args.scope.now.names.now (filter_tree f) (filter_tree part) f.at _ _
-    (ap (filter_at f.at) (sort_form _ _ _ _ _ (ap form_tree c.in-Sort.is) (ap filter_tree (sym c.deref-in-Sort.ensures)))) n)
-
-pub evaluate-returns-in_ok-third-in-If-clause-value : goal.evaluate-returns-in_ok-third-in-If-clause-value
-evaluate-returns-in_ok-third-in-If-clause-value g t c =
-    let f = c.args.f.now in
-    let x = c.deref-in-If.result.now in
-    let y = c.deref-in-If-2.result.now in
-    let z = c.deref-in-If-3.result.now in
-    IfOk_then c.chosen_column.result c.chosen_column.ensures
-    (λ column is n l. is n l
-    ∙ if_where c.args.live.now c.in_ok-first-in-If.first c.in_ok-second-in-If.second c.in_ok-third-in-If.third
-    (value_in c.args.scope.now (filter_tree x)) (value_in c.args.scope.now (filter_tree y)) (value_in c.args.scope.now (filter_tree z))
-    c.in_ok-first-in-If.ensures.value c.in_ok-second-in-If.ensures.value c.in_ok-third-in-If.ensures.value n l
-    ∙ if_form (tree_in c.args.scope.now) c.args.scope.now.names.now (filter_tree f) (filter_tree x) (filter_tree y) (filter_tree z) f.at
-    (ap (λ form. filter_at f.at (form_tree form)) c.in-If.is
-    ∙ ap (λ p. filter_at f.at (if_ (filter_tree p) (filter_tree c.in-If.then.value) (filter_tree c.in-If.otherwise.value))) (sym c.deref-in-If.ensures)
-    ∙ ap₂ (λ p q. filter_at f.at (if_ (filter_tree x) (filter_tree p) (filter_tree q))) (sym c.deref-in-If-2.ensures) (sym c.deref-in-If-3.ensures)) n)
-
-pub column_where-returns-clause-value : goal.column_where-returns-clause-value
-column_where-returns-clause-value g t c =
-    IfOk_then c.evaluate.result c.evaluate.ensures.value
-    (λ column is n l so. is n (ap (λ x. is_live x n) c.deref.ensures.value ∙ c.in_ok-there.ensures.narrowed.each n
-    ∙ ap (λ b. b && is_so c.args.want (holds (shown c.args.first.now n))) l ∙ so))
-
-pub chain_column-returns-in-And-clause-value : goal.chain_column-returns-in-And-clause-value
-chain_column-returns-in-And-clause-value g t c =
-    IfOk_then c.all_column.result c.all_column.ensures.value
-    (λ column is n l. is n l ∙ chain_all c.args.chain (values_in c.args.scope.now (filters_tree c.args.parts.now) n) c.in-And.is)
-
-pub chain_column-returns-in-Or-clause-value : goal.chain_column-returns-in-Or-clause-value
-chain_column-returns-in-Or-clause-value g t c =
-    IfOk_then c.some_column.result c.some_column.ensures.value
-    (λ column is n l. is n l ∙ ap (λ chain. chain_of chain (values_in c.args.scope.now (filters_tree c.args.parts.now) n)) (sym c.in-Or.is))
-
-pub chain_column-returns-in_ok-columns-in_default-clause-value : goal.chain_column-returns-in_ok-columns-in_default-clause-value
-chain_column-returns-in_ok-columns-in_default-clause-value g t c =
-    IfOk_then c.chain_values_column.result c.chain_values_column.ensures
-    (λ column is n l. is n l ∙ ap (λ columns. chain_of c.args.chain (all_shown columns n)) c.as_slice.ensures.value
-    ∙ ap (chain_of c.args.chain) (c.in_ok-columns-in_default.ensures.value n l))
-
-pub any_column-returns-in-Position-clause-value : goal.any_column-returns-in-Position-clause-value
-any_column-returns-in-Position-clause-value g t c =
-    IfOk_then c.some_column.result c.some_column.ensures.value
-    (λ column is n l. is n l ∙ ap (λ kind. any_of kind (values_in c.args.scope.now (filters_tree c.args.parts.now) n)) (sym c.in-Position.is))
-
-pub any_column-returns-in_ok-columns-in_default-clause-value : goal.any_column-returns-in_ok-columns-in_default-clause-value
-any_column-returns-in_ok-columns-in_default-clause-value g t c =
-    IfOk_then c.any_values_column.result c.any_values_column.ensures
-    (λ column is n l. is n l ∙ ap (λ columns. any_of c.args.kind (all_shown columns n)) c.as_slice.ensures.value
-    ∙ ap (any_of c.args.kind) (c.in_ok-columns-in_default.ensures.value n l))
-
 pub chains::columns_of-loop-filter-init : goal.chains::columns_of-loop-filter-init
 chains::columns_of-loop-filter-init = chains.chains::columns_of-loop-filter-init
 
@@ -286,11 +292,41 @@ chains::terms_of-returns-clause-value = chains.chains::terms_of-returns-clause-v
 pub chains::terms_of-returns-in_err-column-clause-cost : goal.chains::terms_of-returns-in_err-column-clause-cost
 chains::terms_of-returns-in_err-column-clause-cost = chains.chains::terms_of-returns-in_err-column-clause-cost
 
+pub chains::columns_of-returns-in_err-push-clause-cost : goal.chains::columns_of-returns-in_err-push-clause-cost
+chains::columns_of-returns-in_err-push-clause-cost = chains.chains::columns_of-returns-in_err-push-clause-cost
+
+pub chains::terms_of-returns-in_err-push-clause-cost : goal.chains::terms_of-returns-in_err-push-clause-cost
+chains::terms_of-returns-in_err-push-clause-cost = chains.chains::terms_of-returns-in_err-push-clause-cost
+
+-- the move filter
+pub played::played_column-returns-clause-value : goal.played::played_column-returns-clause-value
+played::played_column-returns-clause-value = moves.played::played_column-returns-clause-value
+
+pub played::written_column-returns-in_err-column-in-Some-clause-cost : goal.played::written_column-returns-in_err-column-in-Some-clause-cost
+played::written_column-returns-in_err-column-in-Some-clause-cost = moves.played::written_column-returns-in_err-column-in-Some-clause-cost
+
+pub played::written_column-returns-in_ok-column-in-Some-clause-cost : goal.played::written_column-returns-in_ok-column-in-Some-clause-cost
+played::written_column-returns-in_ok-column-in-Some-clause-cost = moves.played::written_column-returns-in_ok-column-in-Some-clause-cost
+
+pub played::played_column-returns-in_err-parts-clause-cost : goal.played::played_column-returns-in_err-parts-clause-cost
+played::played_column-returns-in_err-parts-clause-cost = moves.played::played_column-returns-in_err-parts-clause-cost
+
+pub played::played_column-returns-in_err-goal-clause-cost : goal.played::played_column-returns-in_err-goal-clause-cost
+played::played_column-returns-in_err-goal-clause-cost = moves.played::played_column-returns-in_err-goal-clause-cost
+
+pub played::played_column-returns-clause-cost : goal.played::played_column-returns-clause-cost
+played::played_column-returns-clause-cost = moves.played::played_column-returns-clause-cost
+
+pub played::part_columns-returns-clause-value : goal.played::part_columns-returns-clause-value
+played::part_columns-returns-clause-value = moves.played::part_columns-returns-clause-value
+
+pub played::written_column-returns-in_ok-column-in-Some-clause-value : goal.played::written_column-returns-in_ok-column-in-Some-clause-value
+played::written_column-returns-in_ok-column-in-Some-clause-value = moves.played::written_column-returns-in_ok-column-in-Some-clause-value
+
+pub played::written_column-returns-in-None-clause-value : goal.played::written_column-returns-in-None-clause-value
+played::written_column-returns-in-None-clause-value = moves.played::written_column-returns-in-None-clause-value
+
 -- lines
-
-pub lines::filled_row-returns-clause-never : goal.lines::filled_row-returns-clause-never
-lines::filled_row-returns-clause-never = lines.lines::filled_row-returns-clause-never
-
 pub lines::put_row-loop-part-init : goal.lines::put_row-loop-part-init
 lines::put_row-loop-part-init = lines.lines::put_row-loop-part-init
 
@@ -324,11 +360,11 @@ lines::put_wherever-returns-in_ok-held-in-Atom-clause-value = lines.lines::put_w
 pub lines::put_wherever-returns-in_ok-held-in-Atom-clause-never : goal.lines::put_wherever-returns-in_ok-held-in-Atom-clause-never
 lines::put_wherever-returns-in_ok-held-in-Atom-clause-never = lines.lines::put_wherever-returns-in_ok-held-in-Atom-clause-never
 
-pub lines::put_marked-returns-clause-leads : goal.lines::put_marked-returns-clause-leads
-lines::put_marked-returns-clause-leads = lines.lines::put_marked-returns-clause-leads
+pub lines::put_part-returns-clause-leads : goal.lines::put_part-returns-clause-leads
+lines::put_part-returns-clause-leads = lines.lines::put_part-returns-clause-leads
 
-pub lines::put_marked-returns-clause-ends : goal.lines::put_marked-returns-clause-ends
-lines::put_marked-returns-clause-ends = lines.lines::put_marked-returns-clause-ends
+pub lines::put_part-returns-clause-ends : goal.lines::put_part-returns-clause-ends
+lines::put_part-returns-clause-ends = lines.lines::put_part-returns-clause-ends
 
 pub lines::put_once-returns-in_ok-behind-in-Atom-clause-leads : goal.lines::put_once-returns-in_ok-behind-in-Atom-clause-leads
 lines::put_once-returns-in_ok-behind-in-Atom-clause-leads = lines.lines::put_once-returns-in_ok-behind-in-Atom-clause-leads
@@ -366,157 +402,8 @@ lines::line_column-returns-clause-value = lines.lines::line_column-returns-claus
 pub lines::line_column-returns-clause-cost : goal.lines::line_column-returns-clause-cost
 lines::line_column-returns-clause-cost = lines.lines::line_column-returns-clause-cost
 
-pub lines::line_column-returns-in_err-row-clause-cost : goal.lines::line_column-returns-in_err-row-clause-cost
-lines::line_column-returns-in_err-row-clause-cost = lines.lines::line_column-returns-in_err-row-clause-cost
-
--- what stands in a filter without parts
-
-pub evaluate-returns-in-Number-clause-value : goal.evaluate-returns-in-Number-clause-value
-evaluate-returns-in-Number-clause-value g t c = λ n l.
-    c.counted.ensures
-    ∙ number_form (tree_in c.args.scope.now) c.args.scope.now.names.now (filter_tree c.args.f.now) c.args.f.now.at _ (ap (λ form. filter_at c.args.f.now.at (form_tree form)) c.in-Number.is) n
-
-pub evaluate-returns-in-Comment-clause-value : goal.evaluate-returns-in-Comment-clause-value
-evaluate-returns-in-Comment-clause-value g t c = λ n l.
-    comment_form (tree_in c.args.scope.now) c.args.scope.now.names.now (filter_tree c.args.f.now) c.args.f.now.at _ (ap (λ form. filter_at c.args.f.now.at (form_tree form)) c.in-Comment.is) n
-
-pub evaluate-returns-in-Elo-clause-value : goal.evaluate-returns-in-Elo-clause-value
-evaluate-returns-in-Elo-clause-value g t c = λ n l.
-    ap as_number c.rating.ensures
-    ∙ elo_form (tree_in c.args.scope.now) c.args.scope.now.names.now (filter_tree c.args.f.now) c.args.f.now.at _ (ap (λ form. filter_at c.args.f.now.at (form_tree form)) c.in-Elo.is) n
-
-pub evaluate-returns-in_ok-second-in-Pair-clause-value : goal.evaluate-returns-in_ok-second-in-Pair-clause-value
-evaluate-returns-in_ok-second-in-Pair-clause-value g t c =
-    let f = c.args.f.now in
-    let a = c.deref-in-Pair.result.now in
-    let b = c.deref-in-Pair-2.result.now in
-    IfOk_then c.pair_column.result c.pair_column.ensures
-    (λ column is n l. is n l
-    ∙ ap₂ (λ x y. pair_of (node_at c.args.scope.now.game.now.nodes n).position.men c.in-Pair.pair x y)
-    (c.in_ok-first-in-Pair.ensures.value n l) (c.in_ok-second-in-Pair.ensures.value n l)
-    ∙ pair_form (tree_in c.args.scope.now) c.args.scope.now.names.now (filter_tree f) (filter_tree a) (filter_tree b) f.at c.in-Pair.pair
-    (parts_form f.at (form_tree f.form) (pair c.in-Pair.pair) _ _ a b (ap form_tree c.in-Pair.is) c.deref-in-Pair.ensures c.deref-in-Pair-2.ensures) n)
-
--- what filters with parts cost
-
-pub evaluate-returns-in-Chain-clause-cost : goal.evaluate-returns-in-Chain-clause-cost
-unfolding filter_cost
-evaluate-returns-in-Chain-clause-cost g t c =
-    within _ _ _ _ (ap (filter_cost (searched_len (tree_in c.args.scope.now))) (ap (filter_at c.args.f.now.at) (ap form_tree c.in-Chain.is))) c.chain_column.ensures.cost
-
-pub evaluate-returns-in-Any-clause-cost : goal.evaluate-returns-in-Any-clause-cost
-unfolding filter_cost
-evaluate-returns-in-Any-clause-cost g t c =
-    within _ _ _ _ (ap (filter_cost (searched_len (tree_in c.args.scope.now))) (ap (filter_at c.args.f.now.at) (ap form_tree c.in-Any.is))) c.any_column.ensures.cost
-
-pub evaluate-returns-in-Line-clause-cost : goal.evaluate-returns-in-Line-clause-cost
-unfolding filter_cost
-evaluate-returns-in-Line-clause-cost g t c =
-    within _ _ _ _ (ap (filter_cost (searched_len (tree_in c.args.scope.now))) (ap (filter_at c.args.f.now.at) (ap form_tree c.in-Line.is))) c.line_column.ensures.cost
-
-pub evaluate-returns-in-Played-clause-cost : goal.evaluate-returns-in-Played-clause-cost
-unfolding filter_cost
-evaluate-returns-in-Played-clause-cost g t c =
-    within _ _ _ _ (ap (filter_cost (searched_len (tree_in c.args.scope.now))) (ap (filter_at c.args.f.now.at) (ap form_tree c.in-Played.is))) c.played_column.ensures.cost
-
-pub evaluate-returns-in_err-columns-in-Sum-clause-cost : goal.evaluate-returns-in_err-columns-in-Sum-clause-cost
-unfolding filter_cost
-evaluate-returns-in_err-columns-in-Sum-clause-cost g t c =
-    within _ _ _ _ (ap (filter_cost (searched_len (tree_in c.args.scope.now))) (ap (filter_at c.args.f.now.at) (ap form_tree c.in-Sum.is))) c.terms_of.ensures.cost
-
-pub evaluate-returns-in_ok-columns-in-Sum-clause-cost : goal.evaluate-returns-in_ok-columns-in-Sum-clause-cost
-unfolding filter_cost
-evaluate-returns-in_ok-columns-in-Sum-clause-cost g t c =
-    within _ _ _ _ (ap (filter_cost (searched_len (tree_in c.args.scope.now))) (ap (filter_at c.args.f.now.at) (ap form_tree c.in-Sum.is))) c.terms_of.ensures.cost
-
-pub evaluate-returns-in-Unary-clause-cost : goal.evaluate-returns-in-Unary-clause-cost
-unfolding filter_cost
-evaluate-returns-in-Unary-clause-cost g t c =
-    within _ _ _ _ (ap (filter_cost (searched_len (tree_in c.args.scope.now))) (part_form c.args.f.now.at (form_tree c.args.f.now.form) (unary c.in-Unary.word) _ c.deref.result.now (ap form_tree c.in-Unary.is) c.deref.ensures)) c.unary_column.ensures.cost
-
-pub evaluate-returns-in_err-column-in-Steps-clause-cost : goal.evaluate-returns-in_err-column-in-Steps-clause-cost
-unfolding filter_cost
-evaluate-returns-in_err-column-in-Steps-clause-cost g t c =
-    within _ _ _ _ (ap (filter_cost (searched_len (tree_in c.args.scope.now))) (part_form c.args.f.now.at (form_tree c.args.f.now.form) (direction c.in-Steps.way c.in-Steps.m c.in-Steps.n) _ c.deref-in-Steps.result.now (ap form_tree c.in-Steps.is) c.deref-in-Steps.ensures))
-    c.evaluate.ensures.cost
-
-pub evaluate-returns-in_ok-column-in-Steps-clause-cost : goal.evaluate-returns-in_ok-column-in-Steps-clause-cost
-unfolding filter_cost
-evaluate-returns-in_ok-column-in-Steps-clause-cost g t c =
-    within _ _ _ _ (ap (filter_cost (searched_len (tree_in c.args.scope.now))) (part_form c.args.f.now.at (form_tree c.args.f.now.form) (direction c.in-Steps.way c.in-Steps.m c.in-Steps.n) _ c.deref-in-Steps.result.now (ap form_tree c.in-Steps.is) c.deref-in-Steps.ensures))
-    c.evaluate.ensures.cost
-
-pub evaluate-returns-in_err-column-in-Sort-clause-cost : goal.evaluate-returns-in_err-column-in-Sort-clause-cost
-unfolding filter_cost
-evaluate-returns-in_err-column-in-Sort-clause-cost g t c =
-    within _ _ _ _ (ap (filter_cost (searched_len (tree_in c.args.scope.now))) (ap (filter_at c.args.f.now.at)
-    (sort_form _ _ _ _ _ (ap form_tree c.in-Sort.is) (ap filter_tree (sym c.deref-in-Sort.ensures))))) c.evaluate-in-Sort.ensures.cost
-
-pub evaluate-returns-in_ok-column-in-Sort-clause-cost : goal.evaluate-returns-in_ok-column-in-Sort-clause-cost
-unfolding filter_cost
-evaluate-returns-in_ok-column-in-Sort-clause-cost g t c =
-    within _ _ _ _ (ap (filter_cost (searched_len (tree_in c.args.scope.now))) (ap (filter_at c.args.f.now.at)
-    (sort_form _ _ _ _ _ (ap form_tree c.in-Sort.is) (ap filter_tree (sym c.deref-in-Sort.ensures))))) c.evaluate-in-Sort.ensures.cost
-
-pub evaluate-returns-in_err-first-in-Pair-clause-cost : goal.evaluate-returns-in_err-first-in-Pair-clause-cost
-unfolding filter_cost
-evaluate-returns-in_err-first-in-Pair-clause-cost g t c =
-    within_first _ _ _ _ _ (ap (filter_cost (searched_len (tree_in c.args.scope.now))) (parts_form c.args.f.now.at (form_tree c.args.f.now.form) (pair c.in-Pair.pair) _ _ c.deref-in-Pair.result.now _ (ap form_tree c.in-Pair.is) c.deref-in-Pair.ensures refl))
-    c.evaluate-in-Pair.ensures.cost
-
-pub evaluate-returns-in_err-second-in-Pair-clause-cost : goal.evaluate-returns-in_err-second-in-Pair-clause-cost
-unfolding filter_cost
-evaluate-returns-in_err-second-in-Pair-clause-cost g t c =
-    within_both _ _ _ _ _ _ (ap (filter_cost (searched_len (tree_in c.args.scope.now))) (parts_form c.args.f.now.at (form_tree c.args.f.now.form) (pair c.in-Pair.pair) _ _ c.deref-in-Pair.result.now c.deref-in-Pair-2.result.now (ap form_tree c.in-Pair.is) c.deref-in-Pair.ensures c.deref-in-Pair-2.ensures))
-    c.evaluate-in-Pair.ensures.cost c.evaluate-in-Pair-2.ensures.cost
-
-pub evaluate-returns-in_ok-second-in-Pair-clause-cost : goal.evaluate-returns-in_ok-second-in-Pair-clause-cost
-unfolding filter_cost
-evaluate-returns-in_ok-second-in-Pair-clause-cost g t c =
-    within_both _ _ _ _ _ _ (ap (filter_cost (searched_len (tree_in c.args.scope.now))) (parts_form c.args.f.now.at (form_tree c.args.f.now.form) (pair c.in-Pair.pair) _ _ c.deref-in-Pair.result.now c.deref-in-Pair-2.result.now (ap form_tree c.in-Pair.is) c.deref-in-Pair.ensures c.deref-in-Pair-2.ensures))
-    c.evaluate-in-Pair.ensures.cost c.evaluate-in-Pair-2.ensures.cost
-
-pub evaluate-returns-in_err-squares-in-Square-clause-cost : goal.evaluate-returns-in_err-squares-in-Square-clause-cost
-unfolding filter_cost
-evaluate-returns-in_err-squares-in-Square-clause-cost g t c =
-    within_first _ _ _ _ _ (ap (filter_cost (searched_len (tree_in c.args.scope.now))) (parts_form c.args.f.now.at (form_tree c.args.f.now.form) (square c.in-Square.every c.in-Square.name) _ _ c.deref-in-Square.result.now _ (ap form_tree c.in-Square.is) c.deref-in-Square.ensures refl))
-    c.evaluate-in-Square.ensures.cost
-
-pub evaluate-returns-in_err-truths-in-Square-clause-cost : goal.evaluate-returns-in_err-truths-in-Square-clause-cost
-unfolding filter_cost
-evaluate-returns-in_err-truths-in-Square-clause-cost g t c =
-    within_both _ _ _ _ _ _ (ap (filter_cost (searched_len (tree_in c.args.scope.now))) (parts_form c.args.f.now.at (form_tree c.args.f.now.form) (square c.in-Square.every c.in-Square.name) _ _ c.deref-in-Square.result.now c.deref-in-Square-2.result.now (ap form_tree c.in-Square.is) c.deref-in-Square.ensures c.deref-in-Square-2.ensures))
-    c.evaluate-in-Square.ensures.cost c.asked_truths.ensures.cost
-
-pub evaluate-returns-in_ok-truths-in-Square-clause-cost : goal.evaluate-returns-in_ok-truths-in-Square-clause-cost
-unfolding filter_cost
-evaluate-returns-in_ok-truths-in-Square-clause-cost g t c =
-    within_both _ _ _ _ _ _ (ap (filter_cost (searched_len (tree_in c.args.scope.now))) (parts_form c.args.f.now.at (form_tree c.args.f.now.form) (square c.in-Square.every c.in-Square.name) _ _ c.deref-in-Square.result.now c.deref-in-Square-2.result.now (ap form_tree c.in-Square.is) c.deref-in-Square.ensures c.deref-in-Square-2.ensures))
-    c.evaluate-in-Square.ensures.cost c.asked_truths.ensures.cost
-
-pub evaluate-returns-in_err-first-in-If-clause-cost : goal.evaluate-returns-in_err-first-in-If-clause-cost
-unfolding filter_cost
-evaluate-returns-in_err-first-in-If-clause-cost g t c =
-    within_first _ _ _ _ _ (ap (filter_cost (searched_len (tree_in c.args.scope.now))) (if_parts c.args.f.now.at (form_tree c.args.f.now.form) _ _ _ c.deref-in-If.result.now _ _ (ap form_tree c.in-If.is) c.deref-in-If.ensures refl refl))
-    (within_first _ _ _ _ _ refl c.evaluate-in-If.ensures.cost)
-
-pub evaluate-returns-in_err-second-in-If-clause-cost : goal.evaluate-returns-in_err-second-in-If-clause-cost
-unfolding filter_cost
-evaluate-returns-in_err-second-in-If-clause-cost g t c =
-    within_first _ _ _ _ _ (ap (filter_cost (searched_len (tree_in c.args.scope.now))) (if_parts c.args.f.now.at (form_tree c.args.f.now.form) _ _ _ c.deref-in-If.result.now c.deref-in-If-2.result.now _ (ap form_tree c.in-If.is) c.deref-in-If.ensures c.deref-in-If-2.ensures refl))
-    (within_both _ _ _ _ _ _ refl c.evaluate-in-If.ensures.cost c.column_where.ensures.cost)
-
-pub evaluate-returns-in_err-third-in-If-clause-cost : goal.evaluate-returns-in_err-third-in-If-clause-cost
-unfolding filter_cost
-evaluate-returns-in_err-third-in-If-clause-cost g t c =
-    within_both _ _ _ _ _ _ (ap (filter_cost (searched_len (tree_in c.args.scope.now))) (if_parts c.args.f.now.at (form_tree c.args.f.now.form) _ _ _ c.deref-in-If.result.now c.deref-in-If-2.result.now c.deref-in-If-3.result.now (ap form_tree c.in-If.is) c.deref-in-If.ensures c.deref-in-If-2.ensures c.deref-in-If-3.ensures))
-    (within_both _ _ _ _ _ _ refl c.evaluate-in-If.ensures.cost c.column_where.ensures.cost) c.column_where-in-If.ensures.cost
-
-pub evaluate-returns-in_ok-third-in-If-clause-cost : goal.evaluate-returns-in_ok-third-in-If-clause-cost
-unfolding filter_cost
-evaluate-returns-in_ok-third-in-If-clause-cost g t c =
-    within_both _ _ _ _ _ _ (ap (filter_cost (searched_len (tree_in c.args.scope.now))) (if_parts c.args.f.now.at (form_tree c.args.f.now.form) _ _ _ c.deref-in-If.result.now c.deref-in-If-2.result.now c.deref-in-If-3.result.now (ap form_tree c.in-If.is) c.deref-in-If.ensures c.deref-in-If-2.ensures c.deref-in-If-3.ensures))
-    (within_both _ _ _ _ _ _ refl c.evaluate-in-If.ensures.cost c.column_where.ensures.cost) c.column_where-in-If.ensures.cost
+pub lines::line_column-returns-in_err-put_row-clause-cost : goal.lines::line_column-returns-in_err-put_row-clause-cost
+lines::line_column-returns-in_err-put_row-clause-cost = lines.lines::line_column-returns-in_err-put_row-clause-cost
 
 pub lines::put_wherever-returns-in_err-column-in-Atom-clause-cost : goal.lines::put_wherever-returns-in_err-column-in-Atom-clause-cost
 lines::put_wherever-returns-in_err-column-in-Atom-clause-cost = lines.lines::put_wherever-returns-in_err-column-in-Atom-clause-cost
@@ -545,122 +432,74 @@ lines::put_once-returns-in_err-starts-in-Group-clause-cost = lines.lines::put_on
 pub lines::put_once-returns-in_ok-starts-in-Group-clause-cost : goal.lines::put_once-returns-in_ok-starts-in-Group-clause-cost
 lines::put_once-returns-in_ok-starts-in-Group-clause-cost = lines.lines::put_once-returns-in_ok-starts-in-Group-clause-cost
 
--- where no node is asked for
+-- squares that are tried
+pub squares::square_truths-loop-number-init : goal.squares::square_truths-loop-number-init
+squares::square_truths-loop-number-init = squares.squares::square_truths-loop-number-init
 
-pub evaluate-returns-then-not-any_live-clause-value : goal.evaluate-returns-then-not-any_live-clause-value
-evaluate-returns-then-not-any_live-clause-value g t c = λ n l. absurd (none_live c.args.live.now (sym c.any_live.ensures ∙ c.if-not-any_live.true) n l)
+pub squares::square_truths-loop-number-preserved : goal.squares::square_truths-loop-number-preserved
+squares::square_truths-loop-number-preserved = squares.squares::square_truths-loop-number-preserved
 
--- the family
+pub squares::square_truths-returns-clause-value : goal.squares::square_truths-returns-clause-value
+squares::square_truths-returns-clause-value = squares.squares::square_truths-returns-clause-value
 
-pub evaluate-returns-in-Transform-clause-value : goal.evaluate-returns-in-Transform-clause-value
-evaluate-returns-in-Transform-clause-value g t c =
-    absurd (no_family c.args.f.now.at (form_tree c.args.f.now.form) _ _ (ap form_tree c.in-Transform.is) c.requires.flat)
+pub squares::square_truths-returns-in-Some-clause-value : goal.squares::square_truths-returns-in-Some-clause-value
+squares::square_truths-returns-in-Some-clause-value = squares.squares::square_truths-returns-in-Some-clause-value
 
--- chains, and any of a kind
+pub squares::square_turn-returns-clause-value : goal.squares::square_turn-returns-clause-value
+squares::square_turn-returns-clause-value = squares.squares::square_turn-returns-clause-value
 
-pub evaluate-returns-in-Chain-clause-value : goal.evaluate-returns-in-Chain-clause-value
-evaluate-returns-in-Chain-clause-value g t c =
-    let f = c.args.f.now in
-    subst (λ v. IfOk c.chain_column.result (λ x. IsColumn x c.args.live.now v))
-    (chain_form (tree_in c.args.scope.now) c.args.scope.now.names.now (filter_tree f) f.at c.in-Chain.chain (filters_tree c.in-Chain.parts)
-    (ap (λ form. filter_at f.at (form_tree form)) c.in-Chain.is))
-    c.chain_column.ensures.value
+pub squares::square_turn-returns-then-not-any_live-clause-value : goal.squares::square_turn-returns-then-not-any_live-clause-value
+squares::square_turn-returns-then-not-any_live-clause-value = squares.squares::square_turn-returns-then-not-any_live-clause-value
 
-pub evaluate-returns-in-Any-clause-value : goal.evaluate-returns-in-Any-clause-value
-evaluate-returns-in-Any-clause-value g t c =
-    let f = c.args.f.now in
-    subst (λ v. IfOk c.any_column.result (λ x. IsColumn x c.args.live.now v))
-    (any_form (tree_in c.args.scope.now) c.args.scope.now.names.now (filter_tree f) f.at c.in-Any.kind (filters_tree c.in-Any.parts)
-    (ap (λ form. filter_at f.at (form_tree form)) c.in-Any.is))
-    c.any_column.ensures.value
+pub squares::square_turn-returns-then-not-has_square-clause-value : goal.squares::square_turn-returns-then-not-has_square-clause-value
+squares::square_turn-returns-then-not-has_square-clause-value = squares.squares::square_turn-returns-then-not-has_square-clause-value
 
--- the move filter
+pub squares::covered_sets-returns-clause-worth : goal.squares::covered_sets-returns-clause-worth
+squares::covered_sets-returns-clause-worth = squares.squares::covered_sets-returns-clause-worth
 
-pub played::played_column-returns-clause-value : goal.played::played_column-returns-clause-value
-played::played_column-returns-clause-value g t c =
-    let tree = tree_in c.args.scope.now in
-    let some = c.as_slice-some.result.now in
-    let looked : ArePromoting tree c.is_some-promotes.result c.args.live.now some
-    = subst (ArePromoting tree c.is_some-promotes.result c.args.live.now) (sym c.as_slice-some.ensures.value) c.in_ok-some.ensures in
-    IfOk_then c.met_column.result c.met_column.ensures
-    (λ column is n l. is n ∙ met_is tree c.args.scope.now.names.now c.args.played.now c.args.live.now some c.is_some-promotes.result
-    (is_live some n && is_as_asked tree c.in_ok-parts.parts (option_map (λ x. shown x n) c.in_ok-goal.goal) n) _ n c.is_some-promotes.ensures looked l refl
-    (move_is tree c.args.scope.now.names.now c.args.played.now some c.in_ok-parts.parts c.in_ok-goal.goal
-    c.in_ok-parts.ensures.value c.in_ok-goal.ensures.value n))
+pub squares::asked_truths-returns-clause-value : goal.squares::asked_truths-returns-clause-value
+squares::asked_truths-returns-clause-value = squares.squares::asked_truths-returns-clause-value
 
-pub played::written_column-returns-in_err-column-in-Some-clause-cost : goal.played::written_column-returns-in_err-column-in-Some-clause-cost
-played::written_column-returns-in_err-column-in-Some-clause-cost g t c =
-    within _ _ _ _ (part_costs (searched_len (tree_in c.args.scope.now)) _ _ _ c.in-Some.is c.deref.ensures) c.evaluate.ensures.cost
+-- squares that are tried all at once
+pub goals::goal_truths-returns-in-Played-clause-value : goal.goals::goal_truths-returns-in-Played-clause-value
+goals::goal_truths-returns-in-Played-clause-value = goals.goals::goal_truths-returns-in-Played-clause-value
 
-pub played::written_column-returns-in_ok-column-in-Some-clause-cost : goal.played::written_column-returns-in_ok-column-in-Some-clause-cost
-played::written_column-returns-in_ok-column-in-Some-clause-cost g t c =
-    within _ _ _ _ (part_costs (searched_len (tree_in c.args.scope.now)) _ _ _ c.in-Some.is c.deref.ensures) c.evaluate.ensures.cost
+pub goals::goal_truths-loop-part-init : goal.goals::goal_truths-loop-part-init
+goals::goal_truths-loop-part-init = goals.goals::goal_truths-loop-part-init
 
-pub played::played_column-returns-in_err-parts-clause-cost : goal.played::played_column-returns-in_err-parts-clause-cost
-played::played_column-returns-in_err-parts-clause-cost g t c =
-    omega (arith, move_costs (searched_len (tree_in c.args.scope.now)) c.args.played.now, c.part_columns.ensures.cost)
+pub goals::goal_truths-returns-in-loop-part-clause-value : goal.goals::goal_truths-returns-in-loop-part-clause-value
+goals::goal_truths-returns-in-loop-part-clause-value = goals.goals::goal_truths-returns-in-loop-part-clause-value
 
-pub played::played_column-returns-in_err-goal-clause-cost : goal.played::played_column-returns-in_err-goal-clause-cost
-played::played_column-returns-in_err-goal-clause-cost g t c =
-    omega (arith, move_costs (searched_len (tree_in c.args.scope.now)) c.args.played.now, c.part_columns.ensures.cost, c.written_column.ensures.cost)
-
-pub played::played_column-returns-clause-cost : goal.played::played_column-returns-clause-cost
-played::played_column-returns-clause-cost g t c =
-    omega (arith, move_costs (searched_len (tree_in c.args.scope.now)) c.args.played.now, c.part_columns.ensures.cost, c.written_column.ensures.cost)
-
-pub played::part_columns-returns-clause-value : goal.played::part_columns-returns-clause-value
-played::part_columns-returns-clause-value g t c =
-    let tree = tree_in c.args.scope.now in
-    let there = subst (AreBeforeLive tree c.args.live.now) (sym c.as_slice-wide.ensures.value) c.in_ok-wide.ensures in
-    record {
-      origin = λ n l. c.in_ok-origin.ensures.value (before tree n) (there.covers n l);
-      taken = λ n l. c.in_ok-taken.ensures.value (before tree n) (there.covers n l);
-      promoted = c.in_ok-promoted.ensures.value;
-    }
-
-pub played::written_column-returns-in_ok-column-in-Some-clause-value : goal.played::written_column-returns-in_ok-column-in-Some-clause-value
-played::written_column-returns-in_ok-column-in-Some-clause-value g t c =
-    part_is (tree_in c.args.scope.now) c.args.scope.now.names.now c.args.live.now c.args.written.now c.in-Some.filter c.deref.result.now c.in_ok-column-in-Some.column
-    c.in-Some.is c.deref.ensures c.in_ok-column-in-Some.ensures.value
-
-pub played::written_column-returns-in-None-clause-value : goal.played::written_column-returns-in-None-clause-value
-played::written_column-returns-in-None-clause-value g t c =
-    no_part_is (tree_in c.args.scope.now) c.args.scope.now.names.now c.args.live.now c.args.written.now c.in-None.is
-
-pub chains::columns_of-returns-in_err-push-clause-cost : goal.chains::columns_of-returns-in_err-push-clause-cost
-chains::columns_of-returns-in_err-push-clause-cost = chains.chains::columns_of-returns-in_err-push-clause-cost
-
-pub chains::terms_of-returns-in_err-push-clause-cost : goal.chains::terms_of-returns-in_err-push-clause-cost
-chains::terms_of-returns-in_err-push-clause-cost = chains.chains::terms_of-returns-in_err-push-clause-cost
+pub goals::goal_met-returns-clause-value : goal.goals::goal_met-returns-clause-value
+goals::goal_met-returns-clause-value = goals.goals::goal_met-returns-clause-value
 
 -- the squares that are worth trying
-
 pub covers::cover-returns-then-is_own-clause-cut : goal.covers::cover-returns-then-is_own-clause-cut
 covers::cover-returns-then-is_own-clause-cut = covers.covers::cover-returns-then-is_own-clause-cut
 
-pub covers::cover-returns-in_ok-cover_played-in-Played-clause-cut : goal.covers::cover-returns-in_ok-cover_played-in-Played-clause-cut
-covers::cover-returns-in_ok-cover_played-in-Played-clause-cut = covers.covers::cover-returns-in_ok-cover_played-in-Played-clause-cut
+pub covers::cover-returns-then-is_or-clause-cut : goal.covers::cover-returns-then-is_or-clause-cut
+covers::cover-returns-then-is_or-clause-cut = covers.covers::cover-returns-then-is_or-clause-cut
 
-pub covers::cover-returns-in-Chain-clause-cut : goal.covers::cover-returns-in-Chain-clause-cut
-covers::cover-returns-in-Chain-clause-cut = covers.covers::cover-returns-in-Chain-clause-cut
+pub covers::cover-returns-else-not-is_all-clause-cut : goal.covers::cover-returns-else-not-is_all-clause-cut
+covers::cover-returns-else-not-is_all-clause-cut = covers.covers::cover-returns-else-not-is_all-clause-cut
 
-pub covers::cover_set-returns-in-Chain-clause-cut : goal.covers::cover_set-returns-in-Chain-clause-cut
-covers::cover_set-returns-in-Chain-clause-cut = covers.covers::cover_set-returns-in-Chain-clause-cut
+pub covers::cover_set-returns-else-not-is_intersection-clause-cut : goal.covers::cover_set-returns-else-not-is_intersection-clause-cut
+covers::cover_set-returns-else-not-is_intersection-clause-cut = covers.covers::cover_set-returns-else-not-is_intersection-clause-cut
+
+pub covers::cover-returns-in-Played-clause-cut : goal.covers::cover-returns-in-Played-clause-cut
+covers::cover-returns-in-Played-clause-cut = covers.covers::cover-returns-in-Played-clause-cut
+
+pub cover_moves::cover_played-returns-then-not-asks_without-clause-cut : goal.cover_moves::cover_played-returns-then-not-asks_without-clause-cut
+cover_moves::cover_played-returns-then-not-asks_without-clause-cut = covers.cover_moves::cover_played-returns-then-not-asks_without-clause-cut
 
 pub cover_moves::cover_played-returns-clause-cut : goal.cover_moves::cover_played-returns-clause-cut
 cover_moves::cover_played-returns-clause-cut = covers.cover_moves::cover_played-returns-clause-cut
-
-pub cover_moves::cover_free_parts-returns-clause-cut : goal.cover_moves::cover_free_parts-returns-clause-cut
-cover_moves::cover_free_parts-returns-clause-cut = covers.cover_moves::cover_free_parts-returns-clause-cut
 
 pub cover_moves::free_columns-returns-clause-asks : goal.cover_moves::free_columns-returns-clause-asks
 cover_moves::free_columns-returns-clause-asks = covers.cover_moves::free_columns-returns-clause-asks
 
 pub cover_moves::free_column-returns-clause-asks : goal.cover_moves::free_column-returns-clause-asks
 cover_moves::free_column-returns-clause-asks = covers.cover_moves::free_column-returns-clause-asks
-
-pub covers::cover_chain-returns-clause-cut : goal.covers::cover_chain-returns-clause-cut
-covers::cover_chain-returns-clause-cut = covers.covers::cover_chain-returns-clause-cut
 
 pub covers::cover_all-loop-class-init : goal.covers::cover_all-loop-class-init
 covers::cover_all-loop-class-init = covers.covers::cover_all-loop-class-init
@@ -674,23 +513,20 @@ covers::cover_class-loop-part-init = covers.covers::cover_class-loop-part-init
 pub covers::cover_class-loop-part-preserved : goal.covers::cover_class-loop-part-preserved
 covers::cover_class-loop-part-preserved = covers.covers::cover_class-loop-part-preserved
 
-pub covers::cover_common-returns-clause-cut : goal.covers::cover_common-returns-clause-cut
-covers::cover_common-returns-clause-cut = covers.covers::cover_common-returns-clause-cut
-
 pub covers::cover_each-loop-part-init : goal.covers::cover_each-loop-part-init
 covers::cover_each-loop-part-init = covers.covers::cover_each-loop-part-init
 
 pub covers::cover_each-loop-part-preserved : goal.covers::cover_each-loop-part-preserved
 covers::cover_each-loop-part-preserved = covers.covers::cover_each-loop-part-preserved
 
-pub covers::cover_set-returns-in_ok-cover_related-in-Pair-clause-cut : goal.covers::cover_set-returns-in_ok-cover_related-in-Pair-clause-cut
-covers::cover_set-returns-in_ok-cover_related-in-Pair-clause-cut = covers.covers::cover_set-returns-in_ok-cover_related-in-Pair-clause-cut
+pub covers::cover_set-returns-in_ok-cover_set-in-Pair-clause-cut : goal.covers::cover_set-returns-in_ok-cover_set-in-Pair-clause-cut
+covers::cover_set-returns-in_ok-cover_set-in-Pair-clause-cut = covers.covers::cover_set-returns-in_ok-cover_set-in-Pair-clause-cut
 
-pub covers::cover_turned-returns-in_ok-cover_related-in-Pair-clause-cut : goal.covers::cover_turned-returns-in_ok-cover_related-in-Pair-clause-cut
-covers::cover_turned-returns-in_ok-cover_related-in-Pair-clause-cut = covers.covers::cover_turned-returns-in_ok-cover_related-in-Pair-clause-cut
+pub covers::cover-returns-else-not-is_own-clause-cut : goal.covers::cover-returns-else-not-is_own-clause-cut
+covers::cover-returns-else-not-is_own-clause-cut = covers.covers::cover-returns-else-not-is_own-clause-cut
 
-pub cover_squares::cover_square-returns-in_ok-cover_pair-in-Square-clause-cut : goal.cover_squares::cover_square-returns-in_ok-cover_pair-in-Square-clause-cut
-cover_squares::cover_square-returns-in_ok-cover_pair-in-Square-clause-cut = covers.cover_squares::cover_square-returns-in_ok-cover_pair-in-Square-clause-cut
+pub cover_squares::cover_square-returns-in_ok-cover_inner-in-Square-clause-cut : goal.cover_squares::cover_square-returns-in_ok-cover_inner-in-Square-clause-cut
+cover_squares::cover_square-returns-in_ok-cover_inner-in-Square-clause-cut = covers.cover_squares::cover_square-returns-in_ok-cover_inner-in-Square-clause-cut
 
 pub cover_squares::cover_inner-returns-clause-cut : goal.cover_squares::cover_inner-returns-clause-cut
 cover_squares::cover_inner-returns-clause-cut = covers.cover_squares::cover_inner-returns-clause-cut
@@ -701,44 +537,35 @@ cover_squares::cover_pair-returns-clause-cut = covers.cover_squares::cover_pair-
 pub covers::cover_elsewhere-returns-clause-cut : goal.covers::cover_elsewhere-returns-clause-cut
 covers::cover_elsewhere-returns-clause-cut = covers.covers::cover_elsewhere-returns-clause-cut
 
-pub covers::cover-returns-in_ok-cover_elsewhere-in-Unary-clause-cut : goal.covers::cover-returns-in_ok-cover_elsewhere-in-Unary-clause-cut
-covers::cover-returns-in_ok-cover_elsewhere-in-Unary-clause-cut = covers.covers::cover-returns-in_ok-cover_elsewhere-in-Unary-clause-cut
+pub covers::cover-returns-in-Unary-clause-cut : goal.covers::cover-returns-in-Unary-clause-cut
+covers::cover-returns-in-Unary-clause-cut = covers.covers::cover-returns-in-Unary-clause-cut
 
-pub covers::cover_chain-returns-then-is_or-clause-cut : goal.covers::cover_chain-returns-then-is_or-clause-cut
-covers::cover_chain-returns-then-is_or-clause-cut = covers.covers::cover_chain-returns-then-is_or-clause-cut
+pub cover_some::cover_some-loop-part-init : goal.cover_some::cover_some-loop-part-init
+cover_some::cover_some-loop-part-init = covers.cover_some::cover_some-loop-part-init
+
+pub cover_some::cover_some-loop-part-preserved : goal.cover_some::cover_some-loop-part-preserved
+cover_some::cover_some-loop-part-preserved = covers.cover_some::cover_some-loop-part-preserved
 
 pub cover_some::cover_some-returns-clause-cut : goal.cover_some::cover_some-returns-clause-cut
 cover_some::cover_some-returns-clause-cut = covers.cover_some::cover_some-returns-clause-cut
 
-pub cover_some::add_each-loop-part-init : goal.cover_some::add_each-loop-part-init
-cover_some::add_each-loop-part-init = covers.cover_some::add_each-loop-part-init
-
-pub cover_some::add_each-loop-part-preserved : goal.cover_some::add_each-loop-part-preserved
-cover_some::add_each-loop-part-preserved = covers.cover_some::add_each-loop-part-preserved
-
-pub cover_some::add_each-returns-clause-added : goal.cover_some::add_each-returns-clause-added
-cover_some::add_each-returns-clause-added = covers.cover_some::add_each-returns-clause-added
-
 pub cover_some::add_covered-returns-clause-added : goal.cover_some::add_covered-returns-clause-added
 cover_some::add_covered-returns-clause-added = covers.cover_some::add_covered-returns-clause-added
 
-pub squares::covered_sets-returns-clause-worth : goal.squares::covered_sets-returns-clause-worth
-squares::covered_sets-returns-clause-worth = squares.squares::covered_sets-returns-clause-worth
+pub covers::cover_free-returns : goal.covers::cover_free-returns
+covers::cover_free-returns = covers.covers::cover_free-returns
 
-pub squares::asked_truths-returns-clause-value : goal.squares::asked_truths-returns-clause-value
-squares::asked_truths-returns-clause-value = squares.squares::asked_truths-returns-clause-value
+pub covers::cover_free-returns-in_err-column-clause-cost : goal.covers::cover_free-returns-in_err-column-clause-cost
+covers::cover_free-returns-in_err-column-clause-cost = covers.covers::cover_free-returns-in_err-column-clause-cost
 
-pub goals::goal_truths-returns-in_ok-in_chain-in-Chain-clause-value : goal.goals::goal_truths-returns-in_ok-in_chain-in-Chain-clause-value
-goals::goal_truths-returns-in_ok-in_chain-in-Chain-clause-value = goals.goals::goal_truths-returns-in_ok-in_chain-in-Chain-clause-value
+pub covers::cover_free_set-returns : goal.covers::cover_free_set-returns
+covers::cover_free_set-returns = covers.covers::cover_free_set-returns
 
-pub goals::goal_truths-returns-in_ok-met-in-Played-clause-value : goal.goals::goal_truths-returns-in_ok-met-in-Played-clause-value
-goals::goal_truths-returns-in_ok-met-in-Played-clause-value = goals.goals::goal_truths-returns-in_ok-met-in-Played-clause-value
+pub covers::cover_free_set-returns-in_err-column-clause-cost : goal.covers::cover_free_set-returns-in_err-column-clause-cost
+covers::cover_free_set-returns-in_err-column-clause-cost = covers.covers::cover_free_set-returns-in_err-column-clause-cost
 
-pub goals::goal_in-loop-part-init : goal.goals::goal_in-loop-part-init
-goals::goal_in-loop-part-init = goals.goals::goal_in-loop-part-init
+pub covers::cover_related-returns : goal.covers::cover_related-returns
+covers::cover_related-returns = covers.covers::cover_related-returns
 
-pub goals::goal_in-returns-in-loop-part-clause-value : goal.goals::goal_in-returns-in-loop-part-clause-value
-goals::goal_in-returns-in-loop-part-clause-value = goals.goals::goal_in-returns-in-loop-part-clause-value
-
-pub goals::goal_met-returns-clause-value : goal.goals::goal_met-returns-clause-value
-goals::goal_met-returns-clause-value = goals.goals::goal_met-returns-clause-value
+pub covers::cover_related-returns-in_err-column-clause-cost : goal.covers::cover_related-returns-in_err-column-clause-cost
+covers::cover_related-returns-in_err-column-clause-cost = covers.covers::cover_related-returns-in_err-column-clause-cost

@@ -39,8 +39,8 @@ invariant-chains::ask_class-loop-filter g l = record {
   flat : (i : ℕ) (f : Filter) → i < length l.filter-items → f ≡ get_or l.filter-items i f → IsFlat (filter_tree f);
 }
 
-abbrev pub invariant-goals::goal_in-loop-part : goal.invariant-goals::goal_in-loop-part
-invariant-goals::goal_in-loop-part g l = record {
+abbrev pub invariant-goals::goal_truths-loop-part : goal.invariant-goals::goal_truths-loop-part
+invariant-goals::goal_truths-loop-part g l = record {
   first : l.part-index ≡ 0;
   cost : l.steps ≡ l.fn.steps;
   flat : (i : ℕ) (f : Filter) → i < length l.part-items → f ≡ get_or l.part-items i f → IsFlat (filter_tree f);
@@ -100,10 +100,11 @@ invariant-covers::cover_each-loop-part g l = record {
   flat : (i : ℕ) (f : Filter) → i < length l.part-items → f ≡ get_or l.part-items i f → IsFlat (filter_tree f);
 }
 
-abbrev pub invariant-cover_some::add_each-loop-part : goal.invariant-cover_some::add_each-loop-part
-invariant-cover_some::add_each-loop-part g l = record {
+abbrev pub invariant-cover_some::cover_some-loop-part : goal.invariant-cover_some::cover_some-loop-part
+invariant-cover_some::cover_some-loop-part g l = record {
   added : AddedFor (tree_in l.trial.scope.now) l.trial.live.now l.trial.opened.now l.trial.scope.now.names.now l.trial.name.now l.part-items
-      l.part-index l.sets l.fn.kept l.kept;
+      l.part-index l.sets l.initial.kept.items l.kept.items;
+  count : length l.kept.items ≡ length l.trial.live.now;
   cost : l.steps ≡ l.fn.steps;
   flat : (i : ℕ) (f : Filter) → i < length l.part-items → f ≡ get_or l.part-items i f → IsFlat (filter_tree f);
 }

@@ -13,21 +13,23 @@ use Rattle.cql_columns.proofs.Costing.{cost_more, cost_within, terms_cost_more, 
 use Rattle.cql_columns.proofs.EverLaw.{ever_begun, ever_fewer, ever_later, left_unasked}
 use Rattle.cql_columns.proofs.Gathering.{columns_begun, columns_more, columns_all, terms_begun, terms_more, terms_all}
 use Rattle.cql_eval.proofs.FlatLaw.{filter_flat, term_flat}
-use Rattle.cql_eval.proofs.FormLaws.{IfOk_then, some_unless}
+use Rattle.cql_eval.proofs.FormLaws.{IfOk_then, chain_all, some_unless}
 use Rattle.cql_columns.proofs.ToldLaw.{told_there}
 use Rattle.cql_eval.proofs.evaluate.+evaluate.Goals as goal
 
-pub chains::all_column-returns-clause-value : goal.chains::all_column-returns-clause-value
-chains::all_column-returns-clause-value g t c = λ n l.
-    truth_left c.args.live.now c.in_ok-left.left.items _ _ (tree_in c.args.scope.now) c.in_ok-left.ensures.left
-    (so_all (tree_in c.args.scope.now) c.args.scope.now.names.now true (filters_tree c.args.filters.now)) n l
+pub chain_column-returns-in_ok-left-in-And-clause-value : goal.chain_column-returns-in_ok-left-in-And-clause-value
+chain_column-returns-in_ok-left-in-And-clause-value g t c = λ n l.
+    truth_left c.args.live.now c.in_ok-left-in-And.left.items _ _ (tree_in c.args.scope.now) c.in_ok-left-in-And.ensures.left
+    (so_all (tree_in c.args.scope.now) c.args.scope.now.names.now true (filters_tree c.args.parts.now)) n l
+    ∙ chain_all c.args.chain (values_in c.args.scope.now (filters_tree c.args.parts.now) n) c.in-And.is
 
-pub chains::all_column-returns-clause-cost : goal.chains::all_column-returns-clause-cost
-chains::all_column-returns-clause-cost g t c = omega (arith, c.left_by.ensures.cost, cost_all (searched_len (tree_in c.args.scope.now)) (filters_tree c.args.filters.now))
+pub chain_column-returns-in_ok-left-in-And-clause-cost : goal.chain_column-returns-in_ok-left-in-And-clause-cost
+chain_column-returns-in_ok-left-in-And-clause-cost g t c =
+    omega (arith, c.left_by.ensures.cost, cost_all (searched_len (tree_in c.args.scope.now)) (filters_tree c.args.parts.now))
 
-pub chains::all_column-returns-in_err-left-clause-cost : goal.chains::all_column-returns-in_err-left-clause-cost
-chains::all_column-returns-in_err-left-clause-cost g t c =
-    omega (arith, c.left_by.ensures.cost, cost_all (searched_len (tree_in c.args.scope.now)) (filters_tree c.args.filters.now))
+pub chain_column-returns-in_err-left-in-And-clause-cost : goal.chain_column-returns-in_err-left-in-And-clause-cost
+chain_column-returns-in_err-left-in-And-clause-cost g t c =
+    omega (arith, c.left_by.ensures.cost, cost_all (searched_len (tree_in c.args.scope.now)) (filters_tree c.args.parts.now))
 
 pub chains::some_column-returns-clause-value : goal.chains::some_column-returns-clause-value
 chains::some_column-returns-clause-value g t c =

@@ -1,5 +1,5 @@
 -- What is answered of squares that are worth trying, in the recursion over filters.
-use Rattle.std.proofs.Common.{[], ◌∷◌, ◌∙◌, ap, ap₂, sym, subst, arith, refl, false}
+use Rattle.std.proofs.Common.{[], ◌∷◌, ◌+◌, ◌∙◌, ap, ap₂, sym, subst, arith, refl, length, false}
 use Rattle.std.specs.Prelude.{OnOk}
 use Rattle.std.proofs.Math.Path.{fun_ext}
 use Rattle.std.proofs.lemmas.Result.{on_ok_weaker}
@@ -9,12 +9,14 @@ use Rattle.cql_syntax.specs.Trees.{filter_at, unary}
 use Rattle.cql_syntax.specs.Values.{holds, some_holds, square_of}
 use Rattle.cql_columns.specs.Scopes.{tree_in}
 use Rattle.cql_eval.proofs.FlatLaw.{filter_flat}
-use Rattle.cql_eval.proofs.FormLaws.{chain_form}
+use Rattle.cql_eval.proofs.FormLaws.{IfOk_then, chain_form}
 use Rattle.cql_syntax.specs.Trees.{pair}
-use Rattle.cql_columns.specs.Covers.{AreAdded, AreCut, AreJoined, HasSome, MayHave, MayHold}
+use Rattle.cql_columns.specs.Covers.{AreCut, AreJoined, HasSome, MayHave, MayHold}
 use Rattle.cql_columns.specs.Trees.{AreBeforeLive}
-use Rattle.cql_columns.proofs.CoverSome.{added_all, added_by, added_more, added_none, or_cut, some_cut}
+use Rattle.cql_columns.proofs.CoverSome.{AddedFor, added_all, added_by, added_more, added_none, or_cut, some_cut}
 use Rattle.cql_columns.proofs.PairLaw.{paired_cut}
+use Rattle.cql_columns.specs.Costs.{searched_len}
+use Rattle.cql_eval.proofs.CoverFree.{free_cut, free_set_cut, no_steps, related_cut}
 use Rattle.cql_eval.proofs.CoverMoves.{asks_free, free_parts_cut}
 use Rattle.cql_columns.proofs.CoverLaw.{cut_same, cut_then}
 use Rattle.cql_columns.specs.Elsewhere.{AreLookedAt, AreBroughtBack}
@@ -24,36 +26,78 @@ use Rattle.cql_eval.proofs.evaluate.+evaluate.Goals as goal
 
 pub covers::cover-returns-then-is_own-clause-cut : goal.covers::cover-returns-then-is_own-clause-cut
 covers::cover-returns-then-is_own-clause-cut g t c =
-    own_cut (tree_in c.args.trial.now.scope.now) c.args.trial.now.live.now c.args.trial.now.opened.now c.args.trial.now.scope.now.names.now
+    on_ok_weaker c.cover_set.result
+    (λ cut. own_cut (tree_in c.args.trial.now.scope.now) c.args.trial.now.live.now c.args.trial.now.opened.now c.args.trial.now.scope.now.names.now
     c.args.trial.now.name.now (filter_tree c.args.asked.now)
-    c.args.sets.now c.cover_set.new.sets (c.is_own.ensures c.if-is_own.true) c.in_ok-cover_set.ensures.cut
+    c.args.sets.now c.cover_set.new.sets (c.is_own.ensures c.if-is_own.true) cut)
+    c.cover_set.ensures.cut
 
-pub covers::cover-returns-in_ok-cover_played-in-Played-clause-cut : goal.covers::cover-returns-in_ok-cover_played-in-Played-clause-cut
-covers::cover-returns-in_ok-cover_played-in-Played-clause-cut g t c =
-    played_cut (tree_in c.args.trial.now.scope.now) c.args.trial.now.live.now c.args.trial.now.opened.now c.args.trial.now.scope.now.names.now
+pub covers::cover-returns-then-is_or-clause-cut : goal.covers::cover-returns-then-is_or-clause-cut
+covers::cover-returns-then-is_or-clause-cut g t c =
+    subst (λ v. OnOk c.cover_some.result (AreCut c.args.trial.now.live.now (MayHold c.args.trial.now.opened.now c.args.trial.now.scope.now.names.now c.args.trial.now.name.now v)
+    c.args.sets.now c.cover_some.new.sets))
+    (fun_ext (λ e. chain_form (tree_in c.args.trial.now.scope.now) e (filter_tree c.args.asked.now) c.args.asked.now.at c.in-Chain.chain (filters_tree c.in-Chain.parts)
+    (ap (λ form. filter_at c.args.asked.now.at (form_tree form)) c.in-Chain.is)))
+    (on_ok_weaker c.cover_some.result
+    (λ cut. or_cut (tree_in c.args.trial.now.scope.now) c.args.trial.now.live.now c.args.trial.now.opened.now c.args.trial.now.scope.now.names.now
+    c.args.trial.now.name.now c.in-Chain.chain (filters_tree c.in-Chain.parts)
+    c.args.sets.now c.cover_some.new.sets (c.is_or.ensures c.if-is_or.true) cut)
+    c.cover_some.ensures.cut)
+
+pub covers::cover-returns-else-not-is_all-clause-cut : goal.covers::cover-returns-else-not-is_all-clause-cut
+covers::cover-returns-else-not-is_all-clause-cut g t c =
+    subst (λ v. OnOk c.cover_all.result (AreCut c.args.trial.now.live.now (MayHold c.args.trial.now.opened.now c.args.trial.now.scope.now.names.now c.args.trial.now.name.now v)
+    c.args.sets.now c.cover_all.new.sets))
+    (fun_ext (λ e. chain_form (tree_in c.args.trial.now.scope.now) e (filter_tree c.args.asked.now) c.args.asked.now.at c.in-Chain.chain (filters_tree c.in-Chain.parts)
+    (ap (λ form. filter_at c.args.asked.now.at (form_tree form)) c.in-Chain.is)))
+    (on_ok_weaker c.cover_all.result
+    (λ cut. all_cut (tree_in c.args.trial.now.scope.now) c.args.trial.now.live.now c.args.trial.now.opened.now c.args.trial.now.scope.now.names.now
+    c.args.trial.now.name.now c.in-Chain.chain (filters_tree c.in-Chain.parts)
+    c.args.sets.now c.cover_all.new.sets (c.is_all.ensures c.if-not-is_all.false) cut)
+    c.cover_all.ensures.cut)
+
+pub covers::cover_set-returns-else-not-is_intersection-clause-cut : goal.covers::cover_set-returns-else-not-is_intersection-clause-cut
+covers::cover_set-returns-else-not-is_intersection-clause-cut g t c =
+    subst (λ v. OnOk c.cover_each.result (AreCut c.args.trial.now.live.now (MayHave c.args.trial.now.opened.now c.args.trial.now.scope.now.names.now c.args.trial.now.name.now v)
+    c.args.sets.now c.cover_each.new.sets))
+    (fun_ext (λ e. chain_form (tree_in c.args.trial.now.scope.now) e (filter_tree c.args.asked.now) c.args.asked.now.at c.in-Chain.chain (filters_tree c.in-Chain.parts)
+    (ap (λ form. filter_at c.args.asked.now.at (form_tree form)) c.in-Chain.is)))
+    (on_ok_weaker c.cover_each.result
+    (λ cut. common_cut (tree_in c.args.trial.now.scope.now) c.args.trial.now.live.now c.args.trial.now.opened.now c.args.trial.now.scope.now.names.now
+    c.args.trial.now.name.now c.in-Chain.chain (filters_tree c.in-Chain.parts)
+    c.args.sets.now c.cover_each.new.sets (c.is_intersection.ensures c.if-not-is_intersection.false) cut)
+    c.cover_each.ensures.cut)
+
+pub covers::cover-returns-in-Played-clause-cut : goal.covers::cover-returns-in-Played-clause-cut
+covers::cover-returns-in-Played-clause-cut g t c =
+    on_ok_weaker c.cover_played.result
+    (λ cut. played_cut (tree_in c.args.trial.now.scope.now) c.args.trial.now.live.now c.args.trial.now.opened.now c.args.trial.now.scope.now.names.now
     c.args.trial.now.name.now (filter_tree c.args.asked.now)
     c.args.asked.now.at c.in-Played.played c.args.sets.now c.cover_played.new.sets (ap (λ form. filter_at c.args.asked.now.at (form_tree form)) c.in-Played.is)
-    c.in_ok-cover_played-in-Played.ensures.cut
+    cut)
+    c.cover_played.ensures.cut
+
+pub cover_moves::cover_played-returns-then-not-asks_without-clause-cut : goal.cover_moves::cover_played-returns-then-not-asks_without-clause-cut
+cover_moves::cover_played-returns-then-not-asks_without-clause-cut g t c =
+    let tree = tree_in c.args.trial.now.scope.now in
+    move_cut tree c.args.trial.now.live.now c.args.trial.now.opened.now c.args.trial.now.scope.now.names.now c.args.trial.now.name.now
+    c.args.played.now c.is_own_part-origin.result c.is_own_part-goal.result c.is_own_part-taken.result
+    c.args.sets.now c.cut_moves.new.sets c.is_own_part-origin.ensures c.is_own_part-goal.ensures c.is_own_part-taken.ensures c.cut_moves.ensures
 
 pub cover_moves::cover_played-returns-clause-cut : goal.cover_moves::cover_played-returns-clause-cut
 cover_moves::cover_played-returns-clause-cut g t c =
     let tree = tree_in c.args.trial.now.scope.now in
-    cut_then c.args.trial.now.live.now _ c.args.sets.now c.cut_moves.new.sets c.cover_free_parts.new.sets
+    let asks = c.in_ok-parts.ensures.asks in
+    on_ok_weaker c.cut_unmet.result
+    (λ cut. cut_then c.args.trial.now.live.now _ c.args.sets.now c.cut_moves.new.sets c.cut_unmet.new.sets
     (move_cut tree c.args.trial.now.live.now c.args.trial.now.opened.now c.args.trial.now.scope.now.names.now c.args.trial.now.name.now
     c.args.played.now c.is_own_part-origin.result c.is_own_part-goal.result c.is_own_part-taken.result
     c.args.sets.now c.cut_moves.new.sets c.is_own_part-origin.ensures c.is_own_part-goal.ensures c.is_own_part-taken.ensures c.cut_moves.ensures)
-    c.in_ok-cover_free_parts.ensures.cut
-
-pub cover_moves::cover_free_parts-returns-clause-cut : goal.cover_moves::cover_free_parts-returns-clause-cut
-cover_moves::cover_free_parts-returns-clause-cut g t c =
-    let tree = tree_in c.args.trial.now.scope.now in
-    let asks = c.in_ok-parts.ensures.asks in
-    on_ok_weaker c.cut_unmet.result
-    (λ cut. free_parts_cut tree c.args.trial.now.live.now c.as_slice-some.result.now asks.wide c.args.trial.now.opened.now
+    (free_parts_cut tree c.args.trial.now.live.now c.as_slice-some.result.now asks.wide c.args.trial.now.opened.now
     c.args.trial.now.scope.now.names.now c.args.trial.now.name.now c.args.played.now
-    c.in_ok-parts.parts.origin c.in_ok-goal.goal c.in_ok-parts.parts.taken c.in_ok-parts.parts.promoted c.args.sets.now c.cut_unmet.new.sets
-    (subst (HasSome tree c.args.trial.now.live.now c.args.sets.now) (sym c.as_slice-some.ensures.value) c.in_ok-some.ensures)
-    asks.before_live asks.origin c.in_ok-goal.ensures.asks asks.taken asks.promoted cut)
+    c.in_ok-parts.parts.origin c.in_ok-goal.goal c.in_ok-parts.parts.taken c.in_ok-parts.parts.promoted c.cut_moves.new.sets c.cut_unmet.new.sets
+    (subst (HasSome tree c.args.trial.now.live.now c.cut_moves.new.sets) (sym c.as_slice-some.ensures.value) c.in_ok-some.ensures)
+    asks.before_live asks.origin c.in_ok-goal.ensures.asks asks.taken asks.promoted cut))
     c.cut_unmet.ensures.cut
 
 pub cover_moves::free_columns-returns-clause-asks : goal.cover_moves::free_columns-returns-clause-asks
@@ -67,14 +111,9 @@ cover_moves::free_columns-returns-clause-asks g t c = record {
 
 pub cover_moves::free_column-returns-clause-asks : goal.cover_moves::free_column-returns-clause-asks
 cover_moves::free_column-returns-clause-asks g t c =
-    asks_free (tree_in c.args.trial.now.scope.now) c.args.trial.now.opened.now c.args.trial.now.scope.now.names.now (written_tree c.args.written.now) c.args.live.now c.in_ok-column.column
-    (c.is_free_and_written.ensures c.if-not-is_free_and_written.false) c.in_ok-column.ensures.value
-
-pub covers::cover_chain-returns-clause-cut : goal.covers::cover_chain-returns-clause-cut
-covers::cover_chain-returns-clause-cut g t c =
-    all_cut (tree_in c.args.trial.now.scope.now) c.args.trial.now.live.now c.args.trial.now.opened.now c.args.trial.now.scope.now.names.now
-    c.args.trial.now.name.now c.args.chain (filters_tree c.args.parts.now)
-    c.args.sets.now c.cover_all.new.sets (c.is_all.ensures c.if-not-is_all.false) c.in_ok-cover_all.ensures.cut
+    IfOk_then c.written_column.result c.written_column.ensures.value
+    (λ column. asks_free (tree_in c.args.trial.now.scope.now) c.args.trial.now.opened.now c.args.trial.now.scope.now.names.now (written_tree c.args.written.now) c.args.live.now column
+    (c.is_free_and_written.ensures c.if-not-is_free_and_written.false))
 
 pub covers::cover_all-loop-class-init : goal.covers::cover_all-loop-class-init
 covers::cover_all-loop-class-init g t c = record { cut = cut_same c.args.trial.now.live.now _ c.args.sets.now; cost = refl }
@@ -103,12 +142,6 @@ covers::cover_class-loop-part-preserved g t c = record {
   flat = c.loop-part.invariant.flat;
 }
 
-pub covers::cover_common-returns-clause-cut : goal.covers::cover_common-returns-clause-cut
-covers::cover_common-returns-clause-cut g t c =
-    common_cut (tree_in c.args.trial.now.scope.now) c.args.trial.now.live.now c.args.trial.now.opened.now c.args.trial.now.scope.now.names.now
-    c.args.trial.now.name.now c.args.chain (filters_tree c.args.parts.now)
-    c.args.sets.now c.cover_each.new.sets (c.is_intersection.ensures c.if-not-is_intersection.false) c.in_ok-cover_each.ensures.cut
-
 pub covers::cover_each-loop-part-init : goal.covers::cover_each-loop-part-init
 covers::cover_each-loop-part-init g t c = record {
   cut = cut_same c.args.trial.now.live.now _ c.args.sets.now;
@@ -127,33 +160,38 @@ covers::cover_each-loop-part-preserved g t c = record {
   flat = c.loop-part.invariant.flat;
 }
 
-pub covers::cover_set-returns-in_ok-cover_related-in-Pair-clause-cut : goal.covers::cover_set-returns-in_ok-cover_related-in-Pair-clause-cut
-covers::cover_set-returns-in_ok-cover_related-in-Pair-clause-cut g t c =
-    pair_cut (tree_in c.args.trial.now.scope.now) c.args.trial.now.live.now c.args.trial.now.opened.now c.args.trial.now.scope.now.names.now
+pub covers::cover_set-returns-in_ok-cover_set-in-Pair-clause-cut : goal.covers::cover_set-returns-in_ok-cover_set-in-Pair-clause-cut
+covers::cover_set-returns-in_ok-cover_set-in-Pair-clause-cut g t c =
+    on_ok_weaker c.cover_related.result
+    (λ cut. pair_cut (tree_in c.args.trial.now.scope.now) c.args.trial.now.live.now c.args.trial.now.opened.now c.args.trial.now.scope.now.names.now
     c.args.trial.now.name.now (filter_tree c.args.asked.now)
     (filter_tree c.deref.result.now) (filter_tree c.deref-in-Pair.result.now) c.args.asked.now.at c.in-Pair.pair c.args.sets.now c.cover_set.new.sets c.cover_related.new.sets
     (ap (λ form. filter_at c.args.asked.now.at (form_tree form)) c.in-Pair.is
     ∙ sym (ap₂ (λ p q. filter_at c.args.asked.now.at (pair c.in-Pair.pair (filter_tree p) (filter_tree q))) c.deref.ensures c.deref-in-Pair.ensures))
-    (c.is_attack.ensures c.if-not-is_attack.false) c.in_ok-cover_set-in-Pair.ensures.cut c.in_ok-cover_related-in-Pair.ensures.cut
+    (c.is_attack.ensures c.if-not-is_attack.false) c.in_ok-cover_set-in-Pair.ensures.cut cut)
+    c.cover_related.ensures.cut
 
-pub covers::cover_turned-returns-in_ok-cover_related-in-Pair-clause-cut : goal.covers::cover_turned-returns-in_ok-cover_related-in-Pair-clause-cut
-covers::cover_turned-returns-in_ok-cover_related-in-Pair-clause-cut g t c =
-    turned_cut (tree_in c.args.trial.now.scope.now) c.args.trial.now.live.now c.args.trial.now.opened.now c.args.trial.now.scope.now.names.now
+pub covers::cover-returns-else-not-is_own-clause-cut : goal.covers::cover-returns-else-not-is_own-clause-cut
+covers::cover-returns-else-not-is_own-clause-cut g t c =
+    on_ok_weaker c.cover_related.result
+    (λ cut. turned_cut (tree_in c.args.trial.now.scope.now) c.args.trial.now.live.now c.args.trial.now.opened.now c.args.trial.now.scope.now.names.now
     c.args.trial.now.name.now (filter_tree c.args.asked.now)
-    (filter_tree c.deref-in-Pair.result.now) (filter_tree c.deref.result.now) c.args.asked.now.at c.in-Pair.pair c.turned-other.result c.args.sets.now c.cover_related.new.sets
+    (filter_tree c.deref-in-Pair-2.result.now) (filter_tree c.deref-in-Pair.result.now) c.args.asked.now.at c.in-Pair.pair c.turned.result c.args.sets.now c.cover_related.new.sets
     (ap (λ form. filter_at c.args.asked.now.at (form_tree form)) c.in-Pair.is
-    ∙ sym (ap₂ (λ p q. filter_at c.args.asked.now.at (pair c.in-Pair.pair (filter_tree p) (filter_tree q))) c.deref-in-Pair.ensures c.deref.ensures))
-    (c.is_attack.ensures c.if-not-is_attack.false) c.turned-other.ensures.attacks c.turned-other.ensures.attacked (c.is_own.ensures c.if-not-is_own.false)
-    c.in_ok-cover_related-in-Pair.ensures.cut
+    ∙ sym (ap₂ (λ p q. filter_at c.args.asked.now.at (pair c.in-Pair.pair (filter_tree p) (filter_tree q))) c.deref-in-Pair-2.ensures c.deref-in-Pair.ensures))
+    (c.is_attack.ensures c.if-not-is_attack.false) c.turned.ensures.attacks c.turned.ensures.attacked (c.is_own-in-Pair.ensures c.if-not-is_own.false)
+    cut)
+    c.cover_related.ensures.cut
 
-pub cover_squares::cover_square-returns-in_ok-cover_pair-in-Square-clause-cut : goal.cover_squares::cover_square-returns-in_ok-cover_pair-in-Square-clause-cut
-cover_squares::cover_square-returns-in_ok-cover_pair-in-Square-clause-cut g t c =
+pub cover_squares::cover_square-returns-in_ok-cover_inner-in-Square-clause-cut : goal.cover_squares::cover_square-returns-in_ok-cover_inner-in-Square-clause-cut
+cover_squares::cover_square-returns-in_ok-cover_inner-in-Square-clause-cut g t c =
     let tree = tree_in c.args.trial.now.scope.now in
     let every = c.in-Square.every in
     let inner = c.as_slice-inner.result.now in
     let squares = filter_tree c.deref-in-Square.result.now in
     let asked = c.args.asked.now in
-    square_cut tree c.args.trial.now.live.now c.args.trial.now.opened.now c.args.trial.now.scope.now.names.now c.args.trial.now.name.now
+    on_ok_weaker c.cover_pair.result
+    (λ cut. square_cut tree c.args.trial.now.live.now c.args.trial.now.opened.now c.args.trial.now.scope.now.names.now c.args.trial.now.name.now
     (filter_tree asked) squares (filter_tree c.deref.result.now) asked.at every inner
     c.args.sets.now c.cover_pair.new.sets
     (ap (λ form. filter_at asked.at (form_tree form)) c.in-Square.is ∙ sym (square_same asked.at every _ _ _ _ _ _ c.as_slice-inner.ensures
@@ -166,7 +204,8 @@ cover_squares::cover_square-returns-in_ok-cover_pair-in-Square-clause-cut g t c 
     (λ e. value tree [] e squares))
     (subst (λ part. AreCut c.args.trial.now.live.now (MayHold c.args.trial.now.opened.now c.args.trial.now.scope.now.names.now c.args.trial.now.name.now
     (λ e n. square_of false (value tree [] e squares n) (λ s. holds (value tree [] ((inner, s) ∷ e) (filter_tree part) n)))) c.cover_inner.new.sets c.cover_pair.new.sets)
-    (c.deref-in-Square-2.ensures ∙ sym c.deref.ensures) c.in_ok-cover_pair-in-Square.ensures.cut)))
+    (c.deref-in-Square-2.ensures ∙ sym c.deref.ensures) cut))))
+    c.cover_pair.ensures.cut
 
 pub cover_squares::cover_inner-returns-clause-cut : goal.cover_squares::cover_inner-returns-clause-cut
 cover_squares::cover_inner-returns-clause-cut g t c =
@@ -199,53 +238,51 @@ covers::cover_elsewhere-returns-clause-cut g t c =
     (written_sets c.in_ok-there.there.len c.cover.new.sets c.in_ok-there.there.items (omega (arith, c.cover.ensures.len, c.deref_mut.ensures.len))) c.in_ok-back.ensures)
     c.cut.ensures
 
-pub covers::cover-returns-in_ok-cover_elsewhere-in-Unary-clause-cut : goal.covers::cover-returns-in_ok-cover_elsewhere-in-Unary-clause-cut
-covers::cover-returns-in_ok-cover_elsewhere-in-Unary-clause-cut g t c =
-    unary_cut (tree_in c.args.trial.now.scope.now) c.args.trial.now.live.now c.args.trial.now.opened.now c.args.trial.now.scope.now.names.now
+pub covers::cover-returns-in-Unary-clause-cut : goal.covers::cover-returns-in-Unary-clause-cut
+covers::cover-returns-in-Unary-clause-cut g t c =
+    on_ok_weaker c.cover_elsewhere.result
+    (λ cut. unary_cut (tree_in c.args.trial.now.scope.now) c.args.trial.now.live.now c.args.trial.now.opened.now c.args.trial.now.scope.now.names.now
     c.args.trial.now.name.now (filter_tree c.args.asked.now)
     (filter_tree c.deref.result.now) c.args.asked.now.at c.in-Unary.word c.args.sets.now c.cover_elsewhere.new.sets
     (ap (λ form. filter_at c.args.asked.now.at (form_tree form)) c.in-Unary.is
     ∙ sym (ap (λ p. filter_at c.args.asked.now.at (unary c.in-Unary.word (filter_tree p))) c.deref.ensures))
-    c.in_ok-cover_elsewhere-in-Unary.ensures.cut
+    cut)
+    c.cover_elsewhere.ensures.cut
 
-pub covers::cover_chain-returns-then-is_or-clause-cut : goal.covers::cover_chain-returns-then-is_or-clause-cut
-covers::cover_chain-returns-then-is_or-clause-cut g t c =
-    or_cut (tree_in c.args.trial.now.scope.now) c.args.trial.now.live.now c.args.trial.now.opened.now c.args.trial.now.scope.now.names.now
-    c.args.trial.now.name.now c.args.chain (filters_tree c.args.parts.now)
-    c.args.sets.now c.cover_some.new.sets (c.is_or.ensures c.if-is_or.true) c.in_ok-cover_some.ensures.cut
-
-pub cover_some::cover_some-returns-clause-cut : goal.cover_some::cover_some-returns-clause-cut
-cover_some::cover_some-returns-clause-cut g t c =
-    let P = MayHold c.args.trial.now.opened.now c.args.trial.now.scope.now.names.now c.args.trial.now.name.now
-    (λ e n. some_holds (values (tree_in c.args.trial.now.scope.now) [] e (filters_tree c.args.parts.now) n)) in
-    let same = written_sets c.in_ok-kept.kept.len c.add_each.new.kept c.in_ok-kept.kept.items (omega (arith, c.add_each.ensures.len, c.deref_mut.ensures.len)) in
-    some_cut c.args.trial.now.live.now P c.deref_mut.result.now _ c.args.sets.now c.cut.new.sets
-    (subst (AreAdded c.args.trial.now.live.now P c.args.sets.now c.deref_mut.result.now) (sym same) c.in_ok-add_each.ensures.added) c.cut.ensures
-
-pub cover_some::add_each-loop-part-init : goal.cover_some::add_each-loop-part-init
-cover_some::add_each-loop-part-init g t c = record {
+pub cover_some::cover_some-loop-part-init : goal.cover_some::cover_some-loop-part-init
+cover_some::cover_some-loop-part-init g t c = record {
   added = added_none (tree_in c.args.trial.now.scope.now) c.args.trial.now.live.now c.args.trial.now.opened.now c.args.trial.now.scope.now.names.now
-      c.args.trial.now.name.now c.as_slice-part-items.result.now c.args.sets.now c.args.kept.now;
+      c.args.trial.now.name.now c.as_slice-part-items.result.now c.args.sets.now c.in_ok-kept.kept.items;
+  count = c.in_ok-kept.ensures;
   cost = refl;
   flat = λ i f h e. filter_flat c.as_slice-part-items.result.now i f (filters_tree c.args.parts.now) h e c.as_slice-part-items.ensures.tree c.requires.flat;
 }
 
-pub cover_some::add_each-loop-part-preserved : goal.cover_some::add_each-loop-part-preserved
-cover_some::add_each-loop-part-preserved g t c = record {
-  added = added_more (tree_in c.args.trial.now.scope.now) c.args.trial.now.live.now c.args.trial.now.opened.now c.args.trial.now.scope.now.names.now
-      c.args.trial.now.name.now c.as_slice-part-items.result.now c.loop-part.part-index
-      c.part-item.result c.args.sets.now c.args.kept.now c.loop-part.kept c.add_covered.new.kept c.part-item.is c.loop-part-test.true
-      c.loop-part.invariant.added c.in_ok-add_covered.ensures.added;
-  cost = c.add_covered.ensures.cost ∙ c.loop-part.invariant.cost;
-  flat = c.loop-part.invariant.flat;
-}
+pub cover_some::cover_some-loop-part-preserved : goal.cover_some::cover_some-loop-part-preserved
+cover_some::cover_some-loop-part-preserved g t c =
+    let For = AddedFor (tree_in c.args.trial.now.scope.now) c.args.trial.now.live.now c.args.trial.now.opened.now c.args.trial.now.scope.now.names.now
+    c.args.trial.now.name.now c.as_slice-part-items.result.now in
+    let same = written_sets c.loop-part.kept.len c.add_covered.new.kept c.loop-part.kept.items (omega (arith, c.add_covered.ensures.len, c.deref_mut.ensures.len)) in
+    record {
+      added = subst (For (c.loop-part.part-index + 1) c.args.sets.now c.in_ok-kept.kept.items) (sym same)
+          (added_more (tree_in c.args.trial.now.scope.now) c.args.trial.now.live.now c.args.trial.now.opened.now c.args.trial.now.scope.now.names.now
+          c.args.trial.now.name.now c.as_slice-part-items.result.now c.loop-part.part-index
+          c.part-item.result c.args.sets.now c.in_ok-kept.kept.items c.deref_mut.result.now c.add_covered.new.kept c.part-item.is c.loop-part-test.true
+          (subst (For c.loop-part.part-index c.args.sets.now c.in_ok-kept.kept.items) (sym c.deref_mut.ensures.value) c.loop-part.invariant.added)
+          c.in_ok-add_covered.ensures.added);
+      count = ap length same ∙ c.add_covered.ensures.len ∙ ap length c.deref_mut.ensures.value ∙ c.loop-part.invariant.count;
+      cost = c.add_covered.ensures.cost ∙ c.loop-part.invariant.cost;
+      flat = c.loop-part.invariant.flat;
+    }
 
-pub cover_some::add_each-returns-clause-added : goal.cover_some::add_each-returns-clause-added
-cover_some::add_each-returns-clause-added g t c =
-    added_all (tree_in c.args.trial.now.scope.now) c.args.trial.now.live.now c.args.trial.now.opened.now c.args.trial.now.scope.now.names.now
+pub cover_some::cover_some-returns-clause-cut : goal.cover_some::cover_some-returns-clause-cut
+cover_some::cover_some-returns-clause-cut g t c =
+    some_cut c.args.trial.now.live.now (MayHold c.args.trial.now.opened.now c.args.trial.now.scope.now.names.now c.args.trial.now.name.now
+    (λ e n. some_holds (values (tree_in c.args.trial.now.scope.now) [] e (filters_tree c.args.parts.now) n))) c.in_ok-kept.kept.items _ c.args.sets.now c.cut.new.sets
+    (added_all (tree_in c.args.trial.now.scope.now) c.args.trial.now.live.now c.args.trial.now.opened.now c.args.trial.now.scope.now.names.now
     c.args.trial.now.name.now c.as_slice-part-items.result.now c.loop-part.part-index
-    (filters_tree c.args.parts.now) c.args.sets.now c.args.kept.now c.loop-part.kept (omega (arith, c.loop-part-test.false))
-    c.as_slice-part-items.ensures.tree c.loop-part.invariant.added
+    (filters_tree c.args.parts.now) c.args.sets.now c.in_ok-kept.kept.items c.loop-part.kept.items (omega (arith, c.loop-part-test.false))
+    c.as_slice-part-items.ensures.tree c.loop-part.invariant.added) c.cut.ensures
 
 pub cover_some::add_covered-returns-clause-added : goal.cover_some::add_covered-returns-clause-added
 cover_some::add_covered-returns-clause-added g t c =
@@ -260,18 +297,41 @@ cover_some::add_covered-returns-clause-added g t c =
       c.deref_mut.ensures.len,
     ))) c.add_sets.ensures)
 
-pub covers::cover-returns-in-Chain-clause-cut : goal.covers::cover-returns-in-Chain-clause-cut
-covers::cover-returns-in-Chain-clause-cut g t c =
-    subst (λ v. OnOk c.cover_chain.result (AreCut c.args.trial.now.live.now (MayHold c.args.trial.now.opened.now c.args.trial.now.scope.now.names.now c.args.trial.now.name.now v)
-    c.args.sets.now c.cover_chain.new.sets))
-    (fun_ext (λ e. chain_form (tree_in c.args.trial.now.scope.now) e (filter_tree c.args.asked.now) c.args.asked.now.at c.in-Chain.chain (filters_tree c.in-Chain.parts)
-    (ap (λ form. filter_at c.args.asked.now.at (form_tree form)) c.in-Chain.is)))
-    c.cover_chain.ensures.cut
+pub covers::cover_free-returns : goal.covers::cover_free-returns
+covers::cover_free-returns g t c = record {
+  cut = free_cut (tree_in c.args.trial.now.scope.now) c.args.trial.now.live.now c.in_ok-some.some.items c.deref.result.now c.deref-2.result.now c.args.trial.now.opened.now
+      c.args.trial.now.scope.now.names.now c.args.trial.now.name.now (filter_tree c.args.asked.now) c.in_ok-column.column c.args.sets.now c.cut_where_fails.new.sets
+      c.deref.ensures.value c.deref-2.ensures.value c.in_ok-some.ensures c.requires.free c.in_ok-column.ensures.value c.cut_where_fails.ensures;
+  len = c.cut_where_fails.ensures.count;
+  cost = no_steps _ _ _ (c.requires.free.cost (searched_len (tree_in c.args.trial.now.scope.now))) c.evaluate.ensures.cost c.evaluate.ensures.rises;
+}
 
-pub covers::cover_set-returns-in-Chain-clause-cut : goal.covers::cover_set-returns-in-Chain-clause-cut
-covers::cover_set-returns-in-Chain-clause-cut g t c =
-    subst (λ v. OnOk c.cover_common.result (AreCut c.args.trial.now.live.now (MayHave c.args.trial.now.opened.now c.args.trial.now.scope.now.names.now c.args.trial.now.name.now v)
-    c.args.sets.now c.cover_common.new.sets))
-    (fun_ext (λ e. chain_form (tree_in c.args.trial.now.scope.now) e (filter_tree c.args.asked.now) c.args.asked.now.at c.in-Chain.chain (filters_tree c.in-Chain.parts)
-    (ap (λ form. filter_at c.args.asked.now.at (form_tree form)) c.in-Chain.is)))
-    c.cover_common.ensures.cut
+pub covers::cover_free-returns-in_err-column-clause-cost : goal.covers::cover_free-returns-in_err-column-clause-cost
+covers::cover_free-returns-in_err-column-clause-cost g t c =
+    no_steps _ _ _ (c.requires.free.cost (searched_len (tree_in c.args.trial.now.scope.now))) c.evaluate.ensures.cost c.evaluate.ensures.rises
+
+pub covers::cover_free_set-returns : goal.covers::cover_free_set-returns
+covers::cover_free_set-returns g t c = record {
+  cut = free_set_cut (tree_in c.args.trial.now.scope.now) c.args.trial.now.live.now c.in_ok-some.some.items c.deref.result.now c.deref-2.result.now c.args.trial.now.opened.now
+      c.args.trial.now.scope.now.names.now c.args.trial.now.name.now (filter_tree c.args.asked.now) c.in_ok-column.column c.args.sets.now c.cut.new.sets
+      c.deref.ensures.value c.deref-2.ensures.value c.in_ok-some.ensures c.requires.free c.in_ok-column.ensures.value c.cut.ensures;
+  len = c.cut.ensures.count;
+  cost = no_steps _ _ _ (c.requires.free.cost (searched_len (tree_in c.args.trial.now.scope.now))) c.evaluate.ensures.cost c.evaluate.ensures.rises;
+}
+
+pub covers::cover_free_set-returns-in_err-column-clause-cost : goal.covers::cover_free_set-returns-in_err-column-clause-cost
+covers::cover_free_set-returns-in_err-column-clause-cost g t c =
+    no_steps _ _ _ (c.requires.free.cost (searched_len (tree_in c.args.trial.now.scope.now))) c.evaluate.ensures.cost c.evaluate.ensures.rises
+
+pub covers::cover_related-returns : goal.covers::cover_related-returns
+covers::cover_related-returns g t c = record {
+  cut = related_cut (tree_in c.args.trial.now.scope.now) c.args.trial.now.live.now c.in_ok-some.some.items c.deref.result.now c.deref-2.result.now c.args.trial.now.opened.now
+      c.args.trial.now.scope.now.names.now c.args.trial.now.name.now (filter_tree c.args.second.now) c.in_ok-column.column c.args.sets.now c.cut_related.new.sets
+      c.deref.ensures.value c.deref-2.ensures.value c.in_ok-some.ensures (c.is_free.ensures c.if-not-is_free.false) c.in_ok-column.ensures.value c.args.pair c.cut_related.ensures;
+  len = c.cut_related.ensures.count;
+  cost = no_steps _ _ _ ((c.is_free.ensures c.if-not-is_free.false).cost (searched_len (tree_in c.args.trial.now.scope.now))) c.evaluate.ensures.cost c.evaluate.ensures.rises;
+}
+
+pub covers::cover_related-returns-in_err-column-clause-cost : goal.covers::cover_related-returns-in_err-column-clause-cost
+covers::cover_related-returns-in_err-column-clause-cost g t c =
+    no_steps _ _ _ ((c.is_free.ensures c.if-not-is_free.false).cost (searched_len (tree_in c.args.trial.now.scope.now))) c.evaluate.ensures.cost c.evaluate.ensures.rises

@@ -9,44 +9,45 @@ use Rattle.cql_columns.specs.Moved.{AsksGoal}
 use Rattle.cql_columns.specs.Scopes.{tree_in}
 use Rattle.cql_columns.specs.Promoting.{ArePromoting}
 use Rattle.cql_columns.proofs.AttackLaw.{only_one}
-use Rattle.cql_eval.proofs.FlatLaw.{filter_flat}
+use Rattle.cql_columns.specs.FlatTrees.{unflat}
+use Rattle.cql_eval.proofs.FlatLaw.{filter_flat, form_flat}
 use Rattle.cql_eval.proofs.FormLaws.{IfOk_then}
 use Rattle.cql_columns.proofs.MovedLaw.{goal_alone, goal_chain, goal_form, goal_met_is}
 use Rattle.cql_eval.proofs.evaluate.+evaluate.Goals as goal
 
-pub goals::goal_truths-returns-in_ok-in_chain-in-Chain-clause-value : goal.goals::goal_truths-returns-in_ok-in_chain-in-Chain-clause-value
-goals::goal_truths-returns-in_ok-in_chain-in-Chain-clause-value g t c = IfSome_then c.in_ok-in_chain-in-Chain.in_chain c.in_ok-in_chain-in-Chain.ensures.value (λ truths are n l. are n l
-    ∙ sym (goal_chain (tree_in c.args.binding.now.scope.now) c.args.binding.now.scope.now.names.now c.args.binding.now.name.now c.args.binding.now.every (shown c.args.binding.now.squares.now n) n c.args.asked.now.at (filter_tree c.args.asked.now) c.in-Chain.chain (filters_tree c.in-Chain.parts)
-    (ap (λ form. filter_at c.args.asked.now.at (form_tree form)) c.in-Chain.is)))
-
-pub goals::goal_truths-returns-in_ok-met-in-Played-clause-value : goal.goals::goal_truths-returns-in_ok-met-in-Played-clause-value
-goals::goal_truths-returns-in_ok-met-in-Played-clause-value g t c = IfSome_then c.in_ok-met-in-Played.met c.in_ok-met-in-Played.ensures.value (λ truths are n l. are n l
+pub goals::goal_truths-returns-in-Played-clause-value : goal.goals::goal_truths-returns-in-Played-clause-value
+goals::goal_truths-returns-in-Played-clause-value g t c =
+    IfOk_then c.goal_met.result c.goal_met.ensures.value (λ at_once given. IfSome_then at_once given (λ truths are n l. are n l
     ∙ sym (goal_form (tree_in c.args.binding.now.scope.now) c.args.binding.now.scope.now.names.now c.args.binding.now.name.now c.args.binding.now.every (shown c.args.binding.now.squares.now n) n c.args.asked.now.at (filter_tree c.args.asked.now) (played_tree c.in-Played.played)
-    (ap (λ form. filter_at c.args.asked.now.at (form_tree form)) c.in-Played.is)))
+    (ap (λ form. filter_at c.args.asked.now.at (form_tree form)) c.in-Played.is))))
 
-pub goals::goal_in-loop-part-init : goal.goals::goal_in-loop-part-init
-goals::goal_in-loop-part-init g t c = record {
+pub goals::goal_truths-loop-part-init : goal.goals::goal_truths-loop-part-init
+unfolding unflat
+goals::goal_truths-loop-part-init g t c = record {
   first = refl;
   cost = refl;
-  flat = λ i f h e. filter_flat c.as_slice-part-items.result.now i f (filters_tree c.args.parts.now) h e c.as_slice-part-items.ensures.tree c.requires.flat;
+  flat = λ i f h e. filter_flat c.as_slice-part-items.result.now i f (filters_tree c.in-Chain.parts) h e c.as_slice-part-items.ensures.tree
+      (form_flat c.args.asked.now _ (ap form_tree c.in-Chain.is) c.requires.flat);
 }
 
-pub goals::goal_in-returns-in-loop-part-clause-value : goal.goals::goal_in-returns-in-loop-part-clause-value
-goals::goal_in-returns-in-loop-part-clause-value g t c =
+pub goals::goal_truths-returns-in-loop-part-clause-value : goal.goals::goal_truths-returns-in-loop-part-clause-value
+goals::goal_truths-returns-in-loop-part-clause-value g t c =
     let long : length c.as_slice-part-items.result.now ≡ 1 = omega (arith, ap length c.as_slice-part-items.ensures.items, c.len.ensures, c.if-len-ne1.false) in
     let first : c.part-item.result ≡ get_or c.as_slice-part-items.result.now 0 c.part-item.result =
     c.part-item.is ∙ ap (λ i. get_or c.as_slice-part-items.result.now i c.part-item.result) c.loop-part.invariant.first in
     let one = only_one (λ f. f ≡ filter_tree c.part-item.result) c.as_slice-part-items.result.now c.part-item.result long first refl in
-    IfSome_then c.in_ok-alone.alone c.in_ok-alone.ensures.value (λ truths are n l. are n l
-    ∙ sym (goal_alone (tree_in c.args.binding.now.scope.now) c.args.binding.now.scope.now.names.now c.args.binding.now.name.now c.args.binding.now.every (shown c.args.binding.now.squares.now n) n c.args.chain (filters_tree c.args.parts.now) (filter_tree c.part-item.result)
-    (c.is_all.ensures c.if-not-is_all.false) (sym c.as_slice-part-items.ensures.tree ∙ one.are ∙ ap (λ f. more_filters f no_filters) one.is)))
+    IfOk_then c.goal_truths.result c.goal_truths.ensures.value (λ at_once given. IfSome_then at_once given (λ truths are n l. are n l
+    ∙ sym (goal_alone (tree_in c.args.binding.now.scope.now) c.args.binding.now.scope.now.names.now c.args.binding.now.name.now c.args.binding.now.every (shown c.args.binding.now.squares.now n) n c.in-Chain.chain (filters_tree c.in-Chain.parts) (filter_tree c.part-item.result)
+    (c.is_all.ensures c.if-not-is_all.false) (sym c.as_slice-part-items.ensures.tree ∙ one.are ∙ ap (λ f. more_filters f no_filters) one.is))
+    ∙ sym (goal_chain (tree_in c.args.binding.now.scope.now) c.args.binding.now.scope.now.names.now c.args.binding.now.name.now c.args.binding.now.every (shown c.args.binding.now.squares.now n) n c.args.asked.now.at (filter_tree c.args.asked.now) c.in-Chain.chain (filters_tree c.in-Chain.parts)
+    (ap (λ form. filter_at c.args.asked.now.at (form_tree form)) c.in-Chain.is))))
 
 pub goals::goal_met-returns-clause-value : goal.goals::goal_met-returns-clause-value
 goals::goal_met-returns-clause-value g t c =
     let tree = tree_in c.args.binding.now.scope.now in
     let looked : ArePromoting tree c.is_some-promotes.result c.args.live.now c.as_slice-some.result.now
     = subst (ArePromoting tree c.is_some-promotes.result c.args.live.now) (sym c.as_slice-some.ensures.value) c.in_ok-some.ensures in
-    IfOk_then c.moved_there.result c.moved_there.ensures (λ there given. IfSome_then there given (λ truths are n l.
+    IfOk_then c.moved_there-there.result c.moved_there-there.ensures (λ there given. IfSome_then there given (λ truths are n l.
     let at = are n in
     goal_met_is tree c.args.binding.now.scope.now.names.now c.args.binding.now.name.now c.args.binding.now.every c.args.played.now (shown c.args.binding.now.squares.now n)
     c.args.live.now c.as_slice-some.result.now c.is_some-promotes.result _ at.0 n c.in_ok-parts.parts c.requires.some

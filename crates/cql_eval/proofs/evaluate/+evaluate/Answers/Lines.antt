@@ -18,11 +18,6 @@ use Rattle.cql_columns.proofs.LineTables.{part_room}
 use Rattle.cql_eval.proofs.FormLaws.{IfOk_then, within}
 use Rattle.cql_eval.proofs.evaluate.+evaluate.Goals as goal
 
-pub lines::filled_row-returns-clause-never : goal.lines::filled_row-returns-clause-never
-lines::filled_row-returns-clause-never g t c =
-    λ m. all_never (tree_in c.args.way.now.scope.now) c.args.way.now.back c.deref.result.now _
-    (subst (AreAllAsked (tree_in c.args.way.now.scope.now)) (sym c.deref.ensures.value) c.in_ok-all.ensures) (c.in_ok-put_row.ensures.never refl m)
-
 pub lines::put_row-loop-part-init : goal.lines::put_row-loop-part-init
 lines::put_row-loop-part-init g t c =
     let begun = table_begun (tree_in c.args.way.now.scope.now) c.args.way.now.back c.args.way.now.scope.now.names.now c.args.first
@@ -123,16 +118,16 @@ lines::put_wherever-returns-in_ok-held-in-Atom-clause-never g t c =
     c.in_ok-held-in-Atom.held.items c.in_ok-held-in-Atom.ensures
     (ap (list_any (λ x. x)) (sym c.deref-in-Atom-2.ensures.value) ∙ sym c.any_live-some.ensures ∙ not_some _ _ b (sym c.both-row.ensures ∙ m)))
 
-pub lines::put_marked-returns-clause-leads : goal.lines::put_marked-returns-clause-leads
-lines::put_marked-returns-clause-leads g t c =
+pub lines::put_part-returns-clause-leads : goal.lines::put_part-returns-clause-leads
+lines::put_part-returns-clause-leads g t c =
     wide_leads_at (tree_in c.args.way.now.scope.now) c.requires.tree c.args.way.now.back c.args.starts.now.items c.deref.result.now c.in_ok-wide.wide.items
     c.deref-2.result.now c.deref.ensures.value c.deref-2.ensures.value
     c.requires.asked c.in_ok-wide.ensures c.put_wherever.new.row.table (c.args.first + body_atoms (body_tree c.args.part.now.body))
     (body_numbered c.args.first (body_tree c.args.part.now.body))
     (body_in c.args.way.now.scope.now (body_tree c.args.part.now.body)) c.args.part.now.mark c.in_ok-next.ensures.value
 
-pub lines::put_marked-returns-clause-ends : goal.lines::put_marked-returns-clause-ends
-lines::put_marked-returns-clause-ends g t c =
+pub lines::put_part-returns-clause-ends : goal.lines::put_part-returns-clause-ends
+lines::put_part-returns-clause-ends g t c =
     λ b m. let parts = not_met _ _ _ b (sym c.goes_on-row.ensures ∙ m) in
     wide_ends_at (tree_in c.args.way.now.scope.now) c.requires.tree c.args.way.now.back c.args.starts.now.items c.deref.result.now c.in_ok-wide.wide.items
     c.deref-2.result.now c.deref.ensures.value c.deref-2.ensures.value
@@ -206,12 +201,13 @@ lines::put_atom_once-put_nodes-requires-clause-clear g t c = λ n. c.requires.ro
 pub lines::line_column-returns-then-not-met-clause-value : goal.lines::line_column-returns-then-not-met-clause-value
 lines::line_column-returns-then-not-met-clause-value g t c =
     λ n l. no_line (tree_in c.args.scope.now) c.requires.tree c.args.scope.now.names.now c.args.line.now c.new.result.items c.new.ensures.items
-    (c.in_ok-row.ensures.never c.if-not-met.true) n
+    (all_never (tree_in c.args.scope.now) _ c.deref.result.now _
+    (subst (AreAllAsked (tree_in c.args.scope.now)) (sym c.deref.ensures.value) c.in_ok-all.ensures) (c.in_ok-put_row.ensures.never refl c.if-not-met.true)) n
     (c.requires.asked.searched n l, let inside = live_below c.args.live.now n l in omega (arith, inside, c.requires.asked.count))
 
 pub lines::line_column-returns-then-not-met-clause-cost : goal.lines::line_column-returns-then-not-met-clause-cost
 lines::line_column-returns-then-not-met-clause-cost g t c =
-    atoms_within (searched_len (tree_in c.args.scope.now)) c.args.line.now _ c.filled_row.new.steps c.filled_row.ensures.cost
+    atoms_within (searched_len (tree_in c.args.scope.now)) c.args.line.now _ c.put_row.new.steps c.put_row.ensures.cost
 
 pub lines::line_column-returns-clause-value : goal.lines::line_column-returns-clause-value
 lines::line_column-returns-clause-value g t c =
@@ -220,11 +216,11 @@ lines::line_column-returns-clause-value g t c =
     is n (c.requires.asked.searched n l, omega (arith, inside, c.requires.asked.count)))
 
 pub lines::line_column-returns-clause-cost : goal.lines::line_column-returns-clause-cost
-lines::line_column-returns-clause-cost g t c = c.spelled_column.ensures.cost _ c.filled_row.ensures.cost
+lines::line_column-returns-clause-cost g t c = c.spelled_column.ensures.cost _ c.put_row.ensures.cost
 
-pub lines::line_column-returns-in_err-row-clause-cost : goal.lines::line_column-returns-in_err-row-clause-cost
-lines::line_column-returns-in_err-row-clause-cost g t c =
-    atoms_within (searched_len (tree_in c.args.scope.now)) c.args.line.now _ c.filled_row.new.steps c.filled_row.ensures.cost
+pub lines::line_column-returns-in_err-put_row-clause-cost : goal.lines::line_column-returns-in_err-put_row-clause-cost
+lines::line_column-returns-in_err-put_row-clause-cost g t c =
+    atoms_within (searched_len (tree_in c.args.scope.now)) c.args.line.now _ c.put_row.new.steps c.put_row.ensures.cost
 
 pub lines::put_wherever-returns-in_err-column-in-Atom-clause-cost : goal.lines::put_wherever-returns-in_err-column-in-Atom-clause-cost
 unfolding filter_cost

@@ -16,6 +16,7 @@ use Rattle.cql_columns.proofs.Wanting.{wanted_same, wanted_kept, turn_skip}
 use Rattle.cql_columns.specs.declared.filter_column.FilterColumn.TheVariants.{Sets}
 use Rattle.cql_columns.specs.Covers.{AreCut, AreWorthTrying, MayHold}
 use Rattle.cql_columns.proofs.CoverForms.{tried_same, worth_trying, written_sets}
+use Rattle.cql_eval.proofs.FormLaws.{IfOk_then}
 use Rattle.cql_eval.proofs.evaluate.+evaluate.Goals as goal
 
 pub squares::square_truths-loop-number-init : goal.squares::square_truths-loop-number-init
@@ -47,12 +48,12 @@ squares::square_truths-loop-number-preserved g t c =
     }
 
 pub squares::square_truths-returns-clause-value : goal.squares::square_truths-returns-clause-value
-squares::square_truths-returns-clause-value g t c = λ n l.
-    square_end (tree_in c.args.binding.now.scope.now) c.args.live.now c.args.binding.now.every (shown c.args.binding.now.squares.now)
+squares::square_truths-returns-clause-value g t c =
+    IfOk_then c.decided.result c.decided.ensures (λ truths are n l. square_end (tree_in c.args.binding.now.scope.now) c.args.live.now c.args.binding.now.every (shown c.args.binding.now.squares.now)
     (λ m s. holds (value (tree_in c.args.binding.now.scope.now) [] ((c.args.binding.now.name.now, s) ∷ c.args.binding.now.scope.now.names.now)
     (filter_tree c.args.asked.now) m))
-    c.loop-number.number c.loop-number.left.items c.in_ok-truths.truths.items
-    (omega (arith, c.loop-number-test.false, c.loop-number.auto.number-end)) c.requires.asked c.loop-number.invariant.left c.in_ok-truths.ensures n l
+    c.loop-number.number c.loop-number.left.items truths.items
+    (omega (arith, c.loop-number-test.false, c.loop-number.auto.number-end)) c.requires.asked c.loop-number.invariant.left are n l)
 
 pub squares::square_truths-returns-in-Some-clause-value : goal.squares::square_truths-returns-in-Some-clause-value
 squares::square_truths-returns-in-Some-clause-value g t c =
@@ -97,9 +98,9 @@ squares::covered_sets-returns-clause-worth g t c =
     (λ e. value (tree_in c.args.binding.now.scope.now) [] e (filter_tree c.args.asked.now))) old c.cover.new.sets) c.deref_mut.ensures.value c.in_ok-cover.ensures.cut))
 
 pub squares::asked_truths-returns-clause-value : goal.squares::asked_truths-returns-clause-value
-squares::asked_truths-returns-clause-value g t c = λ n l.
-    c.in_ok-truths.ensures.value n l
+squares::asked_truths-returns-clause-value g t c =
+    IfOk_then c.square_truths-truths.result c.square_truths-truths.ensures.value (λ truths are n l. are n l
     ∙ tried_same c.args.binding.now.every (shown c.args.binding.now.squares.now n) (shown (Sets c.in_ok-sets.sets) n)
     (λ s. holds (value (tree_in c.args.binding.now.scope.now) [] ((c.args.binding.now.name.now, s) ∷ c.args.binding.now.scope.now.names.now)
     (filter_tree c.args.asked.now) n)) c.if-every.false
-    (λ s. c.in_ok-sets.ensures.worth.within n s l) (λ s. c.in_ok-sets.ensures.worth.keeps n s l)
+    (λ s. c.in_ok-sets.ensures.worth.within n s l) (λ s. c.in_ok-sets.ensures.worth.keeps n s l))

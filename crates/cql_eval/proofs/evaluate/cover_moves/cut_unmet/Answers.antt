@@ -10,8 +10,8 @@ use Rattle.cql_eval.proofs.evaluate.cover_moves.cut_unmet.Goals as goal
 pub returns-clause-cut : goal.returns-clause-cut
 returns-clause-cut c =
     cut_as c.args.live.now
-    (λ n s. is_as_asked (tree_in c.args.scope.now) c.args.parts.now (option_map (λ x. shown x n) c.args.goal.now) n ≡ true)
-    (λ n s. holds (as_truth (get_or c.in_ok-met.met.items n false)) ≡ true) c.args.sets.now c.cut_where_fails.new.sets
-    (λ n s a asked. c.in_ok-met.ensures n
-    ∙ yes_both (is_live c.args.live.now n) (is_as_asked (tree_in c.args.scope.now) c.args.parts.now (option_map (λ x. shown x n) c.args.goal.now) n) a asked)
+    (λ n s. is_as_asked (tree_in c.args.scope.now) c.args.parts (option_map (λ x. shown x n) c.args.goal) n ≡ true)
+    (λ n s. holds (as_truth (get_or c.in_ok-met.field-0.items n false)) ≡ true) c.args.sets.now c.cut_where_fails.new.sets
+    (λ n s a asked. (rw c.in_ok-met.was at c.moves_met-met.ensures) n
+    ∙ yes_both (is_live c.args.live.now n) (is_as_asked (tree_in c.args.scope.now) c.args.parts (option_map (λ x. shown x n) c.args.goal) n) a asked)
     c.cut_where_fails.ensures
