@@ -36,7 +36,6 @@ use cql_values::words::directions;
 
 /// What a filter gives at a node.
 #[cycle(evaluate)]
-#[tactic(auto, unfolding(cql_syntax::specs::Meaning::value))]
 pub(crate) fn evaluate(f: &Filter, place: &Place, names: &mut Names) -> Result<Value, Halt>
     requires { IsAt place.now }
     ensures value { IfOk result (λ v. meant v ≡ value_at place.now names.old (filter_tree f.now) place.now.node) }
@@ -356,7 +355,6 @@ fn some_settles(
 // Whether the move that led to a node is as it is asked for: where it came from and what it took is asked at the node before, its goal and
 // what it became at the node itself.
 #[cycle(evaluate)]
-#[tactic(auto, unfolding(cql_syntax::specs::Meaning::value))]
 fn played_at(played: &Played, place: &Place, names: &mut Names) -> Result<bool, Halt>
     requires { IsAt place.now }
     ensures value { IfOk result (λ b. b ≡ meaning.played_value (tree_of place.now) [] names.old (played_tree played.now) place.now.node) }

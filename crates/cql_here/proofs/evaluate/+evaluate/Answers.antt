@@ -460,3 +460,88 @@ evaluate-returns-in-Any-clause-value t c =
     let e = c.args.names.now in
     IfOk-weaker c.any_at.result _ _ (λ v known. known ∙ any_value (tree_of place) e place.node f.at c.in-Any.kind (filters_tree c.in-Any.parts)
     ∙ sym (ap (λ form. value_at place e (filter_at f.at (form_tree form)) place.node) c.in-Any.is)) c.any_at.ensures.value
+
+-- names stay bound as they were, call by call
+pub evaluate-returns-in-Unary-clause-names : goal.evaluate-returns-in-Unary-clause-names
+evaluate-returns-in-Unary-clause-names t c = c.unary_at.ensures.names
+
+pub evaluate-returns-in_err-value-in-Steps-clause-names : goal.evaluate-returns-in_err-value-in-Steps-clause-names
+evaluate-returns-in_err-value-in-Steps-clause-names t c = c.evaluate.ensures.names
+
+pub evaluate-returns-in_ok-value-in-Steps-clause-names : goal.evaluate-returns-in_ok-value-in-Steps-clause-names
+evaluate-returns-in_ok-value-in-Steps-clause-names t c = c.evaluate.ensures.names
+
+pub evaluate-returns-in-Chain-clause-names : goal.evaluate-returns-in-Chain-clause-names
+evaluate-returns-in-Chain-clause-names t c = c.chain_at.ensures.names
+
+pub evaluate-returns-in_err-first-in-Pair-clause-names : goal.evaluate-returns-in_err-first-in-Pair-clause-names
+evaluate-returns-in_err-first-in-Pair-clause-names t c = c.evaluate-in-Pair.ensures.names
+
+pub evaluate-returns-in_err-second-in-Pair-clause-names : goal.evaluate-returns-in_err-second-in-Pair-clause-names
+evaluate-returns-in_err-second-in-Pair-clause-names t c = c.evaluate-in-Pair-2.ensures.names ∙ c.evaluate-in-Pair.ensures.names
+
+pub evaluate-returns-in_ok-second-in-Pair-clause-names : goal.evaluate-returns-in_ok-second-in-Pair-clause-names
+evaluate-returns-in_ok-second-in-Pair-clause-names t c = c.evaluate-in-Pair-2.ensures.names ∙ c.evaluate-in-Pair.ensures.names
+
+pub evaluate-returns-in_err-condition-in-If-clause-names : goal.evaluate-returns-in_err-condition-in-If-clause-names
+evaluate-returns-in_err-condition-in-If-clause-names t c = c.evaluate-in-If.ensures.names
+
+pub evaluate-returns-in_err-then-in-If-clause-names : goal.evaluate-returns-in_err-then-in-If-clause-names
+evaluate-returns-in_err-then-in-If-clause-names t c = c.evaluate-in-If-2.ensures.names ∙ c.evaluate-in-If.ensures.names
+
+pub evaluate-returns-in_err-otherwise-in-If-clause-names : goal.evaluate-returns-in_err-otherwise-in-If-clause-names
+evaluate-returns-in_err-otherwise-in-If-clause-names t c = c.evaluate-in-If-3.ensures.names ∙ c.evaluate-in-If-2.ensures.names ∙ c.evaluate-in-If.ensures.names
+
+pub evaluate-returns-in_ok-otherwise-in-If-clause-names : goal.evaluate-returns-in_ok-otherwise-in-If-clause-names
+evaluate-returns-in_ok-otherwise-in-If-clause-names t c = c.evaluate-in-If-3.ensures.names ∙ c.evaluate-in-If-2.ensures.names ∙ c.evaluate-in-If.ensures.names
+
+pub evaluate-returns-in_err-squares-in-Square-clause-names : goal.evaluate-returns-in_err-squares-in-Square-clause-names
+evaluate-returns-in_err-squares-in-Square-clause-names t c = c.evaluate-in-Square.ensures.names
+
+pub evaluate-returns-in_err-holds-in-Square-clause-names : goal.evaluate-returns-in_err-holds-in-Square-clause-names
+evaluate-returns-in_err-holds-in-Square-clause-names t c = c.square_at.ensures.names ∙ c.evaluate-in-Square.ensures.names
+
+pub evaluate-returns-in_ok-holds-in-Square-clause-names : goal.evaluate-returns-in_ok-holds-in-Square-clause-names
+evaluate-returns-in_ok-holds-in-Square-clause-names t c = c.square_at.ensures.names ∙ c.evaluate-in-Square.ensures.names
+
+pub evaluate-returns-in_err-met-in-Played-clause-names : goal.evaluate-returns-in_err-met-in-Played-clause-names
+evaluate-returns-in_err-met-in-Played-clause-names t c = c.played_at.ensures.names
+
+pub evaluate-returns-in_ok-met-in-Played-clause-names : goal.evaluate-returns-in_ok-met-in-Played-clause-names
+evaluate-returns-in_ok-met-in-Played-clause-names t c = c.played_at.ensures.names
+
+pub evaluate-returns-in_err-value-in-Sort-clause-names : goal.evaluate-returns-in_err-value-in-Sort-clause-names
+evaluate-returns-in_err-value-in-Sort-clause-names t c = c.evaluate-in-Sort.ensures.names
+
+pub evaluate-returns-in_ok-value-in-Sort-clause-names : goal.evaluate-returns-in_ok-value-in-Sort-clause-names
+evaluate-returns-in_ok-value-in-Sort-clause-names t c = c.evaluate-in-Sort.ensures.names
+
+pub evaluate-returns-in-Any-clause-names : goal.evaluate-returns-in-Any-clause-names
+evaluate-returns-in-Any-clause-names t c = c.any_at.ensures.names
+
+pub played_at-returns-in_err-is_met-clause-names : goal.played_at-returns-in_err-is_met-clause-names
+played_at-returns-in_err-is_met-clause-names t c = c.is_met.ensures.names
+
+pub played_at-returns-then-not-branch-clause-names : goal.played_at-returns-then-not-branch-clause-names
+played_at-returns-then-not-branch-clause-names t c = c.is_met.ensures.names
+
+pub played_at-returns-in_err-is_met-2-clause-names : goal.played_at-returns-in_err-is_met-2-clause-names
+played_at-returns-in_err-is_met-2-clause-names t c = c.is_met-2.ensures.names ∙ c.is_met.ensures.names
+
+pub played_at-returns-then-not-branch-2-clause-names : goal.played_at-returns-then-not-branch-2-clause-names
+played_at-returns-then-not-branch-2-clause-names t c = c.is_met-2.ensures.names ∙ c.is_met.ensures.names
+
+pub played_at-returns-then-is_none-2-clause-names : goal.played_at-returns-then-is_none-2-clause-names
+played_at-returns-then-is_none-2-clause-names t c = c.is_met-2.ensures.names ∙ c.is_met.ensures.names
+
+pub played_at-returns-in_default-led_to-clause-names : goal.played_at-returns-in_default-led_to-clause-names
+played_at-returns-in_default-led_to-clause-names t c = c.is_met-2.ensures.names ∙ c.is_met.ensures.names
+
+pub played_at-returns-in_err-is_met-3-clause-names : goal.played_at-returns-in_err-is_met-3-clause-names
+played_at-returns-in_err-is_met-3-clause-names t c = c.is_met-3.ensures.names ∙ c.is_met-2.ensures.names ∙ c.is_met.ensures.names
+
+pub played_at-returns-then-not-branch-3-clause-names : goal.played_at-returns-then-not-branch-3-clause-names
+played_at-returns-then-not-branch-3-clause-names t c = c.is_met-3.ensures.names ∙ c.is_met-2.ensures.names ∙ c.is_met.ensures.names
+
+pub played_at-returns-clause-names : goal.played_at-returns-clause-names
+played_at-returns-clause-names t c = c.is_met-4.ensures.names ∙ c.is_met-3.ensures.names ∙ c.is_met-2.ensures.names ∙ c.is_met.ensures.names
