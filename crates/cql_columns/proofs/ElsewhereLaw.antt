@@ -170,27 +170,24 @@ child_sets_all nodes there back t tree end had = record {
   each = λ n m s low parent h. had.leads m n s (omega (arith, end, (parent_before nodes m n tree parent).1)) parent h;
 }
 
--- a set for each of the first k nodes
-pub record HaveSets (v : ℕ → ℕ) (k : ℕ) (sets : List ℕ) : Type 0 where
-  pub count : length sets ≡ k
+-- a set for each of the first k nodes, in a list that is written over
+pub record HaveSets (v : ℕ → ℕ) (end k : ℕ) (sets : List ℕ) : Type 0 where
+  pub count : length sets ≡ end
   pub each : (n : ℕ) → n < k → get_or sets n 0 ≡ v n
 
-pub have_none : (v : ℕ → ℕ) (sets : List ℕ) → sets ≡ [] → HaveSets v 0 sets
-have_none v sets is = record { count = ap length is; each = λ n h. absurd (omega (arith, h)) }
-
-pub have_more : (v : ℕ → ℕ) (k x : ℕ) (sets later : List ℕ) → later ≡ sets ++ x ∷ [] → x ≡ v k → HaveSets v k sets → HaveSets v (k + 1) later
-have_more v k x sets later is new had = record {
-  count = ap length is ∙ length-append sets (x ∷ []) ∙ ap (λ i. i + 1) had.count;
-  each = λ n h. ⊎_elim
-      (λ less. ap (λ l. get_or l n 0) is ∙ get_or_append_left sets (x ∷ []) 0 n (omega (arith, less, had.count)) ∙ had.each n less)
-      (λ same. let here : n ≡ length sets = omega (arith, same, had.count) in
-      ap (λ l. get_or l n 0) is ∙ ap (λ i. get_or (sets ++ x ∷ []) i 0) here ∙ get_or-append_seam sets x [] 0 ∙ new ∙ ap v (sym (here ∙ had.count)))
+pub have_more : (v : ℕ → ℕ) (end k x : ℕ) (sets later : List ℕ) → k < end → later ≡ slice_set sets k x → x ≡ v k → HaveSets v end k sets → HaveSets v end (k + 1) later
+have_more v end k x sets later low is new had = record {
+  count = ap length is ∙ length-set sets k x ∙ had.count;
+  each = λ n h. ap (λ l. get_or l n 0) is ∙ ⊎_elim
+      (λ less. get_or-set_other sets k n x 0 (λ e. omega (arith, less, e)) ∙ had.each n less)
+      (λ same. ap (λ i. get_or (slice_set sets k x) i 0) same ∙ get_or-set_same sets k x 0 (omega (arith, low, had.count)) ∙ new ∙ ap v (sym same))
       (split_last n k h);
 }
 
-pub parent_sets_all : (nodes : List Node) (there back : List ℕ) (k : ℕ) → k ≡ length nodes → HaveSets (λ n. set_of_node there (node_at nodes n).parent) k back → AreBroughtBack nodes Parent there back
+pub parent_sets_all : (nodes : List Node) (there back : List ℕ) (k : ℕ) → k ≡ length nodes
+    → HaveSets (λ n. set_of_node there (node_at nodes n).parent) (length nodes) k back → AreBroughtBack nodes Parent there back
 parent_sets_all nodes there back k end had = record {
-  count = had.count ∙ end;
+  count = had.count;
   each = λ n m s low parent h. subst (λ y. is_in y s ≡ true) (sym (had.each n (omega (arith, low, end)) ∙ ap (set_of_node there) parent)) h;
 }
 

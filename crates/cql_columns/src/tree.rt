@@ -115,11 +115,7 @@ pub fn with_parents(game: &Game, set: &[bool], start: Vec<bool>) -> Vec<bool>
 pub fn none(alloc: Global, game: &Game) -> Result<Vec<bool>, NoMemory>
     ensures { IfOk result (λ set. set.items ≡ replicate (length game.now.nodes) false) }
 {
-    let mut set = Vec::with_capacity(alloc, game.len() as usize)?;
-    for _k in 0..game.len() {
-        set.push(false)?;
-    }
-    Ok(set)
+    Ok(vec![in alloc; false; game.len() as usize]?)
 }
 
 /// The nodes on the ways up from those that are asked for.
@@ -179,10 +175,9 @@ pub fn of_parents(alloc: Global, game: &Game, set: &[bool]) -> Result<Vec<bool>,
     ensures { IfOk result (λ found. (n : ℕ) → n < length game.now.nodes
         → get_or found.items n false ≡ flag_of set.now (node_at game.now.nodes n).parent) }
 {
-    let mut found = Vec::with_capacity(alloc, game.len() as usize)?;
+    let mut found = blank_truths(alloc, game.len() as usize)?;
     for k in 0..game.len() {
-        let there = is_flagged(game.parent(k), set);
-        found.push(there)?;
+        found[k as usize] = is_flagged(game.parent(k), set);
     }
     Ok(found)
 }
