@@ -5,7 +5,7 @@ use Rattle.cql_lines.specs.Shapes.{Edge, is_searched}
 use Rattle.cql_lines.specs.Tables.{holds}
 use Rattle.cql_lines.proofs.CellsLaw.{same_known, two_known, none_known, goes_known, room_below, read_answer}
 use Rattle.cql_lines.proofs.RowsLaw.{as_many, cell_of, within}
-use Rattle.cql_lines.proofs.VisitLaw.{unvisited, whole_at, known_at, visited, answered_by, below_few}
+use Rattle.cql_lines.proofs.VisitLaw.{unvisited, whole_at, known_at, visited, answered_by, unanswered, below_few}
 use Rattle.cql_lines.proofs.visits.visit_down.Goals as goal
 
 pub returns-then-not-searched-clause-stands : goal.returns-then-not-searched-clause-stands
@@ -105,3 +105,9 @@ returns-clause-searched g c = λ on. c.held-held.ensures.cost
 
 pub held-held-requires : goal.held-held-requires
 held-held-requires g c = record { node = subst (λ nodes. c.args.node < nodes) (sym c.requires.fit.words) c.requires.node }
+
+pub returns-then-not-searched-clause-value : goal.returns-then-not-searched-clause-value
+returns-then-not-searched-clause-value g c = unanswered _ _ (sym c.searched.ensures ∙ c.if-not-searched.true)
+
+pub returns-then-not-searched-clause-cost : goal.returns-then-not-searched-clause-cost
+returns-then-not-searched-clause-cost g c = omega arith

@@ -8,7 +8,7 @@ use Rattle.cql_lines.specs.Up.{StandsUp}
 use Rattle.cql_lines.proofs.CellsLaw.{same_known, none_known, goes_known, room_above, read_answer}
 use Rattle.cql_lines.proofs.RowsLaw.{as_many, within}
 use Rattle.cql_lines.proofs.UpLaw.{row_here, above_known, stands_up, stands_up_same}
-use Rattle.cql_lines.proofs.VisitLaw.{answered_by, below_few}
+use Rattle.cql_lines.proofs.VisitLaw.{answered_by, unanswered, below_few}
 use Rattle.cql_lines.proofs.visits.visit_up.Goals as goal
 
 pub returns-then-not-searched-clause-stands : goal.returns-then-not-searched-clause-stands
@@ -98,3 +98,9 @@ returns-clause-searched g c = λ on. c.held-held.ensures.cost
 
 pub held-held-requires : goal.held-held-requires
 held-held-requires g c = record { node = subst (λ nodes. c.args.node < nodes) (sym c.requires.fit.words) c.requires.node }
+
+pub returns-then-not-searched-clause-value : goal.returns-then-not-searched-clause-value
+returns-then-not-searched-clause-value g c = unanswered _ _ (sym c.searched.ensures ∙ c.if-not-searched.true)
+
+pub returns-then-not-searched-clause-cost : goal.returns-then-not-searched-clause-cost
+returns-then-not-searched-clause-cost g c = omega arith
