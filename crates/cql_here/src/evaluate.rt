@@ -387,7 +387,6 @@ fn played_at(played: &Played, place: &Place, names: &mut Names) -> Result<bool, 
 
 // Whether a square that is asked for is there and in the set; nothing is asked by a part that is left out.
 #[cycle(evaluate)]
-#[tactic(auto, unfolding(cql_syntax::specs::Meaning::value))]
 fn is_met(
     part: &Option<Box<Filter>>,
     square: Option<Square>,
@@ -399,32 +398,14 @@ fn is_met(
         (meaning.written_value (tree_of place.now) [] names.old (written_tree part.now) place.now.node) square) }
     ensures names { names.new ≡ names.old }
 {
-    match part {
-        Some(filter) => has_it(filter, square, place, names),
-        None => Ok(true),
-    }
-}
-
-// Whether a square is there and in a set.
-#[cycle(evaluate)]
-fn has_it(
-    part: &Filter,
-    square: Option<Square>,
-    place: &Place,
-    names: &mut Names,
-) -> Result<bool, Halt>
-    requires { IsAt place.now }
-    ensures value { IfOk result (λ b. b ≡ meaning.meets
-        (Some (value_at place.now names.old (filter_tree part.now) place.now.node)) square) }
-    ensures names { names.new ≡ names.old }
-{
-    match square {
-        Some(square) => {
-            let value = evaluate(part, place, names)?;
-            Ok(has_square(value.squares(), square))
-        }
-        None => Ok(false),
-    }
+    let Some(part) = part else {
+        return Ok(true);
+    };
+    let Some(square) = square else {
+        return Ok(false);
+    };
+    let value = evaluate(part, place, names)?;
+    Ok(has_square(value.squares(), square))
 }
 
 // A goal where a pawn promoted.

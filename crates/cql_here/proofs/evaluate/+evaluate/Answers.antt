@@ -9,9 +9,9 @@ use Rattle.cq_position.specs.Led.{led_to}
 use Rattle.cq_position.specs.Search.{children_in}
 use Rattle.cq_position.proofs.WaysUp.{way_from, way_on}
 use Rattle.cq_symmetry.specs.Images.{is_in}
-use Rattle.cql_syntax.specs.Meaning.{meets, written_value}
-use Rattle.cql_syntax.specs.TreeOf.{filter_tree, filters_tree, form_tree, played_tree}
-use Rattle.cql_syntax.specs.Trees.{filter_at, unary, direction, pair, if_, square, sort}
+use Rattle.cql_syntax.specs.Meaning.{meets, value, written_value}
+use Rattle.cql_syntax.specs.TreeOf.{filter_tree, filters_tree, form_tree, played_tree, written_tree}
+use Rattle.cql_syntax.specs.Trees.{filter_at, unary, direction, pair, if_, square, sort, written}
 use Rattle.cql_syntax.specs.Values.{holds, has, as_truth, as_squares, square_of, reached_of, pair_of}
 use Rattle.cql_syntax.specs.declared.tree.Filter.{Filter}
 use Rattle.cql_values.proofs.Evaluated.{by_settling, word_here}
@@ -173,11 +173,29 @@ evaluate-returns-in_ok-holds-in-Square-clause-value t c =
     v ∙ square_value (tree_of place) e place.node f.at c.in-Square.every c.in-Square.name a b c.squares.result (meant c.in_ok-squares-in-Square.squares)
     c.in_ok-squares-in-Square.ensures.value c.squares.ensures ∙ sym (ap (λ w. value_at place e w place.node) whole)
 
-pub has_it-returns-in_ok-value-in-Some-clause-value : goal.has_it-returns-in_ok-value-in-Some-clause-value
-has_it-returns-in_ok-value-in-Some-clause-value t c =
-    let v = value_at c.args.place.now c.args.names.now (filter_tree c.args.part.now) c.args.place.now.node in
-    c.has_square.ensures ∙ ap (λ x. x c.in-Some.square) (sym c.squares.ensures) ∙ ap (λ x. has x c.in-Some.square) c.in_ok-value-in-Some.ensures.value
-    ∙ ap (meets (Some v)) (sym c.in-Some.is)
+pub is_met-returns-in_default-clause-value : goal.is_met-returns-in_default-clause-value
+unfolding value
+is_met-returns-in_default-clause-value t c =
+    let place = c.args.place.now in
+    ap (λ p. meets (written_value (tree_of place) [] c.args.names.now (written_tree p) place.node) c.args.square) (sym c.in_default.is)
+
+pub is_met-returns-in_default-square-clause-value : goal.is_met-returns-in_default-square-clause-value
+unfolding value
+is_met-returns-in_default-square-clause-value t c =
+    let place = c.args.place.now in
+    let e = c.args.names.now in
+    ap (meets (Some (value_at place e (filter_tree c.in-Some.part.value) place.node))) (sym c.in_default-square.is)
+    ∙ ap (λ p. meets (written_value (tree_of place) [] e (written_tree p) place.node) c.args.square) (sym c.in-Some.is)
+
+pub is_met-returns-clause-value : goal.is_met-returns-clause-value
+unfolding value
+is_met-returns-clause-value t c =
+    let place = c.args.place.now in
+    let e = c.args.names.now in
+    let v = value_at place e (filter_tree c.deref.result.now) place.node in
+    let sq = c.in-Some-square.square in
+    c.has_square.ensures ∙ ap (λ x. x sq) (sym c.squares.ensures) ∙ ap (λ x. has x sq) c.in_ok-value.ensures.value ∙ ap (meets (Some v)) (sym c.in-Some-square.is)
+    ∙ ap (λ w. meets (written_value (tree_of place) [] e w place.node) c.args.square) (ap (λ p. written (filter_tree p)) c.deref.ensures ∙ sym (ap written_tree c.in-Some.is))
 
 pub some_above-returns-then-there-clause-value : goal.some_above-returns-then-there-clause-value
 some_above-returns-then-there-clause-value t c =
