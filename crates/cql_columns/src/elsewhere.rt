@@ -151,10 +151,9 @@ fn from_above(alloc: Global, game: &Game, there: &[u64]) -> Result<Vec<u64>, NoM
     requires tree { IsTree game.now.nodes }
     ensures { IfOk result (λ back. AreBroughtBack game.now.nodes FindUp there.now back.items) }
 {
-    let mut back = Vec::with_capacity(alloc, game.len() as usize)?;
+    let mut back = blank_sets(alloc, game.len() as usize)?;
     for k in 0..game.len() {
-        let set = with_above(game, there, &back, k);
-        back.push(set)?;
+        back[k as usize] = with_above(game, there, &back, k);
     }
     Ok(back)
 }

@@ -80,10 +80,9 @@ pub fn lowered(alloc: Global, game: &Game, set: &[bool]) -> Result<Vec<bool>, No
     requires tree { IsTree game.now.nodes }
     ensures { IfOk result (λ found. AreLowered game.now.nodes set.now found.items) }
 {
-    let mut found = Vec::with_capacity(alloc, game.len() as usize)?;
+    let mut found = blank_truths(alloc, game.len() as usize)?;
     for k in 0..game.len() {
-        let there = is_under(game, set, &found, k);
-        found.push(there)?;
+        found[k as usize] = is_under(game, set, &found, k);
     }
     Ok(found)
 }
