@@ -20,10 +20,9 @@ pub fn below(alloc: Global, scope: &Scope, live: &[bool]) -> Result<Vec<bool>, N
     requires asked { AreAsked (tree_in scope.now) live.now }
     ensures { IfOk result (λ wide. IsBelowLive (tree_in scope.now) live.now wide.items) }
 {
-    let mut wide = Vec::with_capacity(alloc, scope.game.len() as usize)?;
+    let mut wide = blank_truths(alloc, scope.game.len() as usize)?;
     for k in 0..scope.game.len() {
-        let there = is_wide(scope, live, &wide, k);
-        wide.push(there)?;
+        wide[k as usize] = is_wide(scope, live, &wide, k);
     }
     Ok(wide)
 }
