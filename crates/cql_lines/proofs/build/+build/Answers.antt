@@ -20,9 +20,10 @@ room_for_one old mid n k s low e room =
     omega arith
 
 pub build_times-build-requires : goal.build_times-build-requires
-build_times-build-requires t c =
-    (search (rules, the_lemmas),
-    room_for_one (length c.args.rules.now.items) (length c.loop-k.rules.items) c.args.n c.loop-k.k (size (plain_tree c.args.p.now)) c.loop-k-test.true c.loop-k.invariant.len c.requires)
+build_times-build-requires t c = (
+  search (rules, the_lemmas),
+  room_for_one (length c.args.rules.now.items) (length c.loop-k.rules.items) c.args.n c.loop-k.k (size (plain_tree c.args.p.now)) c.loop-k-test.true c.loop-k.invariant.len c.requires,
+)
 
 pub build_times-loop-k-preserved : goal.build_times-loop-k-preserved
 build_times-loop-k-preserved t c =
