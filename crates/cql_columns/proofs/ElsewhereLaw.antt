@@ -1,9 +1,8 @@
 -- What a word asks at other nodes, and squares that are brought back from there.
-use Rattle.std.proofs.Common.{◌≡◌, ℕ, zero, suc, ◌+◌, ◌<◌, ◌≤◌, ◌&&◌, ◌||◌, Bool, true, false, List, [], ◌∷◌, ◌++◌, length, get_or, Option, Some, None, refl, sym, ap, ◌∙◌, subst, arith, ⊎_elim, length-append}
+use Rattle.std.proofs.Common.{◌≡◌, ℕ, zero, suc, ◌+◌, ◌<◌, ◌≤◌, ◌&&◌, ◌||◌, Bool, true, false, List, length, get_or, Option, Some, None, refl, sym, ap, ◌∙◌, subst, arith, ⊎_elim}
 use Rattle.std.specs.Prelude.{slice_set, bit_or, option_to_list}
 use Rattle.std.specs.List.{list_any}
-use Rattle.std.proofs.lemmas.List.{get_or-set_same, get_or-set_other, length-set, get_or_append_left}
-use Rattle.std.proofs.Math.Seq.{get_or-append_seam}
+use Rattle.std.proofs.lemmas.List.{get_or-set_same, get_or-set_other, length-set}
 use Rattle.cq_position.specs.Games.{Node, node_at, IsTree, is_below, is_child_of, is_searched, way_up}
 use Rattle.cq_position.specs.Search.{SearchedTree, below_in, children_in}
 use Rattle.cq_position.proofs.WaysUp.{below_parent, root_below, parent_before}
@@ -170,43 +169,37 @@ child_sets_all nodes there back t tree end had = record {
   each = λ n m s low parent h. had.leads m n s (omega (arith, end, (parent_before nodes m n tree parent).1)) parent h;
 }
 
--- a set for each of the first k nodes
-pub record HaveSets (v : ℕ → ℕ) (k : ℕ) (sets : List ℕ) : Type 0 where
-  pub count : length sets ≡ k
+-- a set for each of the first k nodes, in a list that is written over
+pub record HaveSets (v : ℕ → ℕ) (end k : ℕ) (sets : List ℕ) : Type 0 where
+  pub count : length sets ≡ end
   pub each : (n : ℕ) → n < k → get_or sets n 0 ≡ v n
 
-pub have_none : (v : ℕ → ℕ) (sets : List ℕ) → sets ≡ [] → HaveSets v 0 sets
-have_none v sets is = record { count = ap length is; each = λ n h. absurd (omega (arith, h)) }
-
-pub have_more : (v : ℕ → ℕ) (k x : ℕ) (sets later : List ℕ) → later ≡ sets ++ x ∷ [] → x ≡ v k → HaveSets v k sets → HaveSets v (k + 1) later
-have_more v k x sets later is new had = record {
-  count = ap length is ∙ length-append sets (x ∷ []) ∙ ap (λ i. i + 1) had.count;
-  each = λ n h. ⊎_elim
-      (λ less. ap (λ l. get_or l n 0) is ∙ get_or_append_left sets (x ∷ []) 0 n (omega (arith, less, had.count)) ∙ had.each n less)
-      (λ same. let here : n ≡ length sets = omega (arith, same, had.count) in
-      ap (λ l. get_or l n 0) is ∙ ap (λ i. get_or (sets ++ x ∷ []) i 0) here ∙ get_or-append_seam sets x [] 0 ∙ new ∙ ap v (sym (here ∙ had.count)))
+pub have_more : (v : ℕ → ℕ) (end k x : ℕ) (sets later : List ℕ) → k < end → later ≡ slice_set sets k x → x ≡ v k → HaveSets v end k sets → HaveSets v end (k + 1) later
+have_more v end k x sets later low is new had = record {
+  count = ap length is ∙ length-set sets k x ∙ had.count;
+  each = λ n h. ap (λ l. get_or l n 0) is ∙ ⊎_elim
+      (λ less. get_or-set_other sets k n x 0 (λ e. omega (arith, less, e)) ∙ had.each n less)
+      (λ same. ap (λ i. get_or (slice_set sets k x) i 0) same ∙ get_or-set_same sets k x 0 (omega (arith, low, had.count)) ∙ new ∙ ap v (sym same))
       (split_last n k h);
 }
 
-pub parent_sets_all : (nodes : List Node) (there back : List ℕ) (k : ℕ) → k ≡ length nodes → HaveSets (λ n. set_of_node there (node_at nodes n).parent) k back → AreBroughtBack nodes Parent there back
+pub parent_sets_all : (nodes : List Node) (there back : List ℕ) (k : ℕ) → k ≡ length nodes
+    → HaveSets (λ n. set_of_node there (node_at nodes n).parent) (length nodes) k back → AreBroughtBack nodes Parent there back
 parent_sets_all nodes there back k end had = record {
-  count = had.count ∙ end;
+  count = had.count;
   each = λ n m s low parent h. subst (λ y. is_in y s ≡ true) (sym (had.each n (omega (arith, low, end)) ∙ ap (set_of_node there) parent)) h;
 }
 
--- from above: each of the first k nodes has its own squares, and those of its parent
-pub record LoweredSetsTo (nodes : List Node) (there : List ℕ) (k : ℕ) (back : List ℕ) : Type 0 where
-  pub count : length back ≡ k
+-- from above: each of the first k nodes has its own squares, and those of its parent, in a list that is written over
+pub record LoweredSetsTo (nodes : List Node) (there : List ℕ) (end k : ℕ) (back : List ℕ) : Type 0 where
+  pub count : length back ≡ end
   pub own : (n s : ℕ) → n < k → is_in (get_or there n 0) s ≡ true → is_in (get_or back n 0) s ≡ true
   pub leads : (n p s : ℕ) → n < k → (node_at nodes n).parent ≡ Some p → is_in (get_or back p 0) s ≡ true → is_in (get_or back n 0) s ≡ true
 
-pub lowered_sets_begun : (nodes : List Node) (there back : List ℕ) → back ≡ [] → LoweredSetsTo nodes there 0 back
-lowered_sets_begun nodes there back is = record { count = ap length is; own = λ n s h. absurd (omega (arith, h)); leads = λ n p s h. absurd (omega (arith, h)) }
-
-pub lowered_sets_next : (nodes : List Node) (there back given later : List ℕ) (k x : ℕ) → IsTree nodes → given ≡ back → later ≡ back ++ x ∷ []
-    → x ≡ bit_or (get_or there k 0) (set_of_node given (node_at nodes k).parent) → LoweredSetsTo nodes there k back → LoweredSetsTo nodes there (k + 1) later
-lowered_sets_next nodes there back given later k x tree same is new had = record {
-  count = ap length is ∙ length-append back (x ∷ []) ∙ ap (λ i. i + 1) had.count;
+pub lowered_sets_next : (nodes : List Node) (there back given later : List ℕ) (end k x : ℕ) → IsTree nodes → given ≡ back → k < end → later ≡ slice_set back k x
+    → x ≡ bit_or (get_or there k 0) (set_of_node given (node_at nodes k).parent) → LoweredSetsTo nodes there end k back → LoweredSetsTo nodes there end (k + 1) later
+lowered_sets_next nodes there back given later end k x tree same fits is new had = record {
+  count = ap length is ∙ length-set back k x ∙ had.count;
   own = λ n s h i. ⊎_elim
       (λ less. subst (λ y. is_in y s ≡ true) (sym (before n less)) (had.own n s less i))
       (λ here. subst (λ y. is_in y s ≡ true) (sym (at n here)) (in_new s (or_left (is_in (get_or there k 0) s) (is_in (set_of_node given (node_at nodes k).parent) s)
@@ -223,15 +216,15 @@ lowered_sets_next nodes there back given later k x tree same is new had = record
 }
   where
     before : (n : ℕ) → n < k → get_or later n 0 ≡ get_or back n 0
-    before n less = ap (λ l. get_or l n 0) is ∙ get_or_append_left back (x ∷ []) 0 n (omega (arith, less, had.count))
+    before n less = ap (λ l. get_or l n 0) is ∙ get_or-set_other back k n x 0 (λ e. omega (arith, less, e))
 
     at : (n : ℕ) → n ≡ k → get_or later n 0 ≡ x
-    at n here = ap (λ l. get_or l n 0) is ∙ ap (λ i. get_or (back ++ x ∷ []) i 0) (omega (arith, here, had.count)) ∙ get_or-append_seam back x [] 0
+    at n here = ap (λ l. get_or l n 0) is ∙ ap (λ i. get_or (slice_set back k x) i 0) here ∙ get_or-set_same back k x 0 (omega (arith, fits, had.count))
 
     in_new : (s : ℕ) → (is_in (get_or there k 0) s || is_in (set_of_node given (node_at nodes k).parent) s) ≡ true → is_in x s ≡ true
     in_new s h = ap (λ y. is_in y s) new ∙ in_either (get_or there k 0) (set_of_node given (node_at nodes k).parent) s ∙ h
 
-module _ (nodes : List Node) (tree : IsTree nodes) (there back : List ℕ) (k : ℕ) (had : LoweredSetsTo nodes there k back) where
+module _ (nodes : List Node) (tree : IsTree nodes) (there back : List ℕ) (end k : ℕ) (had : LoweredSetsTo nodes there end k back) where
   down_at : (m n s : ℕ) (o : Option ℕ) → ((q : ℕ) → q < n → is_below nodes m q ≡ true → is_in (get_or back q 0) s ≡ true) → n < k → is_below nodes m n ≡ true → (n ≡ m → ⊥)
       → (node_at nodes n).parent ≡ o → is_in (get_or back n 0) s ≡ true
   down_at m n s None before low b other is = absurd (let e : true ≡ false = sym b ∙ root_below nodes m n tree is other in cc)
@@ -244,10 +237,10 @@ module _ (nodes : List Node) (tree : IsTree nodes) (there back : List ℕ) (k : 
       (λ other. down_at m n s (node_at nodes n).parent (λ q before below. down_within i m q s (omega (arith, less, before)) (omega (arith, low, before)) below h) low b other refl)
       (equal_or n m)
 
-pub lowered_sets_all : (nodes : List Node) (there back : List ℕ) (k : ℕ) → IsTree nodes → k ≡ length nodes → LoweredSetsTo nodes there k back → AreBroughtBack nodes FindUp there back
+pub lowered_sets_all : (nodes : List Node) (there back : List ℕ) (k : ℕ) → IsTree nodes → k ≡ length nodes → LoweredSetsTo nodes there (length nodes) k back → AreBroughtBack nodes FindUp there back
 lowered_sets_all nodes there back k tree end had = record {
-  count = had.count ∙ end;
-  each = λ n m s low b h. down_within nodes tree there back k had (n + 1) m n s (omega arith) (omega (arith, low, end)) b h;
+  count = had.count;
+  each = λ n m s low b h. down_within nodes tree there back (length nodes) k had (n + 1) m n s (omega arith) (omega (arith, low, end)) b h;
 }
 
 -- where a word holds its part holds at a node at which it is asked

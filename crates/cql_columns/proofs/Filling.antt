@@ -1,13 +1,12 @@
 -- Columns that are filled node by node.
-use Rattle.std.proofs.Common.{◌≡◌, ℕ, zero, suc, ◌+◌, ◌<◌, ◌≤◌, ◌⊎◌, Bool, true, false, List, [], ◌∷◌, ◌++◌, length, get_or, ◌&&◌, refl, ap, sym, subst, ◌∙◌, arith, ⊎_elim, inl, inr, length-append}
+use Rattle.std.proofs.Common.{◌≡◌, ℕ, zero, suc, ◌+◌, ◌<◌, ◌≤◌, ◌⊎◌, Bool, true, false, List, [], ◌∷◌, length, get_or, ◌&&◌, refl, ap, sym, subst, ◌∙◌, arith, ⊎_elim, inl, inr}
 use Rattle.cq_position.specs.Search.{SearchedTree}
 use Rattle.std.specs.Prelude.{◌-◌, is_some, slice_set}
 use Rattle.cql_syntax.specs.Values.{amount}
 use Rattle.cql_columns.specs.Columns.{shown, IsNarrowed, IsNumbered, AreAsked}
 use Rattle.cql_columns.specs.declared.filter_column.FilterColumn.{FilterColumn}
 use Rattle.std.proofs.lemmas.Bool.{cases_order}
-use Rattle.std.proofs.lemmas.List.{get_or_append_left, get_or-set_same, get_or-set_other, length-set}
-use Rattle.std.proofs.Math.Seq.{get_or-append_seam}
+use Rattle.std.proofs.lemmas.List.{get_or-set_same, get_or-set_other, length-set}
 
 pub split_last : (n k : ℕ) → n < k + 1 → (n < k) ⊎ (n ≡ k)
 split_last n k h = ⊎_elim (λ same. inr same) (λ o. ⊎_elim (λ less. inl less) (λ more. absurd (omega (arith, h, more))) o) (cases_order n k)
@@ -18,35 +17,11 @@ split_at n k = ⊎_elim (λ same. inr (omega (arith, same))) (λ o. ⊎_elim (λ
 pub equal_or : (m n : ℕ) → (m ≡ n) ⊎ (m ≡ n → ⊥)
 equal_or m n = ⊎_elim (λ same. inl same) (λ o. inr (λ e. ⊎_elim (λ less. absurd (omega (arith, less, e))) (λ more. absurd (omega (arith, more, e))) o)) (cases_order m n)
 
--- the first k nodes have their values where they are asked for
-pub record Filled {A B : Type 0} (show : A → B) (d : A) (live : List Bool) (v : ℕ → B) (k : ℕ) (items : List A) : Type 0 where
-  pub count : length items ≡ k
-  pub each : (n : ℕ) → n < k → get_or live n false ≡ true → show (get_or items n d) ≡ v n
-
-pub filled_none : {A B : Type 0} (show : A → B) (d : A) (live : List Bool) (v : ℕ → B) (items : List A) → items ≡ [] → Filled show d live v 0 items
-filled_none show d live v items is = record { count = ap length is; each = λ n h a. absurd (omega (arith, h)) }
-
-pub filled_more : {A B : Type 0} (show : A → B) (d : A) (live : List Bool) (v : ℕ → B) (k : ℕ) (items later : List A) (x : A)
-    → later ≡ items ++ x ∷ [] → (get_or live k false ≡ true → show x ≡ v k) → Filled show d live v k items → Filled show d live v (k + 1) later
-filled_more show d live v k items later x is new had = record {
-  count = ap length is ∙ length-append items (x ∷ []) ∙ ap (λ i. i + 1) had.count;
-  each = λ n h a. ⊎_elim
-      (λ less. ap show (ap (λ l. get_or l n d) is ∙ get_or_append_left items (x ∷ []) d n (omega (arith, less, had.count))) ∙ had.each n less a)
-      (λ same. let here : n ≡ length items = omega (arith, same, had.count) in
-      ap show (ap (λ l. get_or l n d) is ∙ ap (λ i. get_or (items ++ x ∷ []) i d) here ∙ get_or-append_seam items x [] d)
-      ∙ new (subst (λ i. get_or live i false ≡ true) (here ∙ had.count) a) ∙ ap v (sym (here ∙ had.count)))
-      (split_last n k h);
-}
-
 pub live_below : (live : List Bool) (n : ℕ) → get_or live n false ≡ true → n < length live
 live_below [] zero e = cc
 live_below [] (suc n) e = cc
 live_below (b ∷ live) zero e = omega arith
 live_below (b ∷ live) (suc n) e = omega (arith, live_below live n e)
-
-pub filled_all : {A B : Type 0} (show : A → B) (d : A) (live : List Bool) (v : ℕ → B) (k : ℕ) (items : List A) → length live ≤ k → Filled show d live v k items
-    → (n : ℕ) → get_or live n false ≡ true → show (get_or items n d) ≡ v n
-filled_all show d live v k items end had n a = had.each n (omega (arith, live_below live n a, end)) a
 
 -- a set has no node before one, and none past one
 pub none_before : (live : List Bool) (k : ℕ) → get_or live k false ≡ false → ((n : ℕ) → n < k → get_or live n false ≡ false) → (n : ℕ) → n < k + 1 → get_or live n false ≡ false
@@ -56,7 +31,7 @@ pub none_past : (live : List Bool) (end : ℕ) → 0 < end → get_or live (end 
     → (n : ℕ) → end - 1 ≤ n → get_or live n false ≡ false
 none_past live end some is had n h = ⊎_elim (λ same. ap (λ i. get_or live i false) (sym same) ∙ is) (λ away. had n (omega (arith, h, some, away))) (equal_or (end - 1) n)
 
--- the same of a column that reaches as far as the nodes that are asked for, and is written over
+-- the first k nodes have their values where they are asked for, in a column that reaches as far as these and is written over
 pub record FilledTo {A B : Type 0} (show : A → B) (d : A) (live : List Bool) (v : ℕ → B) (end k : ℕ) (items : List A) : Type 0 where
   pub count : length items ≡ end
   pub each : (n : ℕ) → n < k → get_or live n false ≡ true → show (get_or items n d) ≡ v n
@@ -97,19 +72,6 @@ past (x ∷ xs) (suc n) h = past xs n (omega (arith, h))
 pub record Told (test : ℕ → Bool) (k : ℕ) (items : List Bool) : Type 0 where
   pub count : length items ≡ k
   pub each : (n : ℕ) → n < k → get_or items n false ≡ test n
-
-pub told_none : (test : ℕ → Bool) (items : List Bool) → items ≡ [] → Told test 0 items
-told_none test items is = record { count = ap length is; each = λ n h. absurd (omega (arith, h)) }
-
-pub told_more : (test : ℕ → Bool) (k : ℕ) (items later : List Bool) (x : Bool) → later ≡ items ++ x ∷ [] → x ≡ test k → Told test k items → Told test (k + 1) later
-told_more test k items later x is new had = record {
-  count = ap length is ∙ length-append items (x ∷ []) ∙ ap (λ i. i + 1) had.count;
-  each = λ n h. ⊎_elim
-      (λ less. ap (λ l. get_or l n false) is ∙ get_or_append_left items (x ∷ []) false n (omega (arith, less, had.count)) ∙ had.each n less)
-      (λ same. let here : n ≡ length items = omega (arith, same, had.count) in
-      ap (λ l. get_or l n false) is ∙ ap (λ i. get_or (items ++ x ∷ []) i false) here ∙ get_or-append_seam items x [] false ∙ new ∙ ap test (sym (here ∙ had.count)))
-      (split_last n k h);
-}
 
 -- a list that reaches so far has an entry there, whatever stands for one past the end
 pub any_default : {A : Type 0} (l : List A) (k : ℕ) (d e : A) → k < length l → get_or l k d ≡ get_or l k e

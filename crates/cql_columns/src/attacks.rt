@@ -1,9 +1,8 @@
 //! Squares that are tried one by one, where it is asked whether a man on the square attacks one of a designator: all at once.
-ghost use Rattle.std.specs.Prelude.{◌≡◌, ℕ, true, false, Some, IfOk, IfSome};
+ghost use Rattle.std.specs.Prelude.{◌≡◌, true, false, Some, IfOk, IfSome};
 ghost use Rattle.cq_position.specs.Attacks.{attacks};
 ghost use Rattle.cq_position.specs.Games.{node_at};
 ghost use Rattle.cql_syntax.specs.Meaning as meaning;
-ghost use Rattle.cql_syntax.specs.Trees as trees;
 ghost use Rattle.cql_syntax.specs.TreeOf.{filter_tree, filter_trees};
 ghost use Rattle.cql_syntax.specs.Values as spec;
 ghost use Rattle.cql_columns.specs.Attacked.{AsksAttack, IsOnly, IsItsName, IsDesignated};
@@ -32,18 +31,8 @@ pub fn attacked_part<'a>(every: bool, name: &[u8], asked: &'a Filter) -> Option<
         return None;
     }
     match &asked.form {
-        Form::Chain(chain, parts) => attacked_in(*chain, name, parts.as_slice()),
+        Form::Chain(Chain::All, parts) => attacked_in_one(name, parts.as_slice()),
         _ => attacked_by_pair(name, asked),
-    }
-}
-
-fn attacked_in<'a>(chain: Chain, name: &[u8], parts: &'a [Filter]) -> Option<&'a Designator>
-    ensures { IfSome result (λ d. (i : ℕ)
-        → AsksAttack name.now d.now (trees.filter_at i (trees.chain chain (filter_trees parts.now)))) }
-{
-    match chain {
-        Chain::All => attacked_in_one(name, parts),
-        _ => None,
     }
 }
 
@@ -61,22 +50,7 @@ fn attacked_by_pair<'a>(name: &[u8], asked: &'a Filter) -> Option<&'a Designator
     ensures { IfSome result (λ d. AsksAttack name.now d.now (filter_tree asked.now)) }
 {
     match &asked.form {
-        Form::Pair(pair, first, second) => attacked_by(*pair, name, first, second),
-        _ => None,
-    }
-}
-
-fn attacked_by<'a>(
-    pair: Pair,
-    name: &[u8],
-    first: &Filter,
-    second: &'a Filter,
-) -> Option<&'a Designator>
-    ensures { IfSome result (λ d. (i : ℕ)
-        → AsksAttack name.now d.now (trees.filter_at i (trees.pair pair (filter_tree first.now) (filter_tree second.now)))) }
-{
-    match pair {
-        Pair::Attacks => designated_if(is_its_name(name, first), second),
+        Form::Pair(Pair::Attacks, first, second) => designated_if(is_its_name(name, first), second),
         _ => None,
     }
 }

@@ -63,10 +63,9 @@ fn holds_at(asked: bool, column: &FilterColumn, n: usize) -> bool
 pub fn numbered(alloc: Global, column: &FilterColumn, live: &[bool]) -> Result<Vec<bool>, NoMemory>
     ensures { IfOk result (λ left. IsNumbered live.now column.now left.items) }
 {
-    let mut left = Vec::with_capacity(alloc, live.len())?;
+    let mut left = blank_truths(alloc, live.len())?;
     for n in 0..live.len() {
-        let there = has_number(live[n], column, n);
-        left.push(there)?;
+        left[n] = has_number(live[n], column, n);
     }
     Ok(left)
 }

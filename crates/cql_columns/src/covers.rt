@@ -10,7 +10,7 @@ ghost use Rattle.cql_columns.specs.Columns.{AreAsked, AreKept, shown};
 ghost use Rattle.cql_columns.specs.Covers.{AreCut, IsCut, AreSetsOf, IsOfMove, HasSome, IsSoRelated, AreAmong, AreEverywhere, AreJoined};
 ghost use Rattle.cql_columns.specs.Scopes.{tree_in};
 
-use crate::filter_column::{FilterColumn, set_at};
+use crate::filter_column::{FilterColumn, blank_sets, set_at};
 use crate::nodes::same;
 use crate::scope::Scope;
 use cq_geometry::Square;
@@ -27,10 +27,9 @@ use std::alloc::Global;
 pub fn sets_of(alloc: Global, live: &[bool], squares: &FilterColumn) -> Result<Vec<u64>, NoMemory>
     ensures { IfOk result (λ sets. AreSetsOf (shown squares.now) live.now sets.items) }
 {
-    let mut sets = Vec::with_capacity(alloc, live.len())?;
+    let mut sets = blank_sets(alloc, live.len())?;
     for n in 0..live.len() {
-        let set = set_if(live[n], squares, n);
-        sets.push(set)?;
+        sets[n] = set_if(live[n], squares, n);
     }
     Ok(sets)
 }
@@ -93,10 +92,9 @@ fn set_where(asked: bool, sets: &[u64], n: usize) -> u64
 pub fn everywhere(alloc: Global, live: &[bool], set: u64) -> Result<Vec<u64>, NoMemory>
     ensures { IfOk result (λ sets. AreEverywhere live.now set sets.items) }
 {
-    let mut sets = Vec::with_capacity(alloc, live.len())?;
+    let mut sets = blank_sets(alloc, live.len())?;
     for n in 0..live.len() {
-        let there = given_if(live[n], set);
-        sets.push(there)?;
+        sets[n] = given_if(live[n], set);
     }
     Ok(sets)
 }

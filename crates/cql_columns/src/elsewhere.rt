@@ -113,7 +113,6 @@ fn from_below(game: &Game, there: Vec<u64>) -> Vec<u64>
 }
 
 // Adds squares at the parent of a node.
-#[tactic(auto, using(crate::proofs::ElsewhereLaw::raised_at, crate::proofs::ElsewhereLaw::raised_none))]
 fn raise(back: &mut Vec<u64>, game: &Game, k: u32, more: u64)
     requires node { k < length game.now.nodes }
     requires count { length back.old.items ≡ length game.now.nodes }
@@ -141,10 +140,9 @@ fn from_children(alloc: Global, game: &Game, there: &[u64]) -> Result<Vec<u64>, 
 fn from_parents(alloc: Global, game: &Game, there: &[u64]) -> Result<Vec<u64>, NoMemory>
     ensures { IfOk result (λ back. AreBroughtBack game.now.nodes Parent there.now back.items) }
 {
-    let mut back = Vec::with_capacity(alloc, game.len() as usize)?;
+    let mut back = blank_sets(alloc, game.len() as usize)?;
     for k in 0..game.len() {
-        let set = set_of(game.parent(k), there);
-        back.push(set)?;
+        back[k as usize] = set_of(game.parent(k), there);
     }
     Ok(back)
 }
@@ -153,10 +151,9 @@ fn from_above(alloc: Global, game: &Game, there: &[u64]) -> Result<Vec<u64>, NoM
     requires tree { IsTree game.now.nodes }
     ensures { IfOk result (λ back. AreBroughtBack game.now.nodes FindUp there.now back.items) }
 {
-    let mut back = Vec::with_capacity(alloc, game.len() as usize)?;
+    let mut back = blank_sets(alloc, game.len() as usize)?;
     for k in 0..game.len() {
-        let set = with_above(game, there, &back, k);
-        back.push(set)?;
+        back[k as usize] = with_above(game, there, &back, k);
     }
     Ok(back)
 }

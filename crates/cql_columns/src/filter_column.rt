@@ -39,27 +39,21 @@ impl FilterColumn {
 pub fn blank_truths(alloc: Global, nodes: usize) -> Result<Vec<bool>, NoMemory>
     ensures { IfOk result (λ truths. length truths.items ≡ nodes) }
 {
-    let mut truths = Vec::with_capacity(alloc, nodes)?;
-    truths.resize(nodes, false)?;
-    Ok(truths)
+    Ok(vec![in alloc; false; nodes]?)
 }
 
 /// So many sets, to be written over.
 pub fn blank_sets(alloc: Global, nodes: usize) -> Result<Vec<u64>, NoMemory>
     ensures { IfOk result (λ sets. length sets.items ≡ nodes) }
 {
-    let mut sets = Vec::with_capacity(alloc, nodes)?;
-    sets.resize(nodes, 0)?;
-    Ok(sets)
+    Ok(vec![in alloc; 0; nodes]?)
 }
 
 /// So many values, to be written over.
 pub fn blank_values(alloc: Global, nodes: usize) -> Result<Vec<Value>, NoMemory>
     ensures { IfOk result (λ values. length values.items ≡ nodes) }
 {
-    let mut values = Vec::with_capacity(alloc, nodes)?;
-    values.resize(nodes, Value::Truth(false))?;
-    Ok(values)
+    Ok(vec![in alloc; Value::Truth(false); nodes]?)
 }
 
 /// The truth at a node, false past the end.

@@ -65,14 +65,5 @@ fn is_moved_to(asked: bool, scope: &Scope, parts: &PartColumns, sets: &[u64], n:
         return false;
     }
     let set = set_at(sets, n as usize);
-    meets_goal(scope, parts, set, n)
-}
-
-// Whether the move to a node went to a square of the set, and is as columns ask.
-fn meets_goal(scope: &Scope, parts: &PartColumns, set: u64, n: u32) -> bool
-    requires tree { IsTree scope.now.game.now.nodes }
-    requires node { n < length scope.now.game.now.nodes }
-    ensures { result ≡ goes_as_asked (tree_in scope.now) parts.now set n }
-{
     meets_parts(scope, parts, Some(Value::Set(set)), n)
 }

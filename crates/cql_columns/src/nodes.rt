@@ -107,6 +107,5 @@ pub fn part_of(
     requires asked { AreAsked (tree_in scope.now) live.now }
     ensures { IfOk result (λ left. IsPart (tree_in scope.now) live.now column.now want left.items) }
 {
-    let left = narrowed(alloc, live, column, want)?;
-    Ok(left)
+    narrowed(alloc, live, column, want)
 }

@@ -20,10 +20,9 @@ pub fn below(alloc: Global, scope: &Scope, live: &[bool]) -> Result<Vec<bool>, N
     requires asked { AreAsked (tree_in scope.now) live.now }
     ensures { IfOk result (λ wide. IsBelowLive (tree_in scope.now) live.now wide.items) }
 {
-    let mut wide = Vec::with_capacity(alloc, scope.game.len() as usize)?;
+    let mut wide = blank_truths(alloc, scope.game.len() as usize)?;
     for k in 0..scope.game.len() {
-        let there = is_wide(scope, live, &wide, k);
-        wide.push(there)?;
+        wide[k as usize] = is_wide(scope, live, &wide, k);
     }
     Ok(wide)
 }
@@ -80,10 +79,9 @@ pub fn lowered(alloc: Global, game: &Game, set: &[bool]) -> Result<Vec<bool>, No
     requires tree { IsTree game.now.nodes }
     ensures { IfOk result (λ found. AreLowered game.now.nodes set.now found.items) }
 {
-    let mut found = Vec::with_capacity(alloc, game.len() as usize)?;
+    let mut found = blank_truths(alloc, game.len() as usize)?;
     for k in 0..game.len() {
-        let there = is_under(game, set, &found, k);
-        found.push(there)?;
+        found[k as usize] = is_under(game, set, &found, k);
     }
     Ok(found)
 }
@@ -115,11 +113,7 @@ pub fn with_parents(game: &Game, set: &[bool], start: Vec<bool>) -> Vec<bool>
 pub fn none(alloc: Global, game: &Game) -> Result<Vec<bool>, NoMemory>
     ensures { IfOk result (λ set. set.items ≡ replicate (length game.now.nodes) false) }
 {
-    let mut set = Vec::with_capacity(alloc, game.len() as usize)?;
-    for _k in 0..game.len() {
-        set.push(false)?;
-    }
-    Ok(set)
+    Ok(vec![in alloc; false; game.len() as usize]?)
 }
 
 /// The nodes on the ways up from those that are asked for.
@@ -179,10 +173,9 @@ pub fn of_parents(alloc: Global, game: &Game, set: &[bool]) -> Result<Vec<bool>,
     ensures { IfOk result (λ found. (n : ℕ) → n < length game.now.nodes
         → get_or found.items n false ≡ flag_of set.now (node_at game.now.nodes n).parent) }
 {
-    let mut found = Vec::with_capacity(alloc, game.len() as usize)?;
+    let mut found = blank_truths(alloc, game.len() as usize)?;
     for k in 0..game.len() {
-        let there = is_flagged(game.parent(k), set);
-        found.push(there)?;
+        found[k as usize] = is_flagged(game.parent(k), set);
     }
     Ok(found)
 }

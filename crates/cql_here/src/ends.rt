@@ -7,7 +7,7 @@ use cq_geometry::Square;
 use pgn_tree::Game;
 
 /// Where the move to a node began and ended.
-#[derive(Clone, Copy, Debug, PartialEq, Eq)]
+#[derive(Clone, Copy)]
 pub(crate) struct Ends {
     /// The node before.
     pub(crate) before: u32,

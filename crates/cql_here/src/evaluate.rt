@@ -1,6 +1,6 @@
 //! What a filter gives at a node, by recursion on the filter.
 ghost use Rattle.std.specs.Prelude.{◌≡◌, ◌<◌, ◌&&◌, [], length, ℕ, Some, IfOk, option_to_list};
-ghost use Rattle.std.specs.List.{list_any, list_all};
+ghost use Rattle.std.specs.List.{list_any};
 ghost use Rattle.cq_geometry.specs.Squares.{squares};
 ghost use Rattle.cq_position.specs.Bitboards.{IsBitboard};
 ghost use Rattle.cq_position.specs.Games as games;
@@ -36,7 +36,6 @@ use cql_values::words::directions;
 
 /// What a filter gives at a node.
 #[cycle(evaluate)]
-#[tactic(auto, unfolding(cql_syntax::specs::Meaning::value))]
 pub(crate) fn evaluate(f: &Filter, place: &Place, names: &mut Names) -> Result<Value, Halt>
     requires { IsAt place.now }
     ensures value { IfOk result (λ v. meant v ≡ value_at place.now names.old (filter_tree f.now) place.now.node) }
@@ -95,18 +94,9 @@ fn unary_at(word: Unary, part: &Filter, place: &Place, names: &mut Names) -> Res
 {
     match word {
         Unary::Find => Err(Halt::Fault(Elsewhere)),
-        Unary::Child => {
-            let found = some_child(part, place, names)?;
-            Ok(Value::Truth(found))
-        }
-        Unary::FindUp => {
-            let found = some_above(part, place, names)?;
-            Ok(Value::Truth(found))
-        }
-        Unary::Parent => {
-            let found = at_parent(part, place, names)?;
-            Ok(Value::Truth(found))
-        }
+        Unary::Child => some_child(part, place, names),
+        Unary::FindUp => some_above(part, place, names),
+        Unary::Parent => at_parent(part, place, names),
         _ => {
             let value = evaluate(part, place, names)?;
             Ok(unary_here(word, place.game.position(place.node), value))
@@ -116,28 +106,28 @@ fn unary_at(word: Unary, part: &Filter, place: &Place, names: &mut Names) -> Res
 
 // Whether a filter holds at the parent of a node, if it has one.
 #[cycle(evaluate)]
-fn at_parent(part: &Filter, place: &Place, names: &mut Names) -> Result<bool, Halt>
+fn at_parent(part: &Filter, place: &Place, names: &mut Names) -> Result<Value, Halt>
     requires { IsAt place.now }
-    ensures value { IfOk result (λ b. b ≡ list_any (λ m. spec.holds (value_at place.now names.old (filter_tree part.now) m))
+    ensures value { IfOk result (λ v. meant v ≡ meaning.some_node (value_at place.now names.old (filter_tree part.now))
         (option_to_list (games.node_at place.now.game.now.nodes place.now.node).parent)) }
     ensures names { names.new ≡ names.old }
 {
     let Some(parent) = place.game.parent(place.node) else {
-        return Ok(false);
+        return Ok(Value::Truth(false));
     };
     let above = Place {
         node: parent,
         ..*place
     };
     let value = evaluate(part, &above, names)?;
-    Ok(value.holds())
+    Ok(Value::Truth(value.holds()))
 }
 
 // Whether a filter holds at a child of a node, one of those that are searched.
 #[cycle(evaluate)]
-fn some_child(part: &Filter, place: &Place, names: &mut Names) -> Result<bool, Halt>
+fn some_child(part: &Filter, place: &Place, names: &mut Names) -> Result<Value, Halt>
     requires { IsAt place.now }
-    ensures value { IfOk result (λ b. b ≡ list_any (λ m. spec.holds (value_at place.now names.old (filter_tree part.now) m))
+    ensures value { IfOk result (λ v. meant v ≡ meaning.some_node (value_at place.now names.old (filter_tree part.now))
         (children_in (tree_of place.now) place.now.node)) }
     ensures names { names.new ≡ names.old }
 {
@@ -149,11 +139,11 @@ fn some_child(part: &Filter, place: &Place, names: &mut Names) -> Result<bool, H
         };
         let there = holds_searched(part, &below, names)?;
         if there {
-            return Ok(true);
+            return Ok(Value::Truth(true));
         }
         at = place.game.next_sibling(child);
     }
-    Ok(false)
+    Ok(Value::Truth(false))
 }
 
 // Whether a node is searched, and a filter holds there.
@@ -173,9 +163,9 @@ fn holds_searched(part: &Filter, place: &Place, names: &mut Names) -> Result<boo
 
 // Whether a filter holds at a node or at one above it.
 #[cycle(evaluate)]
-fn some_above(part: &Filter, place: &Place, names: &mut Names) -> Result<bool, Halt>
+fn some_above(part: &Filter, place: &Place, names: &mut Names) -> Result<Value, Halt>
     requires { IsAt place.now }
-    ensures value { IfOk result (λ b. b ≡ list_any (λ m. spec.holds (value_at place.now names.old (filter_tree part.now) m))
+    ensures value { IfOk result (λ v. meant v ≡ meaning.some_node (value_at place.now names.old (filter_tree part.now))
         (games.way_up place.now.game.now.nodes place.now.node)) }
     ensures names { names.new ≡ names.old }
 {
@@ -185,11 +175,11 @@ fn some_above(part: &Filter, place: &Place, names: &mut Names) -> Result<bool, H
         let above = Place { node, ..*place };
         let there = holds_after(&moves, part, &above, names)?;
         if there {
-            return Ok(true);
+            return Ok(Value::Truth(true));
         }
         at = place.game.parent(node);
     }
-    Ok(false)
+    Ok(Value::Truth(false))
 }
 
 // Whether a filter holds at a node, which it does after some moves alone.
@@ -221,14 +211,8 @@ fn chain_at(chain: Chain, parts: &Filters, place: &Place, names: &mut Names) -> 
     ensures names { names.new ≡ names.old }
 {
     match chain {
-        Chain::Or => {
-            let holds = some_of(parts, place, names)?;
-            Ok(Value::Truth(holds))
-        }
-        Chain::And | Chain::All => {
-            let holds = all_of(parts, place, names)?;
-            Ok(Value::Truth(holds))
-        }
+        Chain::Or => some_of(parts, place, names),
+        Chain::And | Chain::All => all_of(parts, place, names),
         Chain::Union => union_of(parts, place, names),
         Chain::Intersect => common_of(parts, place, names),
         Chain::Product | Chain::Max | Chain::Min => Err(Halt::Fault(Elsewhere)),
@@ -243,10 +227,7 @@ fn any_at(kind: Kind, parts: &Filters, place: &Place, names: &mut Names) -> Resu
     ensures names { names.new ≡ names.old }
 {
     match kind {
-        Kind::Position => {
-            let holds = some_of(parts, place, names)?;
-            Ok(Value::Truth(holds))
-        }
+        Kind::Position => some_of(parts, place, names),
         Kind::Set => union_of(parts, place, names),
         Kind::Number => Err(Halt::Fault(Elsewhere)),
     }
@@ -254,34 +235,34 @@ fn any_at(kind: Kind, parts: &Filters, place: &Place, names: &mut Names) -> Resu
 
 // Whether all of some filters hold.
 #[cycle(evaluate)]
-fn all_of(parts: &Filters, place: &Place, names: &mut Names) -> Result<bool, Halt>
+fn all_of(parts: &Filters, place: &Place, names: &mut Names) -> Result<Value, Halt>
     requires { IsAt place.now }
-    ensures value { IfOk result (λ b. b ≡ list_all spec.holds (values_at place.now names.old (filters_tree parts.now) place.now.node)) }
+    ensures value { IfOk result (λ v. meant v ≡ spec.all_hold (values_at place.now names.old (filters_tree parts.now) place.now.node)) }
     ensures names { names.new ≡ names.old }
 {
     for part in parts.as_slice() {
         let value = evaluate(part, place, names)?;
         if !value.holds() {
-            return Ok(false);
+            return Ok(Value::Truth(false));
         }
     }
-    Ok(true)
+    Ok(Value::Truth(true))
 }
 
 // Whether one of some filters holds.
 #[cycle(evaluate)]
-fn some_of(parts: &Filters, place: &Place, names: &mut Names) -> Result<bool, Halt>
+fn some_of(parts: &Filters, place: &Place, names: &mut Names) -> Result<Value, Halt>
     requires { IsAt place.now }
-    ensures value { IfOk result (λ b. b ≡ list_any spec.holds (values_at place.now names.old (filters_tree parts.now) place.now.node)) }
+    ensures value { IfOk result (λ v. meant v ≡ spec.some_holds (values_at place.now names.old (filters_tree parts.now) place.now.node)) }
     ensures names { names.new ≡ names.old }
 {
     for part in parts.as_slice() {
         let value = evaluate(part, place, names)?;
         if value.holds() {
-            return Ok(true);
+            return Ok(Value::Truth(true));
         }
     }
-    Ok(false)
+    Ok(Value::Truth(false))
 }
 
 // The squares that are in one of some sets.
@@ -374,7 +355,6 @@ fn some_settles(
 // Whether the move that led to a node is as it is asked for: where it came from and what it took is asked at the node before, its goal and
 // what it became at the node itself.
 #[cycle(evaluate)]
-#[tactic(auto, unfolding(cql_syntax::specs::Meaning::value))]
 fn played_at(played: &Played, place: &Place, names: &mut Names) -> Result<bool, Halt>
     requires { IsAt place.now }
     ensures value { IfOk result (λ b. b ≡ meaning.played_value (tree_of place.now) [] names.old (played_tree played.now) place.now.node) }
@@ -402,13 +382,11 @@ fn played_at(played: &Played, place: &Place, names: &mut Names) -> Result<bool, 
     if !is_met(&played.taken, led.taken, &above, names)? {
         return Ok(false);
     }
-    let promoted = is_met(&played.promoted, promoted_on(&led), place, names)?;
-    Ok(promoted)
+    is_met(&played.promoted, promoted_on(&led), place, names)
 }
 
 // Whether a square that is asked for is there and in the set; nothing is asked by a part that is left out.
 #[cycle(evaluate)]
-#[tactic(auto, unfolding(cql_syntax::specs::Meaning::value))]
 fn is_met(
     part: &Option<Box<Filter>>,
     square: Option<Square>,
@@ -420,32 +398,14 @@ fn is_met(
         (meaning.written_value (tree_of place.now) [] names.old (written_tree part.now) place.now.node) square) }
     ensures names { names.new ≡ names.old }
 {
-    match part {
-        Some(filter) => has_it(filter, square, place, names),
-        None => Ok(true),
-    }
-}
-
-// Whether a square is there and in a set.
-#[cycle(evaluate)]
-fn has_it(
-    part: &Filter,
-    square: Option<Square>,
-    place: &Place,
-    names: &mut Names,
-) -> Result<bool, Halt>
-    requires { IsAt place.now }
-    ensures value { IfOk result (λ b. b ≡ meaning.meets
-        (Some (value_at place.now names.old (filter_tree part.now) place.now.node)) square) }
-    ensures names { names.new ≡ names.old }
-{
-    match square {
-        Some(square) => {
-            let value = evaluate(part, place, names)?;
-            Ok(has_square(value.squares(), square))
-        }
-        None => Ok(false),
-    }
+    let Some(part) = part else {
+        return Ok(true);
+    };
+    let Some(square) = square else {
+        return Ok(false);
+    };
+    let value = evaluate(part, place, names)?;
+    Ok(has_square(value.squares(), square))
 }
 
 // A goal where a pawn promoted.

@@ -3,7 +3,7 @@
 use cq_outside::Refusal;
 
 /// A filter that is not answered node by node.
-#[derive(Clone, Copy, Debug, PartialEq, Eq)]
+#[derive(Clone, Copy)]
 pub(crate) struct Elsewhere;
 
 /// Why a filter is not answered at a node: it is one that is not answered node by node, or no memory was found.

@@ -1,8 +1,8 @@
 -- How many of the first nodes, and of the last, are searched, and the looks at these.
-use Rattle.std.proofs.Common.{◌≡◌, ℕ, ◌+◌, ◌-◌, ◌*◌, ◌<◌, Bool, true, false, List, None, length, take, drop, refl, sym, ap, ◌∙◌, subst, arith}
+use Rattle.std.proofs.Common.{◌≡◌, ℕ, ◌+◌, ◌-◌, ◌*◌, ◌<◌, ◌≤◌, Bool, true, false, List, None, length, take, drop, refl, sym, ap, ◌∙◌, subst, arith}
 use Rattle.std.specs.Prelude.{cond}
 use Rattle.std.proofs.lemmas.List.Sums.{sum_by_more, sum_by-take-drop}
-use Rattle.std.proofs.lemmas.List.{take_all}
+use Rattle.std.proofs.lemmas.List.{take_all, drop_all}
 use Rattle.std.proofs.lemmas.Option.{slice_get-get_or}
 use Rattle.cql_lines.specs.declared.shape.Spot.{Spot}
 use Rattle.cql_lines.specs.Shapes.{is_searched, searched_by, searched_count}
@@ -61,3 +61,22 @@ exact_down spots atoms a b s n behind here low e f none each was =
     subst (λ k. b + atoms * searched_count (take k spots) ≡ s + atoms * searched_count spots) (sym f)
     (one_more atoms a b s (searched_count (take (n + 1) spots)) (searched_count (take n spots)) (atoms * searched_count spots) (is_searched spots n)
     none each (first_more spots n low) before)
+
+none_left : (a atoms all : ℕ) → a + atoms * 0 ≡ all → a ≡ all
+none_left a atoms all e = grind arith
+
+-- all nodes are counted
+pub all_up : (spots : List Spot) (atoms a s nodes n : ℕ) → nodes ≡ length spots → nodes ≤ n
+    → a + atoms * searched_count (drop n spots) ≡ s + atoms * searched_count spots → a ≡ s + atoms * searched_count spots
+all_up spots atoms a s nodes n e past was =
+    none_left a atoms (s + atoms * searched_count spots)
+    (sym (ap (λ l. a + atoms * searched_count l) (drop_all n spots (omega arith))) ∙ was)
+
+pub all_down : (spots : List Spot) (atoms a s nodes n : ℕ) → nodes ≡ length spots → nodes ≤ n
+    → a + atoms * searched_count (take (length spots - n) spots) ≡ s + atoms * searched_count spots → a ≡ s + atoms * searched_count spots
+all_down spots atoms a s nodes n e past was =
+    let none : length spots - n ≡ 0 = omega arith in
+    none_left a atoms (s + atoms * searched_count spots) (sym (ap (λ k. a + atoms * searched_count (take k spots)) none) ∙ was)
+
+pub no_more : (a b : ℕ) → a ≡ b → a ≤ b
+no_more a b e = omega arith

@@ -29,6 +29,10 @@ pub answered_by : (s : Bool) (P : ℕ → Type 0) (o : Option ℕ) → s ≡ tru
 answered_by true P o e l = l
 answered_by false P o e l = absurd (cc)
 
+pub unanswered : (s : Bool) (P : ℕ → Type 0) → s ≡ false → AnswerAt s P None
+unanswered true P e = absurd (cc)
+unanswered false P e = refl
+
 pub answered : (s : Bool) (P : ℕ → Type 0) (o : Option ℕ) (m : ℕ) → s ≡ true → IsGreatest P (found m) → o ≡ found m → AnswerAt s P o
 answered true P o m e l is = subst (IsGreatest P) (sym is) l
 answered false P o m e l is = absurd (cc)

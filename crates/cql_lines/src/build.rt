@@ -23,13 +23,17 @@ impl Automaton {
         ensures atoms { IfOk result (λ a. (atoms : ℕ) → AtomsBelow (pattern_tree pattern.now) atoms → UsesBelow a atoms) }
     {
         let plain = plain_of(alloc, pattern)?;
-        let mut rules = vec![in alloc]?;
+        let mut rules = Vec::new(alloc);
         let end = Next {
             places: 0,
             ends: true,
         };
-        let first = build(&plain, end, &mut rules)?;
-        Ok(Automaton { rules, first })
+        let first = build(&plain, end, &mut rules);
+        drop(plain);
+        Ok(Automaton {
+            rules,
+            first: first?,
+        })
     }
 }
 

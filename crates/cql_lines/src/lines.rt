@@ -37,7 +37,7 @@ pub fn line_values<L: Ledger>(
     let rules = automaton.rules.as_slice();
     let first = automaton.first;
     match shape.extent {
-        Some(_) => Ok(longest::<L, [u128; 64]>(alloc, rules, first, table, shape, steps)?),
-        None => Ok(longest::<L, [u32; 64]>(alloc, rules, first, table, shape, steps)?),
+        Some(_) => longest::<L, [u128; 64]>(alloc, rules, first, table, shape, steps),
+        None => longest::<L, [u32; 64]>(alloc, rules, first, table, shape, steps),
     }
 }

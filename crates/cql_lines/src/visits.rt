@@ -13,7 +13,7 @@ use crate::automaton::Rule;
 use crate::rows::Row;
 use crate::shape::Shape;
 use crate::table::AtomTable;
-use cq_outside::Steps;
+use cq_outside::{NoMemory, Steps};
 use std::alloc::{AllocError, Global};
 use std::sync::ledger::Ledger;
 
@@ -80,7 +80,7 @@ fn blank_rows<R: Row>(alloc: Global, nodes: usize) -> Result<Vec<R>, AllocError>
 fn blank_values(alloc: Global, nodes: usize) -> Result<Vec<Option<u32>>, AllocError>
     ensures { IfOk result (λ values. values.items ≡ replicate nodes None) }
 {
-    Ok(vec![in alloc; None; nodes]?)
+    vec![in alloc; None; nodes]
 }
 
 // For each node the greatest allowed length of a way down that is read.
@@ -91,7 +91,7 @@ fn longest_down<L: Ledger, R: Row>(
     table: &AtomTable<L>,
     shape: &Shape,
     steps: &mut Steps<L>,
-) -> Result<Vec<Option<u32>>, AllocError>
+) -> Result<Vec<Option<u32>>, NoMemory>
     requires counts { Counts R.sets shape.now.extent }
     requires fit { Fit rules.now table.now shape.now }
     ensures count { IfOk result (λ values. length values.items ≡ length shape.now.spots.items) }
@@ -169,7 +169,7 @@ fn longest_up<L: Ledger, R: Row>(
     table: &AtomTable<L>,
     shape: &Shape,
     steps: &mut Steps<L>,
-) -> Result<Vec<Option<u32>>, AllocError>
+) -> Result<Vec<Option<u32>>, NoMemory>
     requires counts { Counts R.sets shape.now.extent }
     requires fit { Fit rules.now table.now shape.now }
     ensures count { IfOk result (λ values. length values.items ≡ length shape.now.spots.items) }
@@ -200,7 +200,7 @@ pub fn longest<L: Ledger, R: Row>(
     table: &AtomTable<L>,
     shape: &Shape,
     steps: &mut Steps<L>,
-) -> Result<Vec<Option<u32>>, AllocError>
+) -> Result<Vec<Option<u32>>, NoMemory>
     requires counts { Counts R.sets shape.now.extent }
     requires fit { Fit rules.now table.now shape.now }
     ensures count { IfOk result (λ values. length values.items ≡ length shape.now.spots.items) }
@@ -214,7 +214,7 @@ pub fn longest<L: Ledger, R: Row>(
     ensures kept { OnErr result (steps.new ≡ steps.old) }
 {
     if shape.back {
-        return Ok(longest_up::<L, R>(alloc, rules, first, table, shape, steps)?);
+        return longest_up::<L, R>(alloc, rules, first, table, shape, steps);
     }
-    Ok(longest_down::<L, R>(alloc, rules, first, table, shape, steps)?)
+    longest_down::<L, R>(alloc, rules, first, table, shape, steps)
 }

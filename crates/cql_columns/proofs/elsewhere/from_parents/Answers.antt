@@ -1,15 +1,15 @@
-use Rattle.std.proofs.Common.{◌∙◌, ap, arith}
+use Rattle.std.proofs.Common.{◌∙◌, ap, arith, refl}
 use Rattle.cql_columns.specs.Elsewhere.{set_of_node}
-use Rattle.cql_columns.proofs.ElsewhereLaw.{have_none, have_more, parent_sets_all}
+use Rattle.cql_columns.proofs.ElsewhereLaw.{have_more, parent_sets_all}
 use Rattle.cql_columns.proofs.elsewhere.from_parents.Goals as goal
 
 pub loop-k-init : goal.loop-k-init
-loop-k-init c = have_none _ c.in_ok-back.back.items c.in_ok-back.ensures.items
+loop-k-init c = record { count = omega (arith, c.in_ok-back.ensures, c.len.ensures.len); each = λ n low. absurd (omega (arith, low)) }
 
 pub loop-k-preserved : goal.loop-k-preserved
 loop-k-preserved c =
-    have_more _ c.loop-k.k c.set_of-set.result c.loop-k.back.items c.push.new.self.items c.in_ok-push.ensures.items
-    (c.set_of-set.ensures ∙ ap (set_of_node c.args.there.now) c.parent.ensures.value) c.loop-k.invariant
+    have_more _ _ c.loop-k.k c.set_of.result c.loop-k.back.items _ (omega (arith, c.loop-k-test.true, c.len-k-end.ensures.len)) refl
+    (c.set_of.ensures ∙ ap (set_of_node c.args.there.now) c.parent.ensures.value) c.loop-k.invariant
 
 pub returns : goal.returns
 returns c =

@@ -1,6 +1,7 @@
 use Rattle.std.proofs.Common.{rules, ◌≡◌, ℕ, ◌^◌, ◌<◌, [], ◌∷◌, Bool, true, false, ◌&&◌, ◌||◌, refl, drop, length, ap, ap₂, sym, ◌∙◌, subst, arith, Some}
-use Rattle.std.specs.Prelude.{filter, not, IfOk, IfSome, IsNone}
+use Rattle.std.specs.Prelude.{filter, not, is_some, IfOk, IfSome, IsNone}
 use Rattle.std.specs.List.{list_any, list_all}
+use Rattle.std.proofs.lemmas.Result.{IfOk-weaker}
 use Rattle.cq_bits.proofs.Gathering.{cleared, smaller}
 use Rattle.cq_geometry.specs.Squares.{squares}
 use Rattle.cq_position.specs.Games.{node_at, is_searched, next_sibling, way_up}
@@ -8,10 +9,10 @@ use Rattle.cq_position.specs.Led.{led_to}
 use Rattle.cq_position.specs.Search.{children_in}
 use Rattle.cq_position.proofs.WaysUp.{way_from, way_on}
 use Rattle.cq_symmetry.specs.Images.{is_in}
-use Rattle.cql_syntax.specs.Meaning.{meets, written_value}
-use Rattle.cql_syntax.specs.TreeOf.{filter_tree, filters_tree, form_tree}
-use Rattle.cql_syntax.specs.Trees.{filter_at, square}
-use Rattle.cql_syntax.specs.Values.{holds, has, as_truth, as_squares, square_of}
+use Rattle.cql_syntax.specs.Meaning.{meets, value, written_value}
+use Rattle.cql_syntax.specs.TreeOf.{filter_tree, filters_tree, form_tree, played_tree, written_tree}
+use Rattle.cql_syntax.specs.Trees.{filter_at, unary, direction, pair, if_, square, sort, written}
+use Rattle.cql_syntax.specs.Values.{holds, has, as_truth, as_squares, square_of, reached_of, pair_of}
 use Rattle.cql_syntax.specs.declared.tree.Filter.{Filter}
 use Rattle.cql_values.proofs.Evaluated.{by_settling, word_here}
 use Rattle.cql_values.proofs.Masks.{union_step, intersection_step, all_squares}
@@ -23,6 +24,7 @@ use Rattle.cql_here.specs.Moves.{AreEnds, IsSought}
 use Rattle.cql_here.specs.Places.{tree_of, value_at, values_at, holds_at}
 use Rattle.cql_here.proofs.Children.{child_found, child_passed}
 use Rattle.cql_here.proofs.Cutting.{goal_of, not_led, promoted_of, taken_of}
+use Rattle.cql_here.proofs.Forms.{unary_value, steps_value, chain_value, pair_value, if_value, move_value, sort_value, any_value}
 use Rattle.cql_here.proofs.Loops.{all_values, any_values, all_stop, all_end, any_stop, any_end, settled_first, none_settles, settling, not_settling, by_found, rebound_again, rebound_outer, rebound_some, rebound_length, square_value, union_whole, common_whole}
 use Rattle.cql_here.proofs.Meeting.{no_move, origin_fails, goal_fails, no_more_asked, taken_fails, promoted_decides}
 use Rattle.cql_here.proofs.Seeking.{not_held}
@@ -37,8 +39,8 @@ all_of-returns-then-not-holds-clause-value t c =
     let p : Filter → Bool = λ f. holds (value_at place e (filter_tree f) place.node) in
     let is : p f ≡ false = ap (λ (b : _). holds (value_at place b (filter_tree f) place.node)) (sym c.loop-part.invariant.names)
     ∙ sym (c.holds.ensures ∙ ap holds c.in_ok-value.ensures.value) ∙ c.if-not-holds.true in
-    all_stop p items (list_all p items) c.loop-part.part-index f c.loop-part-test.true c.part-item.is is c.loop-part.invariant.left
-    ∙ sym (all_values holds (tree_of place) e place.node items) ∙ ap (λ fs. list_all holds (values_at place e fs place.node)) c.as_slice-part-items.ensures.tree
+    ap as_truth (all_stop p items (list_all p items) c.loop-part.part-index f c.loop-part-test.true c.part-item.is is c.loop-part.invariant.left
+    ∙ sym (all_values holds (tree_of place) e place.node items) ∙ ap (λ fs. list_all holds (values_at place e fs place.node)) c.as_slice-part-items.ensures.tree)
 
 pub all_of-returns-clause-value : goal.all_of-returns-clause-value
 all_of-returns-clause-value t c =
@@ -46,8 +48,8 @@ all_of-returns-clause-value t c =
     let e = c.args.names.now in
     let items = c.as_slice-part-items.result.now in
     let p : Filter → Bool = λ f. holds (value_at place e (filter_tree f) place.node) in
-    all_end p items (list_all p items) c.loop-part.part-index c.loop-part-test.false c.loop-part.invariant.left
-    ∙ sym (all_values holds (tree_of place) e place.node items) ∙ ap (λ fs. list_all holds (values_at place e fs place.node)) c.as_slice-part-items.ensures.tree
+    ap as_truth (all_end p items (list_all p items) c.loop-part.part-index c.loop-part-test.false c.loop-part.invariant.left
+    ∙ sym (all_values holds (tree_of place) e place.node items) ∙ ap (λ fs. list_all holds (values_at place e fs place.node)) c.as_slice-part-items.ensures.tree)
 
 pub some_child-loop-at-init : goal.some_child-loop-at-init
 some_child-loop-at-init t c =
@@ -74,7 +76,7 @@ some_child-returns-then-there-clause-value t c =
     let is : (test m && p m) ≡ true = ap (λ (b : _). test m && holds (value_at place b f m)) (sym c.loop-at.invariant.names) ∙ sym c.in_ok-there.ensures.value ∙ c.if-there.true in
     let parent : (node_at nodes m).parent ≡ Some place.node = subst (λ o. IfSome o (λ d. (node_at nodes d).parent ≡ Some place.node)) c.in-Some.is c.loop-at.invariant.child in
     let had = subst (λ o. list_any p (filter test (children_from nodes place.node o)) ≡ list_any p (children_in (tree_of place) place.node)) c.in-Some.is c.loop-at.invariant.left in
-    child_found p nodes place.variations place.node m (next_sibling nodes m) (list_any p (children_in (tree_of place) place.node)) parent refl is had
+    ap as_truth (child_found p nodes place.variations place.node m (next_sibling nodes m) (list_any p (children_in (tree_of place) place.node)) parent refl is had)
 
 pub some_child-loop-at-preserved : goal.some_child-loop-at-preserved
 some_child-loop-at-preserved t c =
@@ -103,8 +105,8 @@ some_of-returns-then-holds-clause-value t c =
     let p : Filter → Bool = λ f. holds (value_at place e (filter_tree f) place.node) in
     let is : p f ≡ true = ap (λ (b : _). holds (value_at place b (filter_tree f) place.node)) (sym c.loop-part.invariant.names)
     ∙ sym (c.holds.ensures ∙ ap holds c.in_ok-value.ensures.value) ∙ c.if-holds.true in
-    any_stop p items (list_any p items) c.loop-part.part-index f c.loop-part-test.true c.part-item.is is c.loop-part.invariant.left
-    ∙ sym (any_values holds (tree_of place) e place.node items) ∙ ap (λ fs. list_any holds (values_at place e fs place.node)) c.as_slice-part-items.ensures.tree
+    ap as_truth (any_stop p items (list_any p items) c.loop-part.part-index f c.loop-part-test.true c.part-item.is is c.loop-part.invariant.left
+    ∙ sym (any_values holds (tree_of place) e place.node items) ∙ ap (λ fs. list_any holds (values_at place e fs place.node)) c.as_slice-part-items.ensures.tree)
 
 pub some_of-returns-clause-value : goal.some_of-returns-clause-value
 some_of-returns-clause-value t c =
@@ -112,8 +114,8 @@ some_of-returns-clause-value t c =
     let e = c.args.names.now in
     let items = c.as_slice-part-items.result.now in
     let p : Filter → Bool = λ f. holds (value_at place e (filter_tree f) place.node) in
-    any_end p items (list_any p items) c.loop-part.part-index c.loop-part-test.false c.loop-part.invariant.left
-    ∙ sym (any_values holds (tree_of place) e place.node items) ∙ ap (λ fs. list_any holds (values_at place e fs place.node)) c.as_slice-part-items.ensures.tree
+    ap as_truth (any_end p items (list_any p items) c.loop-part.part-index c.loop-part-test.false c.loop-part.invariant.left
+    ∙ sym (any_values holds (tree_of place) e place.node items) ∙ ap (λ fs. list_any holds (values_at place e fs place.node)) c.as_slice-part-items.ensures.tree)
 
 pub union_of-loop-part-preserved : goal.union_of-loop-part-preserved
 union_of-loop-part-preserved t c =
@@ -171,11 +173,29 @@ evaluate-returns-in_ok-holds-in-Square-clause-value t c =
     v ∙ square_value (tree_of place) e place.node f.at c.in-Square.every c.in-Square.name a b c.squares.result (meant c.in_ok-squares-in-Square.squares)
     c.in_ok-squares-in-Square.ensures.value c.squares.ensures ∙ sym (ap (λ w. value_at place e w place.node) whole)
 
-pub has_it-returns-in_ok-value-in-Some-clause-value : goal.has_it-returns-in_ok-value-in-Some-clause-value
-has_it-returns-in_ok-value-in-Some-clause-value t c =
-    let v = value_at c.args.place.now c.args.names.now (filter_tree c.args.part.now) c.args.place.now.node in
-    c.has_square.ensures ∙ ap (λ x. x c.in-Some.square) (sym c.squares.ensures) ∙ ap (λ x. has x c.in-Some.square) c.in_ok-value-in-Some.ensures.value
-    ∙ ap (meets (Some v)) (sym c.in-Some.is)
+pub is_met-returns-in_default-clause-value : goal.is_met-returns-in_default-clause-value
+unfolding value
+is_met-returns-in_default-clause-value t c =
+    let place = c.args.place.now in
+    ap (λ p. meets (written_value (tree_of place) [] c.args.names.now (written_tree p) place.node) c.args.square) (sym c.in_default.is)
+
+pub is_met-returns-in_default-square-clause-value : goal.is_met-returns-in_default-square-clause-value
+unfolding value
+is_met-returns-in_default-square-clause-value t c =
+    let place = c.args.place.now in
+    let e = c.args.names.now in
+    ap (meets (Some (value_at place e (filter_tree c.in-Some.part.value) place.node))) (sym c.in_default-square.is)
+    ∙ ap (λ p. meets (written_value (tree_of place) [] e (written_tree p) place.node) c.args.square) (sym c.in-Some.is)
+
+pub is_met-returns-clause-value : goal.is_met-returns-clause-value
+unfolding value
+is_met-returns-clause-value t c =
+    let place = c.args.place.now in
+    let e = c.args.names.now in
+    let v = value_at place e (filter_tree c.deref.result.now) place.node in
+    let sq = c.in-Some-square.square in
+    c.has_square.ensures ∙ ap (λ x. x sq) (sym c.squares.ensures) ∙ ap (λ x. has x sq) c.in_ok-value.ensures.value ∙ ap (meets (Some v)) (sym c.in-Some-square.is)
+    ∙ ap (λ w. meets (written_value (tree_of place) [] e w place.node) c.args.square) (ap (λ p. written (filter_tree p)) c.deref.ensures ∙ sym (ap written_tree c.in-Some.is))
 
 pub some_above-returns-then-there-clause-value : goal.some_above-returns-then-there-clause-value
 some_above-returns-then-there-clause-value t c =
@@ -186,7 +206,7 @@ some_above-returns-then-there-clause-value t c =
     let p : ℕ → Bool = λ k. holds (value_at place c.args.names.now f k) in
     let is : p m ≡ true = ap (λ (b : _). holds (value_at place b f m)) (sym c.loop-at.invariant.names) ∙ sym c.in_ok-there.ensures.value ∙ c.if-there.true in
     let had = subst (λ o. list_any p (way_from nodes o) ≡ list_any p (way_up nodes place.node)) c.in-Some.is c.loop-at.invariant.left in
-    sym (ap (λ b. b || list_any p (way_from nodes (node_at nodes m).parent)) is) ∙ sym (ap (list_any p) (way_on nodes m (node_at nodes m).parent c.requires.tree refl)) ∙ had
+    ap as_truth (sym (ap (λ b. b || list_any p (way_from nodes (node_at nodes m).parent)) is) ∙ sym (ap (list_any p) (way_on nodes m (node_at nodes m).parent c.requires.tree refl)) ∙ had)
 
 pub some_above-loop-at-preserved : goal.some_above-loop-at-preserved
 some_above-loop-at-preserved t c =
@@ -365,5 +385,181 @@ played_at-returns-clause-value t c =
     let names = c.is_met-2.ensures.names ∙ c.is_met.ensures.names in
     let taken = sym (ap (λ (b : _). meets (written_value tree [] b (taken_of p) c.in-Some.ends.before) c.in-Some-led_to.led.taken) names)
     ∙ sym c.in_ok-is_met-3.ensures.value ∙ c.if-not-branch-3.false in
-    let promoted = c.in_ok-promoted.ensures.value ∙ ap₂ (λ (b : _) s. meets (written_value tree [] b (promoted_of p) place.node) s) (c.is_met-3.ensures.names ∙ names) c.promoted_on.ensures in
-    promoted ∙ promoted_decides tree c.args.names.now place.node p c.in-Some.ends ends c.in-Some-led_to.led led origin goal taken
+    let promoted = ap₂ (λ (b : _) s. meets (written_value tree [] b (promoted_of p) place.node) s) (c.is_met-3.ensures.names ∙ names) c.promoted_on.ensures in
+    IfOk-weaker c.is_met-4.result _ _ (λ met known. known ∙ promoted ∙ promoted_decides tree c.args.names.now place.node p c.in-Some.ends ends c.in-Some-led_to.led led origin goal taken)
+    c.is_met-4.ensures.value
+
+pub evaluate-returns-in-Unary-clause-value : goal.evaluate-returns-in-Unary-clause-value
+evaluate-returns-in-Unary-clause-value t c =
+    let place = c.args.place.now in
+    let f = c.args.f.now in
+    let e = c.args.names.now in
+    let whole = ap (λ p. filter_at f.at (unary c.in-Unary.word (filter_tree p))) c.deref.ensures ∙ sym (ap (λ form. filter_at f.at (form_tree form)) c.in-Unary.is) in
+    IfOk-weaker c.unary_at.result _ _ (λ v known. known ∙ unary_value (tree_of place) e place.node f.at c.in-Unary.word (filter_tree c.deref.result.now)
+    ∙ ap (λ w. value_at place e w place.node) whole) c.unary_at.ensures.value
+
+pub evaluate-returns-in_ok-value-in-Steps-clause-value : goal.evaluate-returns-in_ok-value-in-Steps-clause-value
+evaluate-returns-in_ok-value-in-Steps-clause-value t c =
+    let place = c.args.place.now in
+    let f = c.args.f.now in
+    let e = c.args.names.now in
+    let s = c.in-Steps in
+    let whole = ap (λ p. filter_at f.at (direction s.way s.m s.n (filter_tree p))) c.deref-in-Steps.ensures ∙ sym (ap (λ form. filter_at f.at (form_tree form)) s.is) in
+    c.reached.ensures ∙ ap (λ ways. reached_of ways s.m s.n (meant c.in_ok-value-in-Steps.value)) c.directions.ensures
+    ∙ steps_value (tree_of place) e place.node f.at s.way s.m s.n (filter_tree c.deref-in-Steps.result.now) (meant c.in_ok-value-in-Steps.value) c.in_ok-value-in-Steps.ensures.value
+    ∙ ap (λ w. value_at place e w place.node) whole
+
+pub evaluate-returns-in-Chain-clause-value : goal.evaluate-returns-in-Chain-clause-value
+evaluate-returns-in-Chain-clause-value t c =
+    let place = c.args.place.now in
+    let f = c.args.f.now in
+    let e = c.args.names.now in
+    IfOk-weaker c.chain_at.result _ _ (λ v known. known ∙ chain_value (tree_of place) e place.node f.at c.in-Chain.chain (filters_tree c.in-Chain.parts)
+    ∙ sym (ap (λ form. value_at place e (filter_at f.at (form_tree form)) place.node) c.in-Chain.is)) c.chain_at.ensures.value
+
+pub evaluate-returns-in_ok-second-in-Pair-clause-value : goal.evaluate-returns-in_ok-second-in-Pair-clause-value
+evaluate-returns-in_ok-second-in-Pair-clause-value t c =
+    let place = c.args.place.now in
+    let f = c.args.f.now in
+    let e = c.args.names.now in
+    let pair_is = c.in-Pair.pair in
+    let a = filter_tree c.deref-in-Pair.result.now in
+    let b = filter_tree c.deref-in-Pair-2.result.now in
+    let x = meant c.in_ok-first-in-Pair.first in
+    let y = meant c.in_ok-second-in-Pair.second in
+    let whole = ap₂ (λ p q. filter_at f.at (pair pair_is (filter_tree p) (filter_tree q))) c.deref-in-Pair.ensures c.deref-in-Pair-2.ensures
+    ∙ sym (ap (λ form. filter_at f.at (form_tree form)) c.in-Pair.is) in
+    c.pair_of.ensures ∙ ap (λ p. pair_of p.men pair_is x y) c.position.ensures
+    ∙ pair_value (tree_of place) e place.node f.at pair_is a b x y c.in_ok-first-in-Pair.ensures.value
+    (c.in_ok-second-in-Pair.ensures.value ∙ ap (λ (names : _). value_at place names b place.node) c.evaluate-in-Pair.ensures.names)
+    ∙ ap (λ w. value_at place e w place.node) whole
+
+pub evaluate-returns-in_ok-otherwise-in-If-clause-value : goal.evaluate-returns-in_ok-otherwise-in-If-clause-value
+evaluate-returns-in_ok-otherwise-in-If-clause-value t c =
+    let place = c.args.place.now in
+    let f = c.args.f.now in
+    let e = c.args.names.now in
+    let p = c.deref-in-If.result.now in
+    let q = c.deref-in-If-2.result.now in
+    let r = c.deref-in-If-3.result.now in
+    let whole = ap (λ r. filter_at f.at (if_ (filter_tree p) (filter_tree q) (filter_tree r))) c.deref-in-If-3.ensures
+    ∙ ap₂ (λ p q. filter_at f.at (if_ (filter_tree p) (filter_tree q) (filter_tree c.in-If.otherwise.value))) c.deref-in-If.ensures c.deref-in-If-2.ensures
+    ∙ sym (ap (λ form. filter_at f.at (form_tree form)) c.in-If.is) in
+    c.if_of.ensures
+    ∙ if_value (tree_of place) e place.node f.at (filter_tree p) (filter_tree q) (filter_tree r) _ _ _
+    c.in_ok-condition-in-If.ensures.value
+    (c.in_ok-then-in-If.ensures.value ∙ ap (λ (names : _). value_at place names (filter_tree q) place.node) c.evaluate-in-If.ensures.names)
+    (c.in_ok-otherwise-in-If.ensures.value ∙ ap (λ (names : _). value_at place names (filter_tree r) place.node) (c.evaluate-in-If-2.ensures.names ∙ c.evaluate-in-If.ensures.names))
+    ∙ ap (λ w. value_at place e w place.node) whole
+
+pub evaluate-returns-in_ok-met-in-Played-clause-value : goal.evaluate-returns-in_ok-met-in-Played-clause-value
+evaluate-returns-in_ok-met-in-Played-clause-value t c =
+    let place = c.args.place.now in
+    let f = c.args.f.now in
+    let e = c.args.names.now in
+    move_value (tree_of place) e place.node f.at (played_tree c.in-Played.played) c.in_ok-met-in-Played.met c.in_ok-met-in-Played.ensures.value
+    ∙ sym (ap (λ form. value_at place e (filter_at f.at (form_tree form)) place.node) c.in-Played.is)
+
+pub evaluate-returns-in_ok-value-in-Sort-clause-value : goal.evaluate-returns-in_ok-value-in-Sort-clause-value
+evaluate-returns-in_ok-value-in-Sort-clause-value t c =
+    let place = c.args.place.now in
+    let f = c.args.f.now in
+    let e = c.args.names.now in
+    let s = c.in-Sort in
+    let whole = ap (λ p. filter_at f.at (sort s.field-0 s.field-1 (filter_tree p))) c.deref-in-Sort.ensures ∙ sym (ap (λ form. filter_at f.at (form_tree form)) s.is) in
+    ap as_truth (c.is_some.ensures ∙ ap is_some c.number.ensures)
+    ∙ sort_value (tree_of place) e place.node f.at s.field-0 s.field-1 (filter_tree c.deref-in-Sort.result.now) (meant c.in_ok-value-in-Sort.value) c.in_ok-value-in-Sort.ensures.value
+    ∙ ap (λ w. value_at place e w place.node) whole
+
+pub evaluate-returns-in-Any-clause-value : goal.evaluate-returns-in-Any-clause-value
+evaluate-returns-in-Any-clause-value t c =
+    let place = c.args.place.now in
+    let f = c.args.f.now in
+    let e = c.args.names.now in
+    IfOk-weaker c.any_at.result _ _ (λ v known. known ∙ any_value (tree_of place) e place.node f.at c.in-Any.kind (filters_tree c.in-Any.parts)
+    ∙ sym (ap (λ form. value_at place e (filter_at f.at (form_tree form)) place.node) c.in-Any.is)) c.any_at.ensures.value
+
+-- names stay bound as they were, call by call
+pub evaluate-returns-in-Unary-clause-names : goal.evaluate-returns-in-Unary-clause-names
+evaluate-returns-in-Unary-clause-names t c = c.unary_at.ensures.names
+
+pub evaluate-returns-in_err-value-in-Steps-clause-names : goal.evaluate-returns-in_err-value-in-Steps-clause-names
+evaluate-returns-in_err-value-in-Steps-clause-names t c = c.evaluate.ensures.names
+
+pub evaluate-returns-in_ok-value-in-Steps-clause-names : goal.evaluate-returns-in_ok-value-in-Steps-clause-names
+evaluate-returns-in_ok-value-in-Steps-clause-names t c = c.evaluate.ensures.names
+
+pub evaluate-returns-in-Chain-clause-names : goal.evaluate-returns-in-Chain-clause-names
+evaluate-returns-in-Chain-clause-names t c = c.chain_at.ensures.names
+
+pub evaluate-returns-in_err-first-in-Pair-clause-names : goal.evaluate-returns-in_err-first-in-Pair-clause-names
+evaluate-returns-in_err-first-in-Pair-clause-names t c = c.evaluate-in-Pair.ensures.names
+
+pub evaluate-returns-in_err-second-in-Pair-clause-names : goal.evaluate-returns-in_err-second-in-Pair-clause-names
+evaluate-returns-in_err-second-in-Pair-clause-names t c = c.evaluate-in-Pair-2.ensures.names ∙ c.evaluate-in-Pair.ensures.names
+
+pub evaluate-returns-in_ok-second-in-Pair-clause-names : goal.evaluate-returns-in_ok-second-in-Pair-clause-names
+evaluate-returns-in_ok-second-in-Pair-clause-names t c = c.evaluate-in-Pair-2.ensures.names ∙ c.evaluate-in-Pair.ensures.names
+
+pub evaluate-returns-in_err-condition-in-If-clause-names : goal.evaluate-returns-in_err-condition-in-If-clause-names
+evaluate-returns-in_err-condition-in-If-clause-names t c = c.evaluate-in-If.ensures.names
+
+pub evaluate-returns-in_err-then-in-If-clause-names : goal.evaluate-returns-in_err-then-in-If-clause-names
+evaluate-returns-in_err-then-in-If-clause-names t c = c.evaluate-in-If-2.ensures.names ∙ c.evaluate-in-If.ensures.names
+
+pub evaluate-returns-in_err-otherwise-in-If-clause-names : goal.evaluate-returns-in_err-otherwise-in-If-clause-names
+evaluate-returns-in_err-otherwise-in-If-clause-names t c = c.evaluate-in-If-3.ensures.names ∙ c.evaluate-in-If-2.ensures.names ∙ c.evaluate-in-If.ensures.names
+
+pub evaluate-returns-in_ok-otherwise-in-If-clause-names : goal.evaluate-returns-in_ok-otherwise-in-If-clause-names
+evaluate-returns-in_ok-otherwise-in-If-clause-names t c = c.evaluate-in-If-3.ensures.names ∙ c.evaluate-in-If-2.ensures.names ∙ c.evaluate-in-If.ensures.names
+
+pub evaluate-returns-in_err-squares-in-Square-clause-names : goal.evaluate-returns-in_err-squares-in-Square-clause-names
+evaluate-returns-in_err-squares-in-Square-clause-names t c = c.evaluate-in-Square.ensures.names
+
+pub evaluate-returns-in_err-holds-in-Square-clause-names : goal.evaluate-returns-in_err-holds-in-Square-clause-names
+evaluate-returns-in_err-holds-in-Square-clause-names t c = c.square_at.ensures.names ∙ c.evaluate-in-Square.ensures.names
+
+pub evaluate-returns-in_ok-holds-in-Square-clause-names : goal.evaluate-returns-in_ok-holds-in-Square-clause-names
+evaluate-returns-in_ok-holds-in-Square-clause-names t c = c.square_at.ensures.names ∙ c.evaluate-in-Square.ensures.names
+
+pub evaluate-returns-in_err-met-in-Played-clause-names : goal.evaluate-returns-in_err-met-in-Played-clause-names
+evaluate-returns-in_err-met-in-Played-clause-names t c = c.played_at.ensures.names
+
+pub evaluate-returns-in_ok-met-in-Played-clause-names : goal.evaluate-returns-in_ok-met-in-Played-clause-names
+evaluate-returns-in_ok-met-in-Played-clause-names t c = c.played_at.ensures.names
+
+pub evaluate-returns-in_err-value-in-Sort-clause-names : goal.evaluate-returns-in_err-value-in-Sort-clause-names
+evaluate-returns-in_err-value-in-Sort-clause-names t c = c.evaluate-in-Sort.ensures.names
+
+pub evaluate-returns-in_ok-value-in-Sort-clause-names : goal.evaluate-returns-in_ok-value-in-Sort-clause-names
+evaluate-returns-in_ok-value-in-Sort-clause-names t c = c.evaluate-in-Sort.ensures.names
+
+pub evaluate-returns-in-Any-clause-names : goal.evaluate-returns-in-Any-clause-names
+evaluate-returns-in-Any-clause-names t c = c.any_at.ensures.names
+
+pub played_at-returns-in_err-is_met-clause-names : goal.played_at-returns-in_err-is_met-clause-names
+played_at-returns-in_err-is_met-clause-names t c = c.is_met.ensures.names
+
+pub played_at-returns-then-not-branch-clause-names : goal.played_at-returns-then-not-branch-clause-names
+played_at-returns-then-not-branch-clause-names t c = c.is_met.ensures.names
+
+pub played_at-returns-in_err-is_met-2-clause-names : goal.played_at-returns-in_err-is_met-2-clause-names
+played_at-returns-in_err-is_met-2-clause-names t c = c.is_met-2.ensures.names ∙ c.is_met.ensures.names
+
+pub played_at-returns-then-not-branch-2-clause-names : goal.played_at-returns-then-not-branch-2-clause-names
+played_at-returns-then-not-branch-2-clause-names t c = c.is_met-2.ensures.names ∙ c.is_met.ensures.names
+
+pub played_at-returns-then-is_none-2-clause-names : goal.played_at-returns-then-is_none-2-clause-names
+played_at-returns-then-is_none-2-clause-names t c = c.is_met-2.ensures.names ∙ c.is_met.ensures.names
+
+pub played_at-returns-in_default-led_to-clause-names : goal.played_at-returns-in_default-led_to-clause-names
+played_at-returns-in_default-led_to-clause-names t c = c.is_met-2.ensures.names ∙ c.is_met.ensures.names
+
+pub played_at-returns-in_err-is_met-3-clause-names : goal.played_at-returns-in_err-is_met-3-clause-names
+played_at-returns-in_err-is_met-3-clause-names t c = c.is_met-3.ensures.names ∙ c.is_met-2.ensures.names ∙ c.is_met.ensures.names
+
+pub played_at-returns-then-not-branch-3-clause-names : goal.played_at-returns-then-not-branch-3-clause-names
+played_at-returns-then-not-branch-3-clause-names t c = c.is_met-3.ensures.names ∙ c.is_met-2.ensures.names ∙ c.is_met.ensures.names
+
+pub played_at-returns-clause-names : goal.played_at-returns-clause-names
+played_at-returns-clause-names t c = c.is_met-4.ensures.names ∙ c.is_met-3.ensures.names ∙ c.is_met-2.ensures.names ∙ c.is_met.ensures.names

@@ -1,4 +1,4 @@
-use Rattle.std.proofs.Common.{◌≡◌, ℕ, ◌+◌, ◌<◌, length, map, ◌-◌, false, ◌∙◌, sym, ap, subst, arith, None}
+use Rattle.std.proofs.Common.{◌≡◌, ℕ, ◌+◌, ◌<◌, ◌≤◌, length, map, ◌-◌, false, ◌∙◌, sym, ap, subst, arith, None}
 use Rattle.std.proofs.lemmas.List.{length-map, length-set, length-replicate}
 use Rattle.cql_lines.specs.Cells.{Known, Allowed}
 use Rattle.cql_lines.specs.Down.{Stands, cell}
@@ -6,7 +6,7 @@ use Rattle.cql_lines.specs.Reads.{Read}
 use Rattle.cql_lines.specs.Shapes.{Edge, is_searched}
 use Rattle.cql_lines.specs.Tables.{holds}
 use Rattle.cql_lines.proofs.CellsLaw.{none_known}
-use Rattle.cql_lines.proofs.Counts.{exact_first, exact_down}
+use Rattle.cql_lines.proofs.Counts.{exact_first, exact_down, all_down, no_more}
 use Rattle.cql_lines.proofs.VisitLaw.{stands_first, done_more}
 use Rattle.cql_lines.proofs.visits.longest_down.Goals as goal
 
@@ -40,6 +40,18 @@ before_of size nodes turn e low = omega arith
 within_spots : (size nodes turn : ℕ) → nodes ≡ size → turn < nodes → nodes - 1 - turn < size
 within_spots size nodes turn e low = omega arith
 
+late_enough : (size nodes turn n : ℕ) → nodes ≡ size → nodes ≤ turn → size ≤ n + turn
+late_enough size nodes turn n a b = omega arith
+
+pub visit_down-requires-clause-counts : goal.visit_down-requires-clause-counts
+visit_down-requires-clause-counts g c = c.requires.counts
+
+pub visit_down-requires-clause-fit : goal.visit_down-requires-clause-fit
+visit_down-requires-clause-fit g c = c.requires.fit
+
+pub visit_down-requires-clause-node : goal.visit_down-requires-clause-node
+visit_down-requires-clause-node g c = within_spots _ _ _ c.len-nodes.ensures c.loop-turn-test.true
+
 pub visit_down-requires-clause-stands : goal.visit_down-requires-clause-stands
 visit_down-requires-clause-stands g c =
     subst (λ t. Stands (Known g.R.Row.sets) c.args.table.now.words.items c.args.rules.now c.args.shape.now.primary c.args.shape.now.spots.items t (map g.R.Row.cells c.loop-turn.grid))
@@ -63,3 +75,15 @@ loop-turn-preserved g c = record {
       (before_of _ _ _ c.len-nodes.ensures c.loop-turn-test.true)
       c.visit_down.ensures.unsearched c.visit_down.ensures.searched c.loop-turn.invariant.exact;
 }
+
+pub returns-clause-count : goal.returns-clause-count
+returns-clause-count g c = c.loop-turn.invariant.size
+
+pub returns-clause-values : goal.returns-clause-values
+returns-clause-values g c = λ n low. c.loop-turn.invariant.done n (late_enough _ _ _ n c.len-nodes.ensures c.loop-turn-test.false) low
+
+pub returns-clause-exact : goal.returns-clause-exact
+returns-clause-exact g c = all_down c.args.shape.now.spots.items c.args.table.now.atoms _ _ _ _ c.len-nodes.ensures c.loop-turn-test.false c.loop-turn.invariant.exact
+
+pub returns-clause-cost : goal.returns-clause-cost
+returns-clause-cost g c = no_more _ _ (all_down c.args.shape.now.spots.items c.args.table.now.atoms _ _ _ _ c.len-nodes.ensures c.loop-turn-test.false c.loop-turn.invariant.exact)

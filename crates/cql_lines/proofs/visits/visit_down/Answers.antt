@@ -1,11 +1,11 @@
-use Rattle.std.proofs.Common.{◌∙◌, length, map, false, sym, ap, subst, arith}
+use Rattle.std.proofs.Common.{◌∙◌, ◌<◌, length, map, false, true≢false, refl, sym, ap, subst, arith}
 use Rattle.cql_lines.specs.Cells.{Known, both_kinds, place_cell, LeavesRoom, Allowed}
 use Rattle.cql_lines.specs.Reads.{Read}
 use Rattle.cql_lines.specs.Shapes.{Edge, is_searched}
 use Rattle.cql_lines.specs.Tables.{holds}
 use Rattle.cql_lines.proofs.CellsLaw.{same_known, two_known, none_known, goes_known, room_below, read_answer}
 use Rattle.cql_lines.proofs.RowsLaw.{as_many, cell_of, within}
-use Rattle.cql_lines.proofs.VisitLaw.{unvisited, whole_at, known_at, visited, answered_by, below_few}
+use Rattle.cql_lines.proofs.VisitLaw.{unvisited, whole_at, known_at, visited, answered_by, unanswered, below_few}
 use Rattle.cql_lines.proofs.visits.visit_down.Goals as goal
 
 pub returns-then-not-searched-clause-stands : goal.returns-then-not-searched-clause-stands
@@ -69,3 +69,45 @@ bounds-rows-node g c = within g.R.Row.cells c.args.rows.now _ c.args.node c.requ
 
 pub returns-clause-cost : goal.returns-clause-cost
 returns-clause-cost g c = omega (arith, c.held-held.ensures.cost)
+
+pub searched-requires : goal.searched-requires
+searched-requires g c = c.requires.node
+
+pub pass_up-requires-clause-count : goal.pass_up-requires-clause-count
+pass_up-requires-clause-count g c = c.requires.fit.count
+
+pub pass_up-requires-clause-past : goal.pass_up-requires-clause-past
+pass_up-requires-clause-past g c = c.own-own.ensures.past
+
+pub pass_up-requires-clause-node : goal.pass_up-requires-clause-node
+pass_up-requires-clause-node g c = c.requires.node
+
+pub own-own-requires-clause-count : goal.own-own-requires-clause-count
+own-own-requires-clause-count g c = c.requires.fit.count
+
+pub answer-requires-clause-count : goal.answer-requires-clause-count
+answer-requires-clause-count g c = c.requires.fit.count
+
+pub answer-requires-clause-extent : goal.answer-requires-clause-extent
+answer-requires-clause-extent g c = c.requires.counts
+
+pub returns-then-not-searched-clause-unsearched : goal.returns-then-not-searched-clause-unsearched
+returns-then-not-searched-clause-unsearched g c = λ off. refl
+
+pub returns-then-not-searched-clause-searched : goal.returns-then-not-searched-clause-searched
+returns-then-not-searched-clause-searched g c = λ on. absurd (true≢false (sym on ∙ sym c.searched.ensures ∙ c.if-not-searched.true))
+
+pub returns-clause-unsearched : goal.returns-clause-unsearched
+returns-clause-unsearched g c = λ off. absurd (true≢false (sym (sym c.searched.ensures ∙ c.if-not-searched.false) ∙ off))
+
+pub returns-clause-searched : goal.returns-clause-searched
+returns-clause-searched g c = λ on. c.held-held.ensures.cost
+
+pub held-held-requires : goal.held-held-requires
+held-held-requires g c = record { node = subst (λ nodes. c.args.node < nodes) (sym c.requires.fit.words) c.requires.node }
+
+pub returns-then-not-searched-clause-value : goal.returns-then-not-searched-clause-value
+returns-then-not-searched-clause-value g c = unanswered _ _ (sym c.searched.ensures ∙ c.if-not-searched.true)
+
+pub returns-then-not-searched-clause-cost : goal.returns-then-not-searched-clause-cost
+returns-then-not-searched-clause-cost g c = omega arith
