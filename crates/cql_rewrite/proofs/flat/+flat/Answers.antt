@@ -1,5 +1,4 @@
 use Rattle.std.proofs.Common.{◌≡◌, ◌∙◌, sym, take, ap, ap₂, length, ◌≤◌, arith, rules}
-use Rattle.std.proofs.lemmas.Grind.{common_steps}
 use Rattle.std.proofs.lemmas.List.{take_all}
 use Rattle.cq_symmetry.specs.Families.{members}
 use Rattle.cql_syntax.specs.Flat as spec
@@ -64,16 +63,19 @@ unfolding spec.flat
 flat_parts-loop-part-init t c = search rules
 
 pub flat_all-returns : goal.flat_all-returns
-unfolding spec.flat
-flat_all-returns t c = grind (arith, common_steps)
+flat_all-returns t c =
+    let all = take_all c.loop-filter.filter-index c.as_slice-filter-items.result.now c.loop-filter-test.false in
+    c.loop-filter.invariant ∙ ap (λ l. spec.flat_all c.args.context.now (filter_trees l)) all ∙ ap (spec.flat_all c.args.context.now) c.as_slice-filter-items.ensures.tree
 
 pub flat_terms-returns : goal.flat_terms-returns
-unfolding spec.flat
-flat_terms-returns t c = grind (arith, common_steps)
+flat_terms-returns t c =
+    let all = take_all c.loop-term.term-index c.as_slice-term-items.result.now c.loop-term-test.false in
+    c.loop-term.invariant ∙ ap (λ l. spec.flat_terms c.args.context.now (term_trees l)) all ∙ ap (spec.flat_terms c.args.context.now) c.as_slice-term-items.ensures.tree
 
 pub flat_parts-returns : goal.flat_parts-returns
-unfolding spec.flat
-flat_parts-returns t c = grind (arith, common_steps)
+flat_parts-returns t c =
+    let all = take_all c.loop-part.part-index c.as_slice-part-items.result.now c.loop-part-test.false in
+    c.loop-part.invariant ∙ ap (λ l. spec.flat_parts c.args.context.now (part_trees l)) all ∙ ap (spec.flat_parts c.args.context.now) c.as_slice-part-items.ensures.tree
 
 pub flat_member-returns : goal.flat_member-returns
 flat_member-returns t c = search rules
@@ -86,3 +88,91 @@ flat_box-returns t c = search rules
 
 pub flat_members-loop-k-init : goal.flat_members-loop-k-init
 flat_members-loop-k-init t c = search rules
+
+pub flat_form-returns-in-Squares : goal.flat_form-returns-in-Squares
+unfolding spec.flat
+flat_form-returns-in-Squares t c = search rules
+
+pub flat_form-returns-in-Number : goal.flat_form-returns-in-Number
+unfolding spec.flat
+flat_form-returns-in-Number t c = search rules
+
+pub flat_form-returns-in_ok-from_slice-in-Name : goal.flat_form-returns-in_ok-from_slice-in-Name
+unfolding spec.flat
+flat_form-returns-in_ok-from_slice-in-Name t c = search rules
+
+pub flat_form-returns-in-Plain : goal.flat_form-returns-in-Plain
+unfolding spec.flat
+flat_form-returns-in-Plain t c = search rules
+
+pub flat_form-returns-in_ok-text-in-Tagged : goal.flat_form-returns-in_ok-text-in-Tagged
+unfolding spec.flat
+flat_form-returns-in_ok-text-in-Tagged t c = search rules
+
+pub flat_form-returns-in-Outcome : goal.flat_form-returns-in-Outcome
+unfolding spec.flat
+flat_form-returns-in-Outcome t c = search rules
+
+pub flat_form-returns-in-Elo : goal.flat_form-returns-in-Elo
+unfolding spec.flat
+flat_form-returns-in-Elo t c = search rules
+
+pub flat_form-returns-in_ok-part-in-Unary : goal.flat_form-returns-in_ok-part-in-Unary
+unfolding spec.flat
+flat_form-returns-in_ok-part-in-Unary t c = search rules
+
+pub flat_form-returns-in_ok-part-in-Steps : goal.flat_form-returns-in_ok-part-in-Steps
+unfolding spec.flat
+flat_form-returns-in_ok-part-in-Steps t c = search rules
+
+pub flat_form-returns-in_ok-flat_all-in-Chain : goal.flat_form-returns-in_ok-flat_all-in-Chain
+unfolding spec.flat
+flat_form-returns-in_ok-flat_all-in-Chain t c = search rules
+
+pub flat_form-returns-in_ok-flat_terms-in-Sum : goal.flat_form-returns-in_ok-flat_terms-in-Sum
+unfolding spec.flat
+flat_form-returns-in_ok-flat_terms-in-Sum t c = search rules
+
+pub flat_form-returns-in_ok-flat_line-in-Line : goal.flat_form-returns-in_ok-flat_line-in-Line
+unfolding spec.flat
+flat_form-returns-in_ok-flat_line-in-Line t c = search rules
+
+pub flat_form-returns-in_ok-flat_played-in-Played : goal.flat_form-returns-in_ok-flat_played-in-Played
+unfolding spec.flat
+flat_form-returns-in_ok-flat_played-in-Played t c = search rules
+
+pub flat_form-returns-in_ok-flat_box-in-Sort : goal.flat_form-returns-in_ok-flat_box-in-Sort
+unfolding spec.flat
+flat_form-returns-in_ok-flat_box-in-Sort t c = search rules
+
+pub flat_form-returns-in_ok-from_slice-in-Comment : goal.flat_form-returns-in_ok-from_slice-in-Comment
+unfolding spec.flat
+flat_form-returns-in_ok-from_slice-in-Comment t c = search rules
+
+pub flat_form-returns-in_ok-flat_all-in-Any : goal.flat_form-returns-in_ok-flat_all-in-Any
+unfolding spec.flat
+flat_form-returns-in_ok-flat_all-in-Any t c = search rules
+
+pub flat-returns : goal.flat-returns
+unfolding spec.flat
+flat-returns t c = search rules
+
+pub flat_written-returns-in_ok-flat_box-in-Some : goal.flat_written-returns-in_ok-flat_box-in-Some
+unfolding spec.flat
+flat_written-returns-in_ok-flat_box-in-Some t c = search rules
+
+pub flat_written-returns-in-None : goal.flat_written-returns-in-None
+unfolding spec.flat
+flat_written-returns-in-None t c = search rules
+
+pub flat_form-returns-in_ok-second-in-Pair : goal.flat_form-returns-in_ok-second-in-Pair
+unfolding spec.flat
+flat_form-returns-in_ok-second-in-Pair t c = search rules
+
+pub flat_form-returns-in_ok-otherwise-in-If : goal.flat_form-returns-in_ok-otherwise-in-If
+unfolding spec.flat
+flat_form-returns-in_ok-otherwise-in-If t c = search rules
+
+pub flat_form-returns-in_ok-asked-in-Square : goal.flat_form-returns-in_ok-asked-in-Square
+unfolding spec.flat
+flat_form-returns-in_ok-asked-in-Square t c = search rules

@@ -1,4 +1,4 @@
-use Rattle.std.proofs.Common.{◌≡◌, ◌∙◌, sym, ap₂, length, ◌≤◌, arith, rules}
+use Rattle.std.proofs.Common.{◌∙◌, sym, ap₂, arith, rules}
 use Rattle.cql_syntax.specs.Same as spec
 use Rattle.cql_syntax.specs.Unplaced.{all_with, terms_with, parts_with}
 use Rattle.cql_rewrite.proofs.Rows.{filter_rows, term_rows, part_rows, differed, stopped, moved, ended}
@@ -156,3 +156,167 @@ same_form-returns-in_default-19 t c = search rules
 pub same_form-returns-in_default-20 : goal.same_form-returns-in_default-20
 unfolding same_filter with_places
 same_form-returns-in_default-20 t c = search rules
+
+pub same_as-returns-then-same_place : goal.same_as-returns-then-same_place
+unfolding same_filter with_places
+same_as-returns-then-same_place t c = search rules
+
+pub same_as-returns-else-same_place : goal.same_as-returns-else-same_place
+unfolding same_filter with_places
+same_as-returns-else-same_place t c = search rules
+
+pub same_form-returns-in-Squares-Squares : goal.same_form-returns-in-Squares-Squares
+unfolding same_filter with_places
+same_form-returns-in-Squares-Squares t c = search rules
+
+pub same_form-returns-in-Number-Number : goal.same_form-returns-in-Number-Number
+unfolding same_filter with_places
+same_form-returns-in-Number-Number t c = search rules
+
+pub same_form-returns-in-Name-Name : goal.same_form-returns-in-Name-Name
+unfolding same_filter with_places
+same_form-returns-in-Name-Name t c = search rules
+
+pub same_form-returns-in-Plain-Plain : goal.same_form-returns-in-Plain-Plain
+unfolding same_filter with_places
+same_form-returns-in-Plain-Plain t c = search rules
+
+pub same_form-returns-then-same_field : goal.same_form-returns-then-same_field
+unfolding same_filter with_places
+same_form-returns-then-same_field t c = search rules
+
+pub same_form-returns-else-same_field : goal.same_form-returns-else-same_field
+unfolding same_filter with_places
+same_form-returns-else-same_field t c = search rules
+
+pub same_form-returns-in-Outcome-Outcome : goal.same_form-returns-in-Outcome-Outcome
+unfolding same_filter with_places
+same_form-returns-in-Outcome-Outcome t c = search rules
+
+pub same_form-returns-in-Elo-Elo : goal.same_form-returns-in-Elo-Elo
+unfolding same_filter with_places
+same_form-returns-in-Elo-Elo t c = search rules
+
+pub same_form-returns-then-same_unary : goal.same_form-returns-then-same_unary
+unfolding same_filter with_places
+same_form-returns-then-same_unary t c = search rules
+
+pub same_form-returns-else-same_unary : goal.same_form-returns-else-same_unary
+unfolding same_filter with_places
+same_form-returns-else-same_unary t c = search rules
+
+pub same_form-returns-then-n-j : goal.same_form-returns-then-n-j
+unfolding same_filter with_places
+same_form-returns-then-n-j t c = search rules
+
+pub same_form-returns-else-n-j : goal.same_form-returns-else-n-j
+unfolding same_filter with_places
+same_form-returns-else-n-j t c = search rules
+
+pub same_form-returns-then-same_chain : goal.same_form-returns-then-same_chain
+unfolding same_filter with_places
+same_form-returns-then-same_chain t c = search rules
+
+pub same_form-returns-else-same_chain : goal.same_form-returns-else-same_chain
+unfolding same_filter with_places
+same_form-returns-else-same_chain t c = search rules
+
+pub same_form-returns-in-Sum-Sum : goal.same_form-returns-in-Sum-Sum
+unfolding same_filter with_places
+same_form-returns-in-Sum-Sum t c = search rules
+
+pub same_form-returns-then-same_as : goal.same_form-returns-then-same_as
+unfolding same_filter with_places
+same_form-returns-then-same_as t c = search rules
+
+pub same_form-returns-else-same_as : goal.same_form-returns-else-same_as
+unfolding same_filter with_places
+same_form-returns-else-same_as t c = search rules
+
+pub same_form-returns-then-same_as-3 : goal.same_form-returns-then-same_as-3
+unfolding same_filter with_places
+same_form-returns-then-same_as-3 t c = search rules
+
+pub same_form-returns-else-same_as-3 : goal.same_form-returns-else-same_as-3
+unfolding same_filter with_places
+same_form-returns-else-same_as-3 t c = search rules
+
+pub same_form-returns-then-same_as-4 : goal.same_form-returns-then-same_as-4
+unfolding same_filter with_places
+same_form-returns-then-same_as-4 t c = search rules
+
+pub same_form-returns-else-same_as-4 : goal.same_form-returns-else-same_as-4
+unfolding same_filter with_places
+same_form-returns-else-same_as-4 t c = search rules
+
+pub same_form-returns-in-Line-Line : goal.same_form-returns-in-Line-Line
+unfolding same_filter with_places
+same_form-returns-in-Line-Line t c = search rules
+
+pub same_form-returns-in-Played-Played : goal.same_form-returns-in-Played-Played
+unfolding same_filter with_places
+same_form-returns-in-Played-Played t c = search rules
+
+pub same_form-returns-then-same_family : goal.same_form-returns-then-same_family
+unfolding same_filter with_places
+same_form-returns-then-same_family t c = search rules
+
+pub same_form-returns-else-same_family : goal.same_form-returns-else-same_family
+unfolding same_filter with_places
+same_form-returns-else-same_family t c = search rules
+
+pub same_form-returns-then-same_text-2 : goal.same_form-returns-then-same_text-2
+unfolding same_filter with_places
+same_form-returns-then-same_text-2 t c = search rules
+
+pub same_form-returns-else-same_text-2 : goal.same_form-returns-else-same_text-2
+unfolding same_filter with_places
+same_form-returns-else-same_text-2 t c = search rules
+
+pub same_form-returns-in-Comment-Comment : goal.same_form-returns-in-Comment-Comment
+unfolding same_filter with_places
+same_form-returns-in-Comment-Comment t c = search rules
+
+pub same_form-returns-then-same_kind : goal.same_form-returns-then-same_kind
+unfolding same_filter with_places
+same_form-returns-then-same_kind t c = search rules
+
+pub same_form-returns-else-same_kind : goal.same_form-returns-else-same_kind
+unfolding same_filter with_places
+same_form-returns-else-same_kind t c = search rules
+
+pub same_written-returns-in-Some-Some : goal.same_written-returns-in-Some-Some
+unfolding same_filter with_places
+same_written-returns-in-Some-Some t c = search rules
+
+pub same_written-returns-in-None-None : goal.same_written-returns-in-None-None
+unfolding same_filter with_places
+same_written-returns-in-None-None t c = search rules
+
+pub same_body-returns-in-Atom-Atom : goal.same_body-returns-in-Atom-Atom
+unfolding same_filter with_places
+same_body-returns-in-Atom-Atom t c = search rules
+
+pub same_body-returns-in-Group-Group : goal.same_body-returns-in-Group-Group
+unfolding same_filter with_places
+same_body-returns-in-Group-Group t c = search rules
+
+pub same_body-returns-in_default : goal.same_body-returns-in_default
+unfolding same_filter with_places
+same_body-returns-in_default t c = search rules
+
+pub same_body-returns-in_default-2 : goal.same_body-returns-in_default-2
+unfolding same_filter with_places
+same_body-returns-in_default-2 t c = search rules
+
+pub same_filters-loop-k-init : goal.same_filters-loop-k-init
+same_filters-loop-k-init t c =
+    ap₂ (λ xs ys. spec.same_filters (all_with c.args.placed xs) (all_with c.args.placed ys)) c.as_slice-first.ensures.tree c.as_slice-second.ensures.tree
+
+pub same_terms-loop-k-init : goal.same_terms-loop-k-init
+same_terms-loop-k-init t c =
+    ap₂ (λ xs ys. spec.same_terms (terms_with c.args.placed xs) (terms_with c.args.placed ys)) c.as_slice-first.ensures.tree c.as_slice-second.ensures.tree
+
+pub same_parts-loop-k-init : goal.same_parts-loop-k-init
+same_parts-loop-k-init t c =
+    ap₂ (λ xs ys. spec.same_parts (parts_with c.args.placed xs) (parts_with c.args.placed ys)) c.as_slice-first.ensures.tree c.as_slice-second.ensures.tree

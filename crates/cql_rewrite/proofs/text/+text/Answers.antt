@@ -1,5 +1,5 @@
-use Rattle.std.proofs.Common.{◌≡◌, ◌++◌, ◌∷◌, [], take, ap, rules, arith}
-use Rattle.std.proofs.lemmas.Grind.{common_steps}
+use Rattle.std.proofs.Common.{◌∙◌, take, ap, rules}
+use Rattle.std.proofs.lemmas.List.{take_all}
 use Rattle.cql_syntax.specs.TreeOf.{filter_tree, body_tree, filter_trees, part_trees}
 use Rattle.cql_syntax.proofs.Lists.{filter_trees_more, part_trees_more}
 use Rattle.cql_rewrite.specs.FlatText as spec
@@ -125,9 +125,11 @@ unfolding spec.text
 part_texts-loop-part-init t c = search rules
 
 pub texts_of-returns : goal.texts_of-returns
-unfolding spec.text
-texts_of-returns t c = grind (arith, common_steps)
+texts_of-returns t c =
+    let all = take_all c.loop-filter.filter-index c.as_slice-filter-items.result.now c.loop-filter-test.false in
+    c.loop-filter.invariant ∙ ap (λ l. spec.texts (filter_trees l)) all ∙ ap spec.texts c.as_slice-filter-items.ensures.tree
 
 pub part_texts-returns : goal.part_texts-returns
-unfolding spec.text
-part_texts-returns t c = grind (arith, common_steps)
+part_texts-returns t c =
+    let all = take_all c.loop-part.part-index c.as_slice-part-items.result.now c.loop-part-test.false in
+    c.loop-part.invariant ∙ ap (λ l. spec.part_texts (part_trees l)) all ∙ ap spec.part_texts c.as_slice-part-items.ensures.tree
