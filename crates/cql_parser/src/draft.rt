@@ -1,8 +1,8 @@
 //! A rule part by part, and the filter that it makes.
-ghost use Rattle.std.specs.Prelude.{◌≡◌, true, IfOk, OnOk};
+ghost use Rattle.std.specs.Prelude.{◌≡◌, true, IfOk, OnOk, Some};
 ghost use Rattle.std.specs.Option.{option_map};
 ghost use Rattle.cql_syntax.specs.TreeOf.{filter_tree, form_tree, body_tree, parts_tree, played_tree, written_tree};
-ghost use Rattle.cql_syntax.specs.Trees.{move_of};
+ghost use Rattle.cql_syntax.specs.Trees.{move_of, written};
 ghost use Rattle.cql_parser.specs.Drafts.{name_of, draft_of, say_word, next_part, say_sign, extent_of, say_number, say, take, need, field_of, search_of, form, form_of, with_body, node_of, filter_of, body_of as body_by};
 ghost use Rattle.cql_parser.specs.Makers.{is_leaf};
 ghost use Rattle.cql_parser.specs.Shown.{node_shown, draft_shown};
@@ -198,21 +198,20 @@ impl Draft {
     {
         match place {
             Place::Condition | Place::SquaresDue | Place::BetweenFirst | Place::Origin => {
-                self.slots.one = Some(boxed(alloc, node)?);
+                fill(&mut self.slots.one, alloc, node)
             }
             Place::Consequence | Place::BetweenSecond | Place::Goal => {
-                self.slots.two = Some(boxed(alloc, node)?);
+                fill(&mut self.slots.two, alloc, node)
             }
-            Place::Taken => self.slots.three = Some(boxed(alloc, node)?),
+            Place::Taken => fill(&mut self.slots.three, alloc, node),
             Place::ListFirst
             | Place::ListSecond
             | Place::ListMore
             | Place::Braces
-            | Place::BracesMore => self.row.push(filter_in(node))?,
-            Place::Part(..) => self.line.body = Some(body_of(alloc, node)?),
-            _ => self.slots.last = Some(boxed(alloc, node)?),
+            | Place::BracesMore => self.row.push(filter_in(node)),
+            Place::Part(..) => fill_body(&mut self.line.body, alloc, node),
+            _ => fill(&mut self.slots.last, alloc, node),
         }
-        Ok(())
     }
 
     // The text along the rule.
@@ -504,6 +503,22 @@ fn boxed(alloc: Global, node: Node) -> Result<Box<Filter>, NoMemory>
     ensures { IfOk result (λ f. filter_tree f.value ≡ filter_of (node_shown node)) }
 {
     boxed_filter(alloc, filter_in(node))
+}
+
+// Puts the filter of a part into its slot.
+fn fill(slot: &mut Option<Box<Filter>>, alloc: Global, node: Node) -> Result<(), NoMemory>
+    ensures { OnOk result (written_tree slot.new ≡ written (filter_of (node_shown node))) }
+{
+    *slot = Some(boxed(alloc, node)?);
+    Ok(())
+}
+
+// Puts a part of a line into its slot.
+fn fill_body(slot: &mut Option<Body>, alloc: Global, node: Node) -> Result<(), NoMemory>
+    ensures { OnOk result (option_map body_tree slot.new ≡ Some (body_by (node_shown node))) }
+{
+    *slot = Some(body_of(alloc, node)?);
+    Ok(())
 }
 
 // A part of a line.

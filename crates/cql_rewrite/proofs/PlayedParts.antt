@@ -1,10 +1,10 @@
--- Two filters of the move are the same where their parts are, one by one.
+-- A filter of the move as its parts; two are the same where their parts are, one by one.
 use Rattle.std.proofs.Common.{◌≡◌, Bool, true, false, ◌&&◌, refl, sym, ap, ap₂, ◌∙◌}
 use Rattle.cql_syntax.specs.Same.{same_filter, same_played, same_written}
 use Rattle.cql_syntax.specs.TreeOf.{played_tree, held_tree, written_tree}
-use Rattle.cql_syntax.specs.Trees.{WrittenTree}
+use Rattle.cql_syntax.specs.Trees.{WrittenTree, move_of}
 use Rattle.cql_syntax.specs.Unplaced.{with_places, played_with, written_with}
-use Rattle.cql_syntax.specs.declared.tree.Played.{Played, Played', out-Played, outs-Played', Held-Played-origin, view-Played-origin, None', Some'}
+use Rattle.cql_syntax.specs.declared.tree.Played.{Played, Played', out-Played, outs-Played', roll-Played, out-roll-Played, Held-Played-origin, view-Played-origin, None', Some'}
 
 abbrev origin_of : Played → WrittenTree
 origin_of (Played' origin goal taken promoted) = held_tree origin
@@ -33,6 +33,20 @@ taken_is (Played' origin goal taken promoted) = ap (λ y. written_tree y.taken) 
 
 promoted_is : (p : Played) → written_tree (out-Played p).promoted ≡ promoted_of p
 promoted_is (Played' origin goal taken promoted) = ap (λ y. written_tree y.promoted) (outs-Played' origin goal taken promoted) ∙ held_is promoted
+
+by_shape : (p : Played) → played_tree p ≡ move_of (origin_of p) (goal_of p) (taken_of p) (promoted_of p)
+by_shape (Played' origin goal taken promoted) = refl
+
+pub played_is : (p : Played)
+    → played_tree p ≡ move_of (written_tree (out-Played p).origin) (written_tree (out-Played p).goal) (written_tree (out-Played p).taken) (written_tree (out-Played p).promoted)
+played_is p =
+    by_shape p
+    ∙ sym (ap₂ (λ x y. move_of x y (written_tree (out-Played p).taken) (written_tree (out-Played p).promoted)) (origin_is p) (goal_is p)
+    ∙ ap₂ (move_of (origin_of p) (goal_of p)) (taken_is p) (promoted_is p))
+
+pub played_rolled : (x : _) → played_tree (roll-Played x) ≡ move_of (written_tree x.origin) (written_tree x.goal) (written_tree x.taken) (written_tree x.promoted)
+played_rolled x =
+    played_is (roll-Played x) ∙ ap (λ y. move_of (written_tree y.origin) (written_tree y.goal) (written_tree y.taken) (written_tree y.promoted)) (out-roll-Played x)
 
 abbrev part_same : Bool → WrittenTree → WrittenTree → Bool
 part_same placed v w = same_written (written_with placed v) (written_with placed w)

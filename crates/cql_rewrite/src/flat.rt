@@ -184,6 +184,7 @@ fn keep_filter(kept: &mut Filters, filter: Filter) -> Result<(), NoMemory>
     ensures { OnOk result (filters_tree kept.new ≡ with_new (filters_tree kept.old) (Some (filter_tree filter))) }
 {
     if is_known(kept, &filter) {
+        drop(filter);
         return Ok(());
     }
     kept.push(filter)

@@ -1,10 +1,10 @@
-use Rattle.std.proofs.Common.{◌≡◌, ◌∷◌, true, false, sym, ◌∙◌, ap, rules, arith}
+use Rattle.std.proofs.Common.{◌≡◌, ◌∷◌, true, false, refl, sym, ◌∙◌, ap, rules, arith}
 use Rattle.std.proofs.lemmas.Grind.{common_steps}
 use Rattle.cq_symmetry.specs.Families.{members}
 use Rattle.cq_symmetry.specs.Mappings.{PlainMapping}
 use Rattle.cql_syntax.specs.TreeOf.{filter_tree}
 use Rattle.cql_syntax.specs.Meaning as meaning
-use Rattle.cql_rewrite.proofs.Turns.{any_here, any_next}
+use Rattle.cql_rewrite.proofs.Turns.{any_here, any_next, any_end}
 use Rattle.cql_rewrite.proofs.fits.+fit.Goals as goal
 
 pub member_fits-returns-then-branch : goal.member_fits-returns-then-branch
@@ -140,3 +140,20 @@ terms_fit-returns-then-not-branch t c = grind (arith, common_steps)
 pub parts_fit-returns-then-not-branch : goal.parts_fit-returns-then-not-branch
 unfolding meaning.fits
 parts_fit-returns-then-not-branch t c = grind (arith, common_steps)
+
+pub all_fit-loop-filter-init : goal.all_fit-loop-filter-init
+all_fit-loop-filter-init t c = ap (meaning.all_fit c.args.context.now) c.as_slice-filter-items.ensures.tree
+
+pub terms_fit-loop-term-init : goal.terms_fit-loop-term-init
+terms_fit-loop-term-init t c = ap (meaning.terms_fit c.args.context.now) c.as_slice-term-items.ensures.tree
+
+pub parts_fit-loop-part-init : goal.parts_fit-loop-part-init
+parts_fit-loop-part-init t c = ap (meaning.parts_fit c.args.context.now) c.as_slice-part-items.ensures.tree
+
+pub member_fits-loop-k-init : goal.member_fits-loop-k-init
+member_fits-loop-k-init t c = refl
+
+pub member_fits-returns : goal.member_fits-returns
+member_fits-returns t c =
+    let p = λ (h : PlainMapping). meaning.fits (h ∷ c.args.context.now) (filter_tree c.args.part.now) in
+    sym (any_end p (members c.args.family) c.loop-k.k (omega (arith, c.loop-k-test.false, c.size-k-end.ensures))) ∙ c.loop-k.invariant

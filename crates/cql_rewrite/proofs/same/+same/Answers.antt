@@ -1,11 +1,18 @@
-use Rattle.std.proofs.Common.{◌≡◌, ◌∙◌, sym, ap₂, length, ◌≤◌, arith, rules}
+use Rattle.std.proofs.Common.{◌≡◌, ◌∙◌, sym, ap₂, arith, rules, Bool}
 use Rattle.cql_syntax.specs.Same as spec
 use Rattle.cql_syntax.specs.Unplaced.{all_with, terms_with, parts_with}
 use Rattle.cql_rewrite.proofs.Rows.{filter_rows, term_rows, part_rows, differed, stopped, moved, ended}
 use Rattle.cql_rewrite.proofs.PlayedParts.{same_parts_of, promoted_same, third_differs, fourth_decides}
-use Rattle.cql_syntax.specs.Same.{same_filter}
-use Rattle.cql_syntax.specs.Unplaced.{with_places}
+use Rattle.cql_syntax.specs.Same.{same_filter, same_form}
+use Rattle.cql_syntax.specs.TreeOf.{form_tree}
+use Rattle.cql_syntax.specs.Unplaced.{with_places, form_with}
+use Rattle.cql_syntax.specs.declared.tree.Form.{Form}
 use Rattle.cql_rewrite.proofs.same.+same.Goals as goal
+
+-- what holds of two forms that are known holds of those compared
+of_these : (placed : Bool) (f g x y : Form) (same : Bool) → f ≡ x → g ≡ y
+    → same ≡ same_form (form_with placed (form_tree x)) (form_with placed (form_tree y)) → same ≡ same_form (form_with placed (form_tree f)) (form_with placed (form_tree g))
+of_these placed f g x y same p q e = e ∙ sym (ap₂ (λ x y. same_form (form_with placed (form_tree x)) (form_with placed (form_tree y))) p q)
 
 pub same_filters-returns-then-first-second : goal.same_filters-returns-then-first-second
 same_filters-returns-then-first-second t c = differed _ _ (filter_rows c.args.placed) c.as_slice-first.result.now c.as_slice-second.result.now _
@@ -156,3 +163,167 @@ same_form-returns-in_default-19 t c = search rules
 pub same_form-returns-in_default-20 : goal.same_form-returns-in_default-20
 unfolding same_filter with_places
 same_form-returns-in_default-20 t c = search rules
+
+pub same_as-returns-then-same_place : goal.same_as-returns-then-same_place
+unfolding same_filter with_places
+same_as-returns-then-same_place t c = search rules
+
+pub same_as-returns-else-same_place : goal.same_as-returns-else-same_place
+unfolding same_filter with_places
+same_as-returns-else-same_place t c = search rules
+
+pub same_form-returns-in-Squares-Squares : goal.same_form-returns-in-Squares-Squares
+unfolding same_filter with_places
+same_form-returns-in-Squares-Squares t c = of_these c.args.placed c.args.f.now c.args.g.now _ _ _ c.in-Squares-Squares.is-0 c.in-Squares-Squares.is-1 c.same_designator.ensures
+
+pub same_form-returns-in-Number-Number : goal.same_form-returns-in-Number-Number
+unfolding same_filter with_places
+same_form-returns-in-Number-Number t c = search rules
+
+pub same_form-returns-in-Name-Name : goal.same_form-returns-in-Name-Name
+unfolding same_filter with_places
+same_form-returns-in-Name-Name t c = of_these c.args.placed c.args.f.now c.args.g.now _ _ _ c.in-Name-Name.is-0 c.in-Name-Name.is-1 c.same_text.ensures
+
+pub same_form-returns-in-Plain-Plain : goal.same_form-returns-in-Plain-Plain
+unfolding same_filter with_places
+same_form-returns-in-Plain-Plain t c = of_these c.args.placed c.args.f.now c.args.g.now _ _ _ c.in-Plain-Plain.is-0 c.in-Plain-Plain.is-1 c.same_plain.ensures
+
+pub same_form-returns-then-same_field : goal.same_form-returns-then-same_field
+unfolding same_filter with_places
+same_form-returns-then-same_field t c = search rules
+
+pub same_form-returns-else-same_field : goal.same_form-returns-else-same_field
+unfolding same_filter with_places
+same_form-returns-else-same_field t c = search rules
+
+pub same_form-returns-in-Outcome-Outcome : goal.same_form-returns-in-Outcome-Outcome
+unfolding same_filter with_places
+same_form-returns-in-Outcome-Outcome t c = of_these c.args.placed c.args.f.now c.args.g.now _ _ _ c.in-Outcome-Outcome.is-0 c.in-Outcome-Outcome.is-1 c.same_outcome.ensures
+
+pub same_form-returns-in-Elo-Elo : goal.same_form-returns-in-Elo-Elo
+unfolding same_filter with_places
+same_form-returns-in-Elo-Elo t c = of_these c.args.placed c.args.f.now c.args.g.now _ _ _ c.in-Elo-Elo.is-0 c.in-Elo-Elo.is-1 c.same_of.ensures
+
+pub same_form-returns-then-same_unary : goal.same_form-returns-then-same_unary
+unfolding same_filter with_places
+same_form-returns-then-same_unary t c = search rules
+
+pub same_form-returns-else-same_unary : goal.same_form-returns-else-same_unary
+unfolding same_filter with_places
+same_form-returns-else-same_unary t c = search rules
+
+pub same_form-returns-then-n-j : goal.same_form-returns-then-n-j
+unfolding same_filter with_places
+same_form-returns-then-n-j t c = search rules
+
+pub same_form-returns-else-n-j : goal.same_form-returns-else-n-j
+unfolding same_filter with_places
+same_form-returns-else-n-j t c = search rules
+
+pub same_form-returns-then-same_chain : goal.same_form-returns-then-same_chain
+unfolding same_filter with_places
+same_form-returns-then-same_chain t c = search rules
+
+pub same_form-returns-else-same_chain : goal.same_form-returns-else-same_chain
+unfolding same_filter with_places
+same_form-returns-else-same_chain t c = search rules
+
+pub same_form-returns-in-Sum-Sum : goal.same_form-returns-in-Sum-Sum
+unfolding same_filter with_places
+same_form-returns-in-Sum-Sum t c = of_these c.args.placed c.args.f.now c.args.g.now _ _ _ c.in-Sum-Sum.is-0 c.in-Sum-Sum.is-1 c.same_terms.ensures
+
+pub same_form-returns-then-same_as : goal.same_form-returns-then-same_as
+unfolding same_filter with_places
+same_form-returns-then-same_as t c = search rules
+
+pub same_form-returns-else-same_as : goal.same_form-returns-else-same_as
+unfolding same_filter with_places
+same_form-returns-else-same_as t c = search rules
+
+pub same_form-returns-then-same_as-3 : goal.same_form-returns-then-same_as-3
+unfolding same_filter with_places
+same_form-returns-then-same_as-3 t c = search rules
+
+pub same_form-returns-else-same_as-3 : goal.same_form-returns-else-same_as-3
+unfolding same_filter with_places
+same_form-returns-else-same_as-3 t c = search rules
+
+pub same_form-returns-then-same_as-4 : goal.same_form-returns-then-same_as-4
+unfolding same_filter with_places
+same_form-returns-then-same_as-4 t c = search rules
+
+pub same_form-returns-else-same_as-4 : goal.same_form-returns-else-same_as-4
+unfolding same_filter with_places
+same_form-returns-else-same_as-4 t c = search rules
+
+pub same_form-returns-in-Line-Line : goal.same_form-returns-in-Line-Line
+unfolding same_filter with_places
+same_form-returns-in-Line-Line t c = of_these c.args.placed c.args.f.now c.args.g.now _ _ _ c.in-Line-Line.is-0 c.in-Line-Line.is-1 c.same_line.ensures
+
+pub same_form-returns-in-Played-Played : goal.same_form-returns-in-Played-Played
+unfolding same_filter with_places
+same_form-returns-in-Played-Played t c = of_these c.args.placed c.args.f.now c.args.g.now _ _ _ c.in-Played-Played.is-0 c.in-Played-Played.is-1 c.same_played.ensures
+
+pub same_form-returns-then-same_family : goal.same_form-returns-then-same_family
+unfolding same_filter with_places
+same_form-returns-then-same_family t c = search rules
+
+pub same_form-returns-else-same_family : goal.same_form-returns-else-same_family
+unfolding same_filter with_places
+same_form-returns-else-same_family t c = search rules
+
+pub same_form-returns-then-same_text-2 : goal.same_form-returns-then-same_text-2
+unfolding same_filter with_places
+same_form-returns-then-same_text-2 t c = search rules
+
+pub same_form-returns-else-same_text-2 : goal.same_form-returns-else-same_text-2
+unfolding same_filter with_places
+same_form-returns-else-same_text-2 t c = search rules
+
+pub same_form-returns-in-Comment-Comment : goal.same_form-returns-in-Comment-Comment
+unfolding same_filter with_places
+same_form-returns-in-Comment-Comment t c = of_these c.args.placed c.args.f.now c.args.g.now _ _ _ c.in-Comment-Comment.is-0 c.in-Comment-Comment.is-1 c.same_text-in-Comment-Comment.ensures
+
+pub same_form-returns-then-same_kind : goal.same_form-returns-then-same_kind
+unfolding same_filter with_places
+same_form-returns-then-same_kind t c = search rules
+
+pub same_form-returns-else-same_kind : goal.same_form-returns-else-same_kind
+unfolding same_filter with_places
+same_form-returns-else-same_kind t c = search rules
+
+pub same_written-returns-in-Some-Some : goal.same_written-returns-in-Some-Some
+unfolding same_filter with_places
+same_written-returns-in-Some-Some t c = search rules
+
+pub same_written-returns-in-None-None : goal.same_written-returns-in-None-None
+unfolding same_filter with_places
+same_written-returns-in-None-None t c = search rules
+
+pub same_body-returns-in-Atom-Atom : goal.same_body-returns-in-Atom-Atom
+unfolding same_filter with_places
+same_body-returns-in-Atom-Atom t c = search rules
+
+pub same_body-returns-in-Group-Group : goal.same_body-returns-in-Group-Group
+unfolding same_filter with_places
+same_body-returns-in-Group-Group t c = search rules
+
+pub same_body-returns-in_default : goal.same_body-returns-in_default
+unfolding same_filter with_places
+same_body-returns-in_default t c = search rules
+
+pub same_body-returns-in_default-2 : goal.same_body-returns-in_default-2
+unfolding same_filter with_places
+same_body-returns-in_default-2 t c = search rules
+
+pub same_filters-loop-k-init : goal.same_filters-loop-k-init
+same_filters-loop-k-init t c =
+    ap₂ (λ xs ys. spec.same_filters (all_with c.args.placed xs) (all_with c.args.placed ys)) c.as_slice-first.ensures.tree c.as_slice-second.ensures.tree
+
+pub same_terms-loop-k-init : goal.same_terms-loop-k-init
+same_terms-loop-k-init t c =
+    ap₂ (λ xs ys. spec.same_terms (terms_with c.args.placed xs) (terms_with c.args.placed ys)) c.as_slice-first.ensures.tree c.as_slice-second.ensures.tree
+
+pub same_parts-loop-k-init : goal.same_parts-loop-k-init
+same_parts-loop-k-init t c =
+    ap₂ (λ xs ys. spec.same_parts (parts_with c.args.placed xs) (parts_with c.args.placed ys)) c.as_slice-first.ensures.tree c.as_slice-second.ensures.tree

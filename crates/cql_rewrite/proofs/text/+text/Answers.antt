@@ -1,8 +1,11 @@
-use Rattle.std.proofs.Common.{◌≡◌, ◌++◌, ◌∷◌, [], take, ap, rules, arith}
-use Rattle.std.proofs.lemmas.Grind.{common_steps}
-use Rattle.cql_syntax.specs.TreeOf.{filter_tree, body_tree, filter_trees, part_trees}
+use Rattle.std.proofs.Common.{◌≡◌, ◌∙◌, take, ap, ap₂, sym, subst, rules}
+use Rattle.std.specs.Prelude.{IfOk}
+use Rattle.std.proofs.lemmas.List.{take_all}
+use Rattle.cql_syntax.specs.TreeOf.{filter_tree, body_tree, written_tree, filter_trees, part_trees}
+use Rattle.cql_syntax.specs.declared.tree.Played.{out-Played}
 use Rattle.cql_syntax.proofs.Lists.{filter_trees_more, part_trees_more}
 use Rattle.cql_rewrite.specs.FlatText as spec
+use Rattle.cql_rewrite.proofs.PlayedParts.{played_is}
 use Rattle.cql_rewrite.proofs.Texts.{texts_snoc, part_texts_snoc}
 use Rattle.cql_rewrite.proofs.text.+text.Goals as goal
 
@@ -125,9 +128,20 @@ unfolding spec.text
 part_texts-loop-part-init t c = search rules
 
 pub texts_of-returns : goal.texts_of-returns
-unfolding spec.text
-texts_of-returns t c = grind (arith, common_steps)
+texts_of-returns t c =
+    let all = take_all c.loop-filter.filter-index c.as_slice-filter-items.result.now c.loop-filter-test.false in
+    c.loop-filter.invariant ∙ ap (λ l. spec.texts (filter_trees l)) all ∙ ap spec.texts c.as_slice-filter-items.ensures.tree
 
 pub part_texts-returns : goal.part_texts-returns
+part_texts-returns t c =
+    let all = take_all c.loop-part.part-index c.as_slice-part-items.result.now c.loop-part-test.false in
+    c.loop-part.invariant ∙ ap (λ l. spec.part_texts (part_trees l)) all ∙ ap spec.part_texts c.as_slice-part-items.ensures.tree
+
+pub played_of-returns : goal.played_of-returns
 unfolding spec.text
-part_texts-returns t c = grind (arith, common_steps)
+played_of-returns t c =
+    let played = out-Played c.args.played.now in
+    let is = ap₂ (λ x y. spec.in_move x y c.in_ok-taken.taken c.in_ok-promoted.promoted) c.in_ok-origin.ensures c.in_ok-goal.ensures
+    ∙ ap₂ (spec.in_move (spec.written_text (written_tree played.origin)) (spec.written_text (written_tree played.goal))) c.in_ok-taken.ensures c.in_ok-promoted.ensures
+    ∙ sym (ap spec.played_text (played_is c.args.played.now)) in
+    subst (λ x. IfOk c.in_move.result (λ text. text ≡ x)) is c.in_move.ensures
