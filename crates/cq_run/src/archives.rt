@@ -80,7 +80,11 @@ pub fn answer_with<R: Threads + Sync, S: Source, O: Sink, E: Sink, G: Gate + Syn
         return Status::NoMemory;
     };
     if crew.settings.first {
-        return answer_first(crew, &plan, source, out, err);
+        let status = answer_first(crew, &plan, source, out, err);
+        drop(plan);
+        return status;
     }
-    answer_all(crew, &plan, source, out, err)
+    let status = answer_all(crew, &plan, source, out, err);
+    drop(plan);
+    status
 }

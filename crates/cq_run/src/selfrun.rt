@@ -64,7 +64,9 @@ pub fn answer_text_over_made<R: Threads + Sync, O: Sink, E: Sink, G: Gate + Sync
         first: false,
     };
     let crew = Crew::new(rt, alloc, all, gate);
-    answer_made(&crew, &query, settings.seed, settings.games, out)
+    let status = answer_made(&crew, &query, settings.seed, settings.games, out);
+    drop(query);
+    status
 }
 
 // Answers a query that is accepted over the archive of so many games that a seed gives.
@@ -98,7 +100,9 @@ fn made_totals<R: Threads + Sync, G: Gate + Sync>(
     archives_are_short();
     let plan = Plan::make(crew.alloc, query)?;
     let archive = make_archive(crew.alloc, seed, games)?;
-    count_archive(crew, &plan, archive)
+    let totals = count_archive(crew, &plan, archive);
+    drop(plan);
+    totals
 }
 
 // Answers the query of `plan` over the games of one batch after the other, and counts what is found.

@@ -86,7 +86,11 @@ pub fn run<R: Threads + Sync, D: Desk, O: Sink, E: Sink, G: Gate + Sync>(
     faulty_tokens_spell_no_query();
     tokens_spell_at_most_one_query();
     match read_words(alloc, words) {
-        Ok(job) => do_job(rt, alloc, &job, desk, out, err, gate),
+        Ok(job) => {
+            let status = do_job(rt, alloc, &job, desk, out, err, gate);
+            drop(job);
+            status
+        }
         Err(Refusal::Fault(_)) => refuse_words(err),
         Err(Refusal::NoMemory) => Status::NoMemory,
     }
@@ -170,7 +174,11 @@ fn answer_query_file<R: Threads + Sync, D: Desk, O: Sink, E: Sink, G: Gate + Syn
         (sink_view E.taken E.faults err.old) (sink_view E.taken E.faults err.new))) }
 {
     match query_in_file(crew.alloc, name, desk) {
-        Ok(query) => answer_file(crew, &query, archive, desk, out, err),
+        Ok(query) => {
+            let status = answer_file(crew, &query, archive, desk, out, err);
+            drop(query);
+            status
+        }
         Err(why) => report_refusal(crew.alloc, &why, err),
     }
 }
@@ -194,7 +202,9 @@ fn answer_text<R: Threads + Sync, D: Desk, O: Sink, E: Sink, G: Gate + Sync>(
         Err(Refusal::Fault(fault)) => return refuse_query(crew.alloc, &fault, err),
         Err(Refusal::NoMemory) => return Status::NoMemory,
     };
-    answer_file(crew, &query, archive, desk, out, err)
+    let status = answer_file(crew, &query, archive, desk, out, err);
+    drop(query);
+    status
 }
 
 // Answers a query that is accepted over the archive in a file.

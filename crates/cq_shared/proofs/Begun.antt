@@ -29,7 +29,7 @@ use Rattle.cq_shared.proofs.Unions.{Told, past_end, left_before, left_last, left
 pub begun_by : (test : ℕ → Bool) (many k : ℕ) (items : List Bool) → many ≤ k → k ≤ many → Told test k items → (n : ℕ) → get_or items n false ≡ (nat_lt n many && test n)
 begun_by test many k items high low had n = ⊎_elim
     (λ less. had.each n (omega (arith, less, high)) ∙ ap (λ b. b && test n) (sym (lt-ltb n many less)))
-    (λ past. past_end items n (omega (arith, past, low, had.count)) ∙ ap (λ b. b && test n) (sym (le-ltb n many past)))
+    (λ past. past_end false items n (omega (arith, past, low, had.count)) ∙ ap (λ b. b && test n) (sym (le-ltb n many past)))
     (cases_lt n many)
 
 -- query by query

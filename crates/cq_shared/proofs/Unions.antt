@@ -12,9 +12,13 @@ use Rattle.cq_shared.specs.declared.nodes.Nodes.{Nodes}
 use Rattle.cql_columns.specs.Columns.{is_live, AreAsked, AreKept}
 use Rattle.cq_shared.specs.Matching.{is_left, is_asked_by, meets, part_holds, tree_for, IsReady, CoversWanted, IsTold, IsNarrowedBy}
 
-pub record Told (test : ℕ → Bool) (k : ℕ) (items : List Bool) : Type 0 where
+-- the first k items are the values of their numbers
+pub record Filled {X : Type 0} (none : X) (value : ℕ → X) (k : ℕ) (items : List X) : Type 0 where
   pub count : length items ≡ k
-  pub each : (n : ℕ) → n < k → get_or items n false ≡ test n
+  pub each : (n : ℕ) → n < k → get_or items n none ≡ value n
+
+abbrev pub Told : (ℕ → Bool) → ℕ → List Bool → Type 0
+Told = Filled false
 
 inside_or_past : (n k : ℕ) → (n < k) ⊎ (k ≤ n)
 inside_or_past n k = by_test (nat_lt n k) refl
@@ -23,28 +27,31 @@ inside_or_past n k = by_test (nat_lt n k) refl
     by_test true e = inl (ltb-true n k e)
     by_test false e = let l = ltb-false n k e in inr (omega arith)
 
-pub told_none : (test : ℕ → Bool) (items : List Bool) → items ≡ [] → Told test 0 items
-told_none test items is = record { count = ap length is; each = λ n h. absurd (omega (arith, h)) }
+pub filled_none : {X : Type 0} (none : X) (value : ℕ → X) (items : List X) → items ≡ [] → Filled none value 0 items
+filled_none none value items is = record { count = ap length is; each = λ n h. absurd (omega (arith, h)) }
 
-pub told_more : (test : ℕ → Bool) (k : ℕ) (items later : List Bool) (b : Bool) → later ≡ items ++ b ∷ [] → b ≡ test k → Told test k items → Told test (k + 1) later
-told_more test k items later b more is had = record {
-  count = ap length more ∙ length-append items (b ∷ []) ∙ ap (λ i. i + 1) had.count;
+pub filled_more : {X : Type 0} (none : X) (value : ℕ → X) (k : ℕ) (items later : List X) (x : X) → later ≡ items ++ x ∷ [] → x ≡ value k
+    → Filled none value k items → Filled none value (k + 1) later
+filled_more none value k items later x more is had = record {
+  count = ap length more ∙ length-append items (x ∷ []) ∙ ap (λ i. i + 1) had.count;
   each = λ n h. ⊎_elim
-      (λ less. ap (λ l. get_or l n false) more ∙ get_or_append_left items (b ∷ []) false n (omega (arith, less, had.count)) ∙ had.each n less)
+      (λ less. ap (λ l. get_or l n none) more ∙ get_or_append_left items (x ∷ []) none n (omega (arith, less, had.count)) ∙ had.each n less)
       (λ past. let here : n ≡ length items = omega (arith, past, h, had.count) in
-      ap (λ l. get_or l n false) more ∙ ap (λ i. get_or (items ++ b ∷ []) i false) here ∙ get_or-append_seam items b [] false ∙ is ∙ ap test (sym (here ∙ had.count)))
+      ap (λ l. get_or l n none) more ∙ ap (λ i. get_or (items ++ x ∷ []) i none) here ∙ get_or-append_seam items x [] none ∙ is ∙ ap value (sym (here ∙ had.count)))
       (inside_or_past n k);
 }
 
-pub past_end : (xs : List Bool) (n : ℕ) → length xs ≤ n → get_or xs n false ≡ false
-past_end [] zero h = refl
-past_end [] (suc n) h = refl
-past_end (x ∷ xs) zero h = absurd (omega (arith, h))
-past_end (x ∷ xs) (suc n) h = past_end xs n (omega (arith, h))
+pub past_end : {X : Type 0} (none : X) (xs : List X) (n : ℕ) → length xs ≤ n → get_or xs n none ≡ none
+past_end none [] zero h = refl
+past_end none [] (suc n) h = refl
+past_end none (x ∷ xs) zero h = absurd (omega (arith, h))
+past_end none (x ∷ xs) (suc n) h = past_end none xs n (omega (arith, h))
 
--- where the test is false past the end, the items are the test everywhere
-pub told_all : (test : ℕ → Bool) (k : ℕ) (items : List Bool) → Told test k items → ((n : ℕ) → k ≤ n → test n ≡ false) → (n : ℕ) → get_or items n false ≡ test n
-told_all test k items had past n = ⊎_elim (λ less. had.each n less) (λ more. past_end items n (omega (arith, more, had.count)) ∙ sym (past n more)) (inside_or_past n k)
+-- where there is no value past the end, the items are the values everywhere
+pub filled_all : {X : Type 0} (none : X) (value : ℕ → X) (k : ℕ) (items : List X) → Filled none value k items → ((n : ℕ) → k ≤ n → value n ≡ none)
+    → (n : ℕ) → get_or items n none ≡ value n
+filled_all none value k items had past n =
+    ⊎_elim (λ less. had.each n less) (λ more. past_end none items n (omega (arith, more, had.count)) ∙ sym (past n more)) (inside_or_past n k)
 
 or_true : (a b : Bool) → (a || b) ≡ true → (a ≡ true) ⊎ (b ≡ true)
 or_true true b e = inl refl
@@ -119,7 +126,7 @@ are_united game p left k live high low ready had = (
     live_at (false ∷ bs) e = let s = live_at bs e in (suc s.0, s.1)
 
     inside : (n : ℕ) → is_live live n ≡ true → n < k
-    inside n there = ⊎_elim (λ less. less) (λ more. absurd (is_not (past_end live n (omega (arith, more, had.count))) there)) (inside_or_past n k)
+    inside n there = ⊎_elim (λ less. less) (λ more. absurd (is_not (past_end false live n (omega (arith, more, had.count))) there)) (inside_or_past n k)
       where
         is_not : {b : Bool} → b ≡ false → b ≡ true → ⊥
         is_not e f = cc

@@ -217,9 +217,8 @@ pub gathered_end : (kind : Kind) (xs : List Filter) (i : ℕ) (fs before after :
     → Gathers kind before after (filter_trees (take i xs)) → Gathers kind before after fs
 gathered_end kind xs i fs before after high is had = subst (Gathers kind before after) (ap filter_trees (take_all i xs high) ∙ is) had
 
-pub gathered_pushed : (kind : Kind) (before some after : FilterTrees) (f : FilterTree) → some ≡ before → after ≡ with_filter some f → Gathers kind before after (alone f)
-gathered_pushed kind before some after f same more =
-    subst (λ fs. Gathers kind before fs (alone f)) (sym (more ∙ ap (λ fs. with_filter fs f) same)) (gathered_new kind before f)
+pub gathered_pushed : (kind : Kind) (before after : FilterTrees) (f : FilterTree) → after ≡ with_filter before f → Gathers kind before after (alone f)
+gathered_pushed kind before after f more = subst (λ fs. Gathers kind before fs (alone f)) (sym more) (gathered_new kind before f)
 
 pub inside_gathered : (kind : Kind) (i : ℕ) (f : FilterTree) (before after fs : FilterTrees) → f ≡ filter_at i (any kind fs) → (kind ≡ Number → ⊥)
     → Gathers kind before after fs → Gathers kind before after (alone f)

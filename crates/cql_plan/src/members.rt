@@ -51,10 +51,12 @@ pub(crate) fn add(to: &mut Members, member: Filter) -> Result<(), NoMemory>
 {
     let at = (key_of(&member) % PLACES) as usize;
     if is_known(to, at, &member) {
+        drop(member);
         return Ok(());
     }
-    note(to, at)?;
+    let number = to.filters.len();
     to.filters.push(member)?;
+    note(&mut to.places, at, number)?;
     Ok(())
 }
 
@@ -95,15 +97,12 @@ fn is_like(filters: &Filters, number: usize, member: &Filter) -> bool
     same_unplaced(&filters[number], member)
 }
 
-// Adds the number of the next member at its place.
-fn note(members: &mut Members, at: usize) -> Result<(), NoMemory>
-    ensures { OnOk result (filters_tree members.new.filters ≡ filters_tree members.old.filters) }
-{
-    let number = members.filters.len();
-    if at >= members.places.len() {
+// Adds the number of a member at its place.
+fn note(places: &mut Vec<Place>, at: usize, number: usize) -> Result<(), NoMemory> {
+    if at >= places.len() {
         return Ok(());
     }
-    let place = &mut members.places[at];
+    let place = &mut places[at];
     place.numbers.push(number)?;
     Ok(())
 }

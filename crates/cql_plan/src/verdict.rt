@@ -63,6 +63,7 @@ pub(crate) fn find<L: Ledger>(
         column,
     };
     let nodes = hits(alloc, &told)?;
-    let keys = keys(alloc, &told, nodes.as_slice())?;
-    Ok(Verdict { nodes, keys })
+    let keys = keys(alloc, &told, nodes.as_slice());
+    drop(told);
+    Ok(Verdict { nodes, keys: keys? })
 }

@@ -117,13 +117,14 @@ fn listed(alloc: Global, query: &TypedQuery) -> Result<Listed, NoMemory>
     ensures alone { IfOk result (λ l. list_all stands_alone (map filter_tree l.filters.items) ≡ true) }
     ensures sorts { IfOk result (λ l. l.sorts ≡ length (top_parts (flat_query (query_tree query.now.query)).items)) }
 {
-    let plan = Plan::make(alloc, query)?;
     let flat = expand(alloc, query)?;
     let mut filters = Vec::new(alloc);
     add_top(alloc, &flat.items, &mut filters)?;
     let sorts = filters.len();
     add_sorts(alloc, &flat.items, &mut filters)?;
     let variations = flat.variations;
+    drop(flat);
+    let plan = Plan::make(alloc, query)?;
     Ok(Listed {
         plan,
         filters,

@@ -1,4 +1,4 @@
-use Rattle.std.proofs.Common.{◌≡◌, ◌<◌, Global, Vec, [], ◌∷◌, ◌++◌, length, get_or, map, append_assoc, ap, sym, ◌∙◌, subst, rules}
+use Rattle.std.proofs.Common.{◌≡◌, ◌<◌, Global, Vec, [], ◌∷◌, ◌++◌, length, get_or, map, append_assoc, ap, sym, ◌∙◌, subst, rules, arith}
 use Rattle.cq_shared.specs.Plans.{queries_of, trees_of}
 use Rattle.cq_shards.specs.declared.answers.GameAnswer.{GameAnswer}
 use Rattle.cq_run.specs.ManyWriting.{AreInOrder}
@@ -23,7 +23,7 @@ loop-matches-preserved c =
     let more = c.next.new.self.rest.items in
     let is = was.0 ∙ ap (λ l. ys ++ l) c.in-Some.ensures.steps.0 in
     let few = ordered_few (λ (row : Vec GameAnswer Global). row.items) (trees_of queries) c.args.kept.items ys more os matches is was.1 in
-    let count : c.len.result ≡ length os = search rules in
+    let count : c.len.result ≡ length os = omega arith in
     let query = subst (λ n. c.query-query.result.now ≡ get_or queries n c.query-query.result.now) count c.query-query.ensures in (
       is ∙ sym (append_assoc ys (matches ∷ []) more),
       more_ordered (λ (row : Vec GameAnswer Global). row.items) (trees_of queries) ys os c.push.new.self.items matches sorted was.1 c.in_ok-push.ensures.items

@@ -1,4 +1,4 @@
-use Rattle.std.proofs.Common.{◌+◌, ◌<◌, ◌≤◌, Global, Vec, Ok, Err, length, map, take, drop, refl, sym, ap, ◌∙◌, subst, rules}
+use Rattle.std.proofs.Common.{◌+◌, ◌<◌, ◌≤◌, Global, Vec, Ok, Err, length, map, take, drop, refl, sym, ap, ◌∙◌, subst, arith}
 use Rattle.std.proofs.lemmas.List.{take_all}
 use Rattle.cq_outside.specs.Faults.{Rose}
 use Rattle.cq_outside.specs.Flow.{Grew}
@@ -23,7 +23,7 @@ loop-i-preserved g c =
     let rows = c.args.rows.now in
     let i = c.loop-i.i in
     let row = c.index-rows-i.result in
-    let inside : i < length rows = search rules in
+    let inside : i < length rows = omega arith in
     let done = subst (λ xs. WritesOut (output_of (i + 1) (exports_of xs)) (out c.loop-i.out) (out c.write_output.new.out) (Ok tt)) c.as_slice.ensures.value c.in-Ok.ensures in (
       subst (Grew (taken c.args.out.now) (taken c.write_output.new.out))
           (sym (outputs_more (λ (r : Vec GameAnswer Global). exports_of r.items) rows i row inside c.index-rows-i.is))
@@ -39,7 +39,7 @@ returns-in-Err-Fault g c =
     let rows = c.args.rows.now in
     let i = c.loop-i.i in
     let row = c.index-rows-i.result in
-    let inside : i < length rows = search rules in
+    let inside : i < length rows = omega arith in
     let did = subst (λ xs. WritesOut (output_of (i + 1) (exports_of xs)) (out c.loop-i.out) (out c.write_output.new.out) c.write_output.result) c.as_slice.ensures.value
     c.write_output.ensures in
     let does = rw (c.in-Err-Fault.is ∙ ap Err c.in-Err-Fault.field-0-is) at did in (
@@ -59,7 +59,7 @@ returns-in-Err-NoMemory g c =
     let rows = c.args.rows.now in
     let i = c.loop-i.i in
     let row = c.index-rows-i.result in
-    let inside : i < length rows = search rules in
+    let inside : i < length rows = omega arith in
     let did = subst (λ xs. WritesOut (output_of (i + 1) (exports_of xs)) (out c.loop-i.out) (out c.write_output.new.out) c.write_output.result) c.as_slice.ensures.value
     c.write_output.ensures in
     let does = rw (c.in-Err-NoMemory.is ∙ ap Err c.in-Err-NoMemory.field-0-is) at did in (
@@ -75,7 +75,7 @@ returns-in-Err-NoMemory g c =
 pub returns : goal.returns
 returns g c =
     let rows = c.args.rows.now in
-    let all : length rows ≤ c.loop-i.i = search rules in (
+    let all : length rows ≤ c.loop-i.i = omega arith in (
       subst (λ xs. Grew (g.O.Sink.taken c.args.out.now) (g.O.Sink.taken c.loop-i.out) (outputs_from 1 (map (λ (r : Vec GameAnswer Global). exports_of r.items) xs)))
           (take_all c.loop-i.i rows all) c.loop-i.invariant.0,
       c.loop-i.invariant.1,

@@ -7,7 +7,7 @@ use Rattle.cq_run.specs.Run.{RefusesQuery, text_accepted, text_refused, text_out
 use Rattle.cq_run.proofs.selfrun.answer_text_over_made.Goals as goal
 
 pub returns : goal.returns
-returns g c = λ desk. text_accepted (query_tree c.in-Ok.query.query) c.in-Ok.ensures (c.answer_made.ensures (sink_view g.E.Sink.taken g.E.Sink.faults c.args.err.now), refl)
+returns g c = λ desk. text_accepted (query_tree c.in-Ok.query.query) c.in-Ok.ensures (c.answer_made-status.ensures (sink_view g.E.Sink.taken g.E.Sink.faults c.args.err.now), refl)
 
 pub returns-in-Err-Fault : goal.returns-in-Err-Fault
 returns-in-Err-Fault g c = λ desk.

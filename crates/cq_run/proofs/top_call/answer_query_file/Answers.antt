@@ -12,8 +12,8 @@ returns-in-Ok g c =
     let out = sink_view g.O.Sink.taken g.O.Sink.faults in
     let err = sink_view g.E.Sink.taken g.E.Sink.faults in
     file_answered a_query c.args.name.now (λ (asks : QueryTree). AnswersFile c.args.archive.now c.args.crew.now.settings.limit (wanted c.args.crew.now.settings.first asks))
-    (query_tree c.in-Ok.query.query) c.answer_file.result (view c.args.desk.now) (view c.query_in_file.new.desk) (view c.answer_file.new.desk)
-    (sinks_of (out c.args.out.now) (out c.answer_file.new.out) (err c.args.err.now) (err c.answer_file.new.err)) c.in-Ok.ensures c.answer_file.ensures
+    (query_tree c.in-Ok.query.query) c.answer_file-status.result (view c.args.desk.now) (view c.query_in_file.new.desk) (view c.answer_file-status.new.desk)
+    (sinks_of (out c.args.out.now) (out c.answer_file-status.new.out) (err c.args.err.now) (err c.answer_file-status.new.err)) c.in-Ok.ensures c.answer_file-status.ensures
 
 pub returns-in-Err : goal.returns-in-Err
 returns-in-Err g c =

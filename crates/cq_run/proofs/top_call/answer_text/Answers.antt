@@ -7,7 +7,7 @@ use Rattle.cq_run.specs.Run.{RefusesQuery, text_accepted, text_refused}
 use Rattle.cq_run.proofs.top_call.answer_text.Goals as goal
 
 pub returns : goal.returns
-returns g c = text_accepted (query_tree c.in-Ok.query.query) c.in-Ok.ensures c.answer_file.ensures
+returns g c = text_accepted (query_tree c.in-Ok.query.query) c.in-Ok.ensures c.answer_file-status.ensures
 
 pub returns-in-Err-Fault : goal.returns-in-Err-Fault
 returns-in-Err-Fault g c =

@@ -5,7 +5,7 @@ use Rattle.cq_run.proofs.top_call.run.Goals as goal
 
 pub returns-in-Ok : goal.returns-in-Ok
 returns-in-Ok g c =
-    job_promised c.tokens_spell_at_most_one_query.ensures c.faulty_tokens_spell_no_query.ensures _ c.do_job.result _ c.in-Ok.job c.in-Ok.ensures.value c.in-Ok.ensures.taken c.do_job.ensures
+    job_promised c.tokens_spell_at_most_one_query.ensures c.faulty_tokens_spell_no_query.ensures _ c.do_job-status.result _ c.in-Ok.job c.in-Ok.ensures.value c.in-Ok.ensures.taken c.do_job-status.ensures
 
 pub returns-in-Err-Fault : goal.returns-in-Err-Fault
 returns-in-Err-Fault g c =

@@ -1,8 +1,9 @@
-use Rattle.std.proofs.Common.{◌≡◌, ◌∙◌, true, ap, subst, refl}
+use Rattle.std.proofs.Common.{◌≡◌, ◌∙◌, true, map, ap, subst, refl}
 use Rattle.std.specs.Prelude.{◌==◌}
+use Rattle.std.proofs.lemmas.List.{take_all}
 use Rattle.cql_syntax.specs.TreeOf.{filter_tree}
 use Rattle.cq_shared.specs.Known.{all_shown, is_asked, with_part}
-use Rattle.cq_shared.specs.Parts.{is_at}
+use Rattle.cq_shared.specs.Parts.{is_at, are_at, parts_with}
 use Rattle.cq_shared.specs.Singles.{part_tree}
 use Rattle.cq_shared.proofs.Adding.{one_stands, added_parts, added_numbers, added_all, none_at, none_asked, keeps_more, asked_push}
 use Rattle.cq_shared.proofs.Seeking.{keeps_same, keeps_then}
@@ -43,3 +44,17 @@ loop-filter-preserved c =
 pub returns-clause-parts : goal.returns-clause-parts
 returns-clause-parts c =
     added_all c.args.variations c.args.filters.now c.loop-filter.filter-index (all_shown c.loop-filter.parts.items) _ c.loop-filter-test.false c.loop-filter.invariant.parts
+
+pub returns-clause-table : goal.returns-clause-table
+returns-clause-table c = c.loop-filter.invariant.table
+
+pub returns-clause-kept : goal.returns-clause-kept
+returns-clause-kept c = c.loop-filter.invariant.kept
+
+pub returns-clause-numbers : goal.returns-clause-numbers
+returns-clause-numbers c =
+    subst (λ fs. are_at (all_shown c.loop-filter.parts.items) c.loop-filter.numbers.items (parts_with c.args.variations (map filter_tree fs)) ≡ true)
+    (take_all c.loop-filter.filter-index c.args.filters.now c.loop-filter-test.false) c.loop-filter.invariant.numbers
+
+pub returns-clause-asked : goal.returns-clause-asked
+returns-clause-asked c = c.loop-filter.invariant.asked

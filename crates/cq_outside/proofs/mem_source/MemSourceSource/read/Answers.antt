@@ -2,8 +2,38 @@ use Rattle.std.proofs.Common.{rules, arith, length, [], ◌∷◌}
 use Rattle.std.proofs.lemmas.Grind.{common_steps}
 use Rattle.cq_outside.proofs.mem_source.MemSourceSource.read.Goals as goal
 
+pub returns-then-fails_next-clause-state : goal.returns-then-fails_next-clause-state
+returns-then-fails_next-clause-state c = search rules
+
 pub returns-then-fails_next-clause-next : goal.returns-then-fails_next-clause-next
-returns-then-fails_next-clause-next c = (length c.args.buf.now ∷ [], search rules)
+returns-then-fails_next-clause-next c = (length c.args.buf.now ∷ [], returns-then-fails_next-clause-state c)
+
+pub returns-clause-state : goal.returns-clause-state
+returns-clause-state c = grind (arith, common_steps)
 
 pub returns-clause-next : goal.returns-clause-next
-returns-clause-next c = (length c.args.buf.now ∷ [], grind (arith, common_steps))
+returns-clause-next c = (length c.args.buf.now ∷ [], returns-clause-state c)
+
+pub returns-clause-answer : goal.returns-clause-answer
+returns-clause-answer c = grind (arith, common_steps)
+
+pub returns-clause-listed : goal.returns-clause-listed
+returns-clause-listed c = grind (arith, common_steps)
+
+pub returns-clause-bytes : goal.returns-clause-bytes
+returns-clause-bytes c = grind (arith, common_steps)
+
+pub returns-clause-bound : goal.returns-clause-bound
+returns-clause-bound c = grind (arith, common_steps)
+
+pub returns-clause-cause : goal.returns-clause-cause
+returns-clause-cause c = grind (arith, common_steps)
+
+pub returns-then-fails_next-clause-listed : goal.returns-then-fails_next-clause-listed
+returns-then-fails_next-clause-listed c = grind (arith, common_steps)
+
+pub returns-then-fails_next-clause-cause : goal.returns-then-fails_next-clause-cause
+returns-then-fails_next-clause-cause c = grind (arith, common_steps)
+
+pub returns-then-fails_next-clause-answer : goal.returns-then-fails_next-clause-answer
+returns-then-fails_next-clause-answer c = grind (arith, common_steps)

@@ -23,3 +23,18 @@ returns-clause-asker c =
     (parts_with c.in_ok-listed.listed.variations (map filter_tree c.as_slice-filters.result.now)) c.in_ok-listed.ensures.query
     (ap (λ xs. parts_with c.in_ok-listed.listed.variations (map filter_tree xs)) c.as_slice-filters.ensures.value ∙ c.in_ok-listed.ensures.parts)
     c.in_ok-numbers.ensures.numbers c.in_ok-numbers.ensures.asked c.requires.fresh c.in_ok-listed.ensures.sorts
+
+pub add_all-requires-clause-table : goal.add_all-requires-clause-table
+add_all-requires-clause-table c = c.requires.table
+
+pub returns-clause-table : goal.returns-clause-table
+returns-clause-table c = c.in_ok-numbers.ensures.table
+
+pub returns-clause-kept : goal.returns-clause-kept
+returns-clause-kept c = c.in_ok-numbers.ensures.kept
+
+pub returns-clause-query : goal.returns-clause-query
+returns-clause-query c = c.in_ok-listed.ensures.query
+
+pub returns-clause-asked : goal.returns-clause-asked
+returns-clause-asked c = c.in_ok-numbers.ensures.asked
