@@ -1,0 +1,1 @@
+while :; do echo "== $(date +%T) load $(cut -d' ' -f1 /proc/loadavg) free $(awk '/MemAvailable/{print int($2/1e6)}' /proc/meminfo) $(vmstat 1 2 | tail -1 | awk '{print "us",$13,"sy",$14,"id",$15,"st",$17}')"; ps -eo pid,etimes,cputimes,rss,args --no-headers | grep -E "[r]attle (check|build)" | sed 's#/opt/rattle/bin/##; s# src/.*##' | cut -c1-120; sleep 9; done
