@@ -6,7 +6,7 @@ ghost use Rattle.cql_syntax.specs.Hits.{marks, item_texts, comment_texts, with_m
 ghost use Rattle.cql_syntax.specs.TreeOf.{filter_tree, filters_tree, query_tree};
 ghost use Rattle.cq_annotate.specs.Marking.{game_marked};
 
-use cq_outside::NoMemory;
+use cq_common::NoMemory;
 use cql_syntax::{Filter, Filters, Form, Query};
 use pgn_tree::Game;
 use std::alloc::Global;

@@ -3,7 +3,8 @@ ghost use Rattle.std.specs.Prelude.{◌≡◌, ◌≤◌, length, false, IfOk};
 ghost use Rattle.cql_syntax.specs.TreeFaults.{has_any};
 ghost use Rattle.cql_syntax.specs.TreeOf.{query_tree};
 
-use cq_outside::{Bytes, MemSource, NoMemory, OpenGate, Refusal, SureSink, read_up_to};
+use cq_common::{Bytes, NoMemory, Refusal};
+use cq_outside::{MemSource, OpenGate, SureSink, read_up_to};
 use cq_run::{Status, answer, answer_many};
 use cq_words::Settings;
 use cql_kinds::check;

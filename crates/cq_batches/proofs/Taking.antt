@@ -4,8 +4,8 @@ use Rattle.std.specs.Prelude.{slice_get, Err, if◌then◌else◌}
 use Rattle.std.proofs.lemmas.Bool.{cases_Bool}
 use Rattle.std.proofs.lemmas.Grind.{flat_map-append}
 use Rattle.std.proofs.lemmas.List.{take_all, take-append-drop, length-map}
-use Rattle.cq_outside.specs.declared.faults.Refusal.{Refusal}
-use Rattle.cq_outside.specs.declared.faults.Refusal.TheVariants.{Fault, NoMemory as IsNoMemory}
+use Rattle.cq_common.specs.declared.faults.Refusal.{Refusal}
+use Rattle.cq_common.specs.declared.faults.Refusal.TheVariants.{Fault, NoMemory as IsNoMemory}
 use Rattle.pgn_cut.specs.Cut.{cut, closed}
 use Rattle.cq_batches.specs.Games.{games_of, number_of}
 use Rattle.cq_batches.specs.Batching.{batches, full_batches, full_from, is_full, left_over, as_last, flat}

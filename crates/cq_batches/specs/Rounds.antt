@@ -2,8 +2,8 @@
 use Rattle.std.specs.Prelude.{◌≡◌, ◌⊎◌, ℕ, ◌+◌, ◌-◌, ◌<◌, ◌≤◌, List, [], ◌++◌, length, take, Option, Some, None, Result, Ok, Err}
 use Rattle.std.specs.Io.KnownBytes.{Consumes, IsAtEnd}
 use Rattle.cq_outside.specs.Faults.{Rose}
-use Rattle.cq_outside.specs.declared.faults.Refusal.{Refusal}
-use Rattle.cq_outside.specs.declared.faults.Refusal.TheVariants.{Fault, NoMemory as IsNoMemory}
+use Rattle.cq_common.specs.declared.faults.Refusal.{Refusal}
+use Rattle.cq_common.specs.declared.faults.Refusal.TheVariants.{Fault, NoMemory as IsNoMemory}
 use Rattle.cq_batches.specs.declared.rounds.Ended.{Ended}
 use Rattle.cq_batches.specs.declared.rounds.Ended.TheVariants.{All, Early}
 use Rattle.cq_batches.specs.declared.state.BatchFault.{BatchFault}

@@ -6,7 +6,7 @@ ghost use Rattle.cq_batches.specs.Streams.{Stands};
 ghost use Rattle.cq_batches.specs.Windows.{IsInside, Shows};
 
 use crate::state::{Batches, Queue, Window};
-use cq_outside::NoMemory;
+use cq_common::NoMemory;
 use pgn_cut::{Cutter, Span, closed_games_stay, games_stand_apart};
 use std::alloc::Global;
 

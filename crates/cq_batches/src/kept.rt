@@ -1,6 +1,6 @@
 //! A game of an archive, as a batch keeps it.
 
-use cq_outside::Bytes;
+use cq_common::Bytes;
 
 /// How many bytes a game may have.
 pub(crate) const LONGEST: u64 = 1 << 24;

@@ -8,7 +8,7 @@ ghost use Rattle.cq_batches.specs.Kept.{kept};
 use crate::batch::Batch;
 use crate::kept::KeptGame;
 use crate::window::{MOST_KEPT, part};
-use cq_outside::{Bytes, NoMemory};
+use cq_common::{Bytes, NoMemory};
 use pgn_cut::{Span, games_stand_apart};
 use std::alloc::Global;
 

@@ -7,7 +7,7 @@ ghost use Rattle.cq_batches.specs.Queues.{Fills, IsNextBatch, IsDone, GivesLast}
 use crate::batch::Batch;
 use crate::kept::{KeptGame, LONGEST};
 use crate::state::Queue;
-use cq_outside::NoMemory;
+use cq_common::NoMemory;
 use std::alloc::Global;
 use std::collections::VecDeque;
 use std::mem;

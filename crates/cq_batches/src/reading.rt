@@ -9,7 +9,8 @@ ghost use Rattle.cq_batches.specs.Nexts.{SaysNext, HasBatchCause};
 use crate::batch::Batch;
 use crate::laws::batches_stay;
 use crate::state::{BatchFault, Batches};
-use cq_outside::{Failed, NoMemory, Refusal, Source, read_piece};
+use cq_common::{Failed, NoMemory, Refusal};
+use cq_outside::{Source, read_piece};
 use std::alloc::Global;
 
 /// The longest buffer that one read is given, in bytes.

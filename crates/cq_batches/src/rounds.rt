@@ -7,7 +7,8 @@ ghost use Rattle.cq_batches.specs.Rounds.{HasRoundsCause, HasTurned, Moment, Say
 use crate::batch::Batch;
 use crate::laws::archives_come_in_batches;
 use crate::state::{BatchFault, Batches};
-use cq_outside::{Refusal, Source};
+use cq_common::Refusal;
+use cq_outside::Source;
 use std::alloc::Global;
 
 /// Takes the batches of an archive, one after the other, and writes to two sinks.

@@ -3,7 +3,7 @@
 use crate::batch::Batch;
 use crate::kept::KeptGame;
 use crate::state::Batches;
-use cq_outside::Shared;
+use cq_common::Shared;
 
 impl Shared for KeptGame {}
 

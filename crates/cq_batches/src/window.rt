@@ -5,7 +5,7 @@ ghost use Rattle.cq_batches.specs.Windows.{IsInside, Shows};
 
 use crate::kept::{KeptGame, LONGEST};
 use crate::state::Window;
-use cq_outside::{Bytes, NoMemory};
+use cq_common::{Bytes, NoMemory};
 use pgn_cut::Span;
 use std::alloc::Global;
 

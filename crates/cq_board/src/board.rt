@@ -8,7 +8,7 @@ ghost use Rattle.cq_board.specs.Seats.{numbers_of, seats_of, IsSeatOf, drawn, al
 use crate::seat::{Board, ClaimSeat};
 use crate::view::{Draw, HandOut, TakeIn, Terms};
 use atomic_table::Table;
-use cq_outside::NoMemory;
+use cq_common::NoMemory;
 use std::alloc::Global;
 
 impl Board {

@@ -1,7 +1,7 @@
 //! What threads share, or hand over.
 
 use crate::seat::{Board, ClaimSeat};
-use cq_outside::Shared;
+use cq_common::Shared;
 
 impl Shared for Board {}
 

@@ -7,7 +7,7 @@ ghost use Rattle.cq_crew.specs.Made.{AreMadeOf, those};
 use crate::maker::Maker;
 use crate::starting::for_each_started;
 use cq_board::{Board, ClaimSeat};
-use cq_outside::NoMemory;
+use cq_common::NoMemory;
 use std::alloc::Global;
 use std::thread::Threads;
 

@@ -2,7 +2,7 @@
 ghost use Rattle.std.specs.Prelude.{◌<◌, ◌≡◌, ℕ, List, IfOk};
 ghost use Rattle.cq_crew.specs.Made.{AddsOne};
 
-use cq_outside::NoMemory;
+use cq_common::NoMemory;
 use std::alloc::Global;
 
 /// What a worker makes of a game that it drew.

@@ -4,7 +4,7 @@ ghost use Rattle.cq_maker.specs.Made as made;
 
 use crate::draws::Draws;
 use crate::game::make_game;
-use cq_outside::{Bytes, NoMemory};
+use cq_common::{Bytes, NoMemory};
 use pgn_export::export;
 use std::alloc::Global;
 

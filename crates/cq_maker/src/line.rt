@@ -10,8 +10,8 @@ ghost use Rattle.cq_maker.specs.Rows.{node_of_row, nodes_of_rows};
 use crate::draws::Draws;
 use crate::row::Row;
 use arrayvec::ArrayVec;
+use cq_common::NoMemory;
 use cq_moves::{legal_moves, play};
-use cq_outside::NoMemory;
 use cq_position::{Move, Position};
 use std::alloc::Global;
 

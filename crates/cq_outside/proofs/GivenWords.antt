@@ -30,8 +30,3 @@ module _ {X : Type 0} (f : X → List ℕ) where
       → map f kept ≡ drop 1 all
   all_kept all kept [] len e l h = sym (e ∙ append-nil (map f kept))
   all_kept all kept (x ∷ xs) len e l h = absurd (true≢false (sym (h (omega (arith, l)))))
-
--- what holds anyway holds where there is an error
-pub always_on_err : {T E P : Type 0} (r : Result T E) → P → OnErr r P
-always_on_err (Ok value) p = tt
-always_on_err (Err e) p = p

@@ -1,7 +1,7 @@
 -- What contracts see of the real edge: a desk over the real files, and a sink over a real stream.
 use Rattle.std.specs.Prelude.{◌≡◌, ℕ, ◌+◌, ◌<◌, ◌≤◌, ◌⊎◌, List, [], length, codes, Option, None, Some, Result, Ok, Err, IsUtf8}
-use Rattle.cq_outside.specs.declared.faults.Failed.{Failed}
-use Rattle.cq_outside.specs.declared.faults.OpenFault.{OpenFault}
+use Rattle.cq_common.specs.declared.faults.Failed.{Failed}
+use Rattle.cq_common.specs.declared.faults.OpenFault.{OpenFault}
 use Rattle.cq_outside.specs.declared.edge.Current.{Current}
 use Rattle.cq_outside.specs.declared.edge.Current.TheVariants.{Nothing, Input, File}
 

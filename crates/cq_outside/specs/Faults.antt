@@ -1,7 +1,7 @@
 -- Counts of faults, and when an answer of failure may come.
 use Rattle.std.specs.Prelude.{◌≡◌, ◌⊎◌, ℕ, ◌<◌, ◌≤◌, ◌+◌, ◌-◌, ◌^◌, min, Result, Ok, Err, OnOk, OnErr, is_ok, if◌then◌else◌}
-use Rattle.cq_outside.specs.declared.faults.Refusal.{Refusal}
-use Rattle.cq_outside.specs.declared.faults.Refusal.TheVariants.{Fault, NoMemory}
+use Rattle.cq_common.specs.declared.faults.Refusal.{Refusal}
+use Rattle.cq_common.specs.declared.faults.Refusal.TheVariants.{Fault, NoMemory}
 
 -- a count rose: it is greater than before, or at the last value of a counter
 abbrev pub Rose : ℕ → ℕ → Type 0

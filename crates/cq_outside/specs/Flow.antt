@@ -1,8 +1,8 @@
 -- What calls do to the bytes that a source has left and a sink has taken, where they tell them.
 use Rattle.std.specs.Prelude.{◌≡◌, ℕ, ◌≤◌, List, [], ◌++◌, length, take, Option, None, Some, Result, MatchResult}
 use Rattle.std.specs.Io.KnownBytes.{Consumes}
-use Rattle.cq_outside.specs.declared.faults.Refusal.{Refusal}
-use Rattle.cq_outside.specs.declared.faults.Refusal.TheVariants.{Fault, NoMemory}
+use Rattle.cq_common.specs.declared.faults.Refusal.{Refusal}
+use Rattle.cq_common.specs.declared.faults.Refusal.TheVariants.{Fault, NoMemory}
 
 -- A sink that tells its bytes after a call told them before it, and what it tells has gained these at its end.
 abbrev pub Grew : Option (List ℕ) → Option (List ℕ) → List ℕ → Type 0

@@ -3,16 +3,10 @@ pub mod Edge
 pub mod EdgeLaws
 pub mod Faults
 pub mod Flow
-pub mod Greatest
 pub mod Kept
 pub mod MemDesk
 pub mod MemSink
 pub mod MemSource
 pub mod ReadLaws
-pub mod Refusals
-pub mod Spelling
-pub mod Text
 pub mod Told
-pub mod Within
-pub mod Ways
 pub mod Words

@@ -1,6 +1,6 @@
 -- A sink in memory that takes pieces of what is written, and some of whose writes fail.
 use Rattle.std.specs.Prelude.{ℕ, min, Bool, if◌then◌else◌, List, length, take, Option, Result, Ok, Err}
-use Rattle.cq_outside.specs.declared.faults.Failed.{Failed}
+use Rattle.cq_common.specs.declared.faults.Failed.{Failed}
 use Rattle.cq_outside.specs.Calls.{one_more, is_listed}
 use Rattle.cq_outside.specs.Kept.{taken_and}
 

@@ -1,7 +1,7 @@
 -- A source in memory that gives its bytes in pieces, and some of whose reads fail.
 use Rattle.std.specs.Prelude.{◌≡◌, ℕ, min, Bool, if◌then◌else◌, List, [], ◌∷◌, drop, length, Result, Ok, Err}
 use Rattle.cq_outside.specs.Calls.{one_more, is_listed}
-use Rattle.cq_outside.specs.declared.faults.Failed.{Failed}
+use Rattle.cq_common.specs.declared.faults.Failed.{Failed}
 
 -- the bytes that are left, how many of them a read gives at most, the numbers of the reads that fail, and how many reads
 -- there were and how many of them failed

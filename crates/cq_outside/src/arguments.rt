@@ -3,8 +3,8 @@ ghost use Rattle.std.specs.Prelude.{map, IfOk, OnErr};
 ghost use Rattle.std.specs.String.{string_bytes};
 ghost use Rattle.cq_outside.specs.Words.{Given, AreWordsOf, MayWantMemory};
 
-use crate::faults::NoMemory;
 use crate::system::{Words, WordsFault};
+use cq_common::NoMemory;
 
 /// The words after the program's name. Words that are no text are none that a program takes, as no words are.
 pub fn command_words<W: Words + AllocGlobal>(rt: &W) -> Result<Vec<String>, NoMemory>

@@ -4,8 +4,7 @@ ghost use Rattle.std.specs.Ordering.{nat_cmp};
 ghost use Rattle.std.specs.Cmp.Lexicographic.{slice_cmp};
 ghost use Rattle.std.specs.FinMap as map;
 
-use crate::bytes::Bytes;
-use crate::faults::NoMemory;
+use cq_common::{Bytes, NoMemory};
 use std::alloc::Global;
 
 // The place of the first entry with this name.

@@ -2,7 +2,7 @@
 ghost use Rattle.std.specs.Prelude.{◌≡◌, ◌↔◌, List, [], ℕ, Contains, IfOk, IsTrue, if◌then◌else◌};
 ghost use Rattle.cq_outside.specs.Calls.{is_listed, one_more};
 
-use crate::faults::NoMemory;
+use cq_common::NoMemory;
 use std::alloc::Global;
 use std::marker::Model;
 

@@ -2,10 +2,10 @@
 ghost use Rattle.std.specs.Prelude.{◌≡◌, ◌≤◌, List, ℕ, Option, OnOk, OnErr, IsErrOf};
 ghost use Rattle.cq_outside.specs.Faults.{Rose};
 ghost use Rattle.cq_outside.specs.Told.{Told, Opens};
-ghost use Rattle.cq_outside.specs.declared.faults.OpenFault.TheVariants.{Failed};
+ghost use Rattle.cq_common.specs.declared.faults.OpenFault.TheVariants.{Failed};
 
-use crate::faults::OpenFault;
 use crate::source::Source;
+use cq_common::OpenFault;
 use std::alloc::Global;
 
 /// A source whose file is opened by name.

@@ -7,10 +7,10 @@ ghost use Rattle.cq_outside.specs.Faults.{HasCause, counted};
 ghost use Rattle.cq_outside.specs.declared.edge.Current.TheVariants.{Nothing};
 
 use crate::desk::Desk;
-use crate::faults::{Failed, NoMemory, OpenFault};
 use crate::sink::Sink;
 use crate::source::Source;
 use crate::system::{Folder, Reader, Writer};
+use cq_common::{Failed, NoMemory, OpenFault};
 use std::alloc::Global;
 use std::marker::Model;
 use std::str;

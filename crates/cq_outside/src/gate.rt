@@ -1,4 +1,5 @@
 //! What is told of each game as workers take it.
+use cq_common::Shared;
 
 /// Called as a worker enters and leaves a game. Nothing that the program writes depends on it.
 pub trait Gate {
@@ -19,3 +20,5 @@ impl Gate for OpenGate {
 
     fn leave(&self, _worker: u64, _shard: u64, _text: &[u8]) {}
 }
+
+impl Shared for OpenGate {}

@@ -1,47 +1,39 @@
 //! The outside of the program, as the rest of it sees it: sources, sinks, a desk of files and a gate,
-//! each by what its calls promise, with forms in memory and a thin edge over the real system; white
-//! space and decimal digits, which are the same in PGN and in queries; and a counter of steps.
+//! each by what its calls promise, with forms in memory and a thin edge over the real system.
 #![tactic(auto)]
 
 mod arguments;
 mod by_name;
-pub mod bytes;
 pub mod calls;
 pub mod desk;
 pub mod edge;
-pub mod faults;
 pub mod gate;
-pub mod laws;
 pub mod mem_desk;
 pub mod mem_sink;
 pub mod mem_source;
 pub mod pieces;
-pub mod shared;
 pub mod sink;
 pub mod source;
-pub mod steps;
 pub mod sure_desk;
 pub mod sure_sink;
 pub mod sure_source;
 pub mod system;
-pub mod text;
 
 pub use arguments::command_words;
-pub use bytes::Bytes;
 pub use calls::Calls;
+pub use cq_common::{
+    Bytes, Failed, NoMemory, OpenFault, Refusal, Shared, Steps, decimal_up_to, digits_len,
+    is_white, white_len,
+};
 pub use desk::Desk;
 pub use edge::{FileDesk, StdSink};
-pub use faults::{Failed, NoMemory, OpenFault, Refusal};
 pub use gate::{Gate, OpenGate};
 pub use mem_desk::MemDesk;
 pub use mem_sink::MemSink;
 pub use mem_source::MemSource;
 pub use pieces::{read_piece, read_up_to, write_all_of};
-pub use shared::Shared;
 pub use sink::Sink;
 pub use source::Source;
-pub use steps::Steps;
 pub use sure_desk::SureDesk;
 pub use sure_sink::SureSink;
 pub use sure_source::SureSource;
-pub use text::{decimal_up_to, digits_len, is_white, white_len};

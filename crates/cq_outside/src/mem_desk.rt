@@ -7,15 +7,14 @@ ghost use Rattle.cq_outside.specs.Faults.{HasCause, Rose};
 ghost use Rattle.cq_outside.specs.Told.{Opens};
 ghost use Rattle.cq_outside.specs.MemSource.{after_read, answer_of};
 ghost use Rattle.cq_outside.specs.MemDesk.{FailingDesk, ReadsOn, files_of, told_of, fails_next, just_opened, after_open};
-ghost use Rattle.cq_outside.specs.declared.faults.OpenFault.TheVariants.{Failed as failed, NoMemory as no_memory};
+ghost use Rattle.cq_common.specs.declared.faults.OpenFault.TheVariants.{Failed as failed, NoMemory as no_memory};
 
 use crate::by_name::{place_of, push_name, put};
-use crate::bytes::Bytes;
 use crate::calls::Calls;
 use crate::desk::Desk;
-use crate::faults::{Failed, NoMemory, OpenFault};
 use crate::mem_source::MemSource;
 use crate::source::Source;
+use cq_common::{Bytes, Failed, NoMemory, OpenFault};
 use std::alloc::Global;
 use std::marker::Model;
 

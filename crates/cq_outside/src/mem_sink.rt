@@ -7,9 +7,9 @@ ghost use Rattle.cq_outside.specs.Calls.{one_more};
 ghost use Rattle.cq_outside.specs.MemSink.{after_write, answer_of};
 
 use crate::calls::{Calls, fails_next};
-use crate::faults::{Failed, NoMemory};
 use crate::sink::Sink;
 use crate::sure_sink::SureSink;
+use cq_common::{Failed, NoMemory};
 use std::alloc::Global;
 use std::marker::Model;
 

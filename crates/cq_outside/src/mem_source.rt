@@ -5,11 +5,10 @@ ghost use Rattle.cq_outside.specs.Faults.{HasCause};
 ghost use Rattle.cq_outside.specs.Calls.{one_more};
 ghost use Rattle.cq_outside.specs.MemSource.{Follows, after_read, answer_of};
 
-use crate::bytes::Bytes;
 use crate::calls::{Calls, fails_next};
-use crate::faults::{Failed, NoMemory};
 use crate::source::Source;
 use crate::sure_source::SureSource;
+use cq_common::{Bytes, Failed, NoMemory};
 use std::alloc::Global;
 use std::marker::Model;
 

@@ -4,10 +4,9 @@ ghost use Rattle.std.specs.Io.KnownBytes.{ReadConsumes, Consumes, IsAtEnd};
 ghost use Rattle.cq_outside.specs.Faults.{HasCause, HasRefusalCause};
 ghost use Rattle.cq_outside.specs.Flow.{Grew, TakesAtMost, most_taken};
 
-use crate::bytes::Bytes;
-use crate::faults::{Failed, Refusal};
 use crate::sink::Sink;
 use crate::source::Source;
+use cq_common::{Bytes, Failed, Refusal};
 use std::alloc::Global;
 
 /// The longest buffer that one read is given, in bytes.

@@ -3,7 +3,7 @@ ghost use Rattle.std.specs.Prelude.{◌≡◌, ◌≤◌, ◌<◌, List, ℕ, Op
 ghost use Rattle.cq_outside.specs.Faults.{HasCause};
 ghost use Rattle.cq_outside.specs.Flow.{WriteTakes};
 
-use crate::faults::Failed;
+use cq_common::Failed;
 
 /// Something that takes bytes piece by piece.
 pub trait Sink {

@@ -3,7 +3,7 @@ ghost use Rattle.std.specs.Prelude.{◌≡◌, ◌≤◌, ◌-◌, List, ℕ, Op
 ghost use Rattle.std.specs.Io.KnownBytes.{ReadConsumes};
 ghost use Rattle.cq_outside.specs.Faults.{HasCause};
 
-use crate::faults::Failed;
+use cq_common::Failed;
 
 /// Something that is read piece by piece.
 pub trait Source {

@@ -6,11 +6,10 @@ ghost use Rattle.cq_outside.specs.Faults.{HasCause};
 ghost use Rattle.cq_outside.specs.Told.{KnownDesk, told_of, bytes_of};
 
 use crate::by_name::{place_of, push_name, put};
-use crate::bytes::Bytes;
 use crate::desk::Desk;
-use crate::faults::{Failed, NoMemory, OpenFault};
 use crate::source::Source;
 use crate::sure_source::SureSource;
+use cq_common::{Bytes, Failed, NoMemory, OpenFault};
 use std::alloc::Global;
 use std::marker::Model;
 

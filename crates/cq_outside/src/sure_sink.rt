@@ -3,8 +3,8 @@ ghost use Rattle.std.specs.Prelude.{◌≡◌, List, [], ◌++◌, ℕ, length, 
 ghost use Rattle.std.specs.Option.{option_copied};
 ghost use Rattle.cq_outside.specs.Kept.{Kept, taken_and, within};
 
-use crate::faults::{Failed, NoMemory};
 use crate::sink::Sink;
+use cq_common::{Failed, NoMemory};
 use std::alloc::Global;
 use std::marker::Model;
 

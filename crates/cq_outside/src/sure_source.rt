@@ -3,9 +3,8 @@ ghost use Rattle.std.specs.Prelude.{◌≡◌, ◌≤◌, ◌++◌, List, ℕ, l
 ghost use Rattle.std.specs.Io.KnownBytes.{ReadConsumes};
 ghost use Rattle.cq_outside.specs.Faults.{HasCause};
 
-use crate::bytes::Bytes;
-use crate::faults::Failed;
 use crate::source::Source;
+use cq_common::{Bytes, Failed};
 use std::marker::Model;
 
 /// A source of given bytes, which contracts see as the bytes that are left.

@@ -6,10 +6,10 @@ ghost use Rattle.std.specs.Io.KnownBytes.{ReadConsumes, WriteAppends};
 ghost use Rattle.std.specs.String.{string_bytes};
 ghost use Rattle.std.specs.Vec.Iter.{into_iter_items};
 ghost use Rattle.cq_outside.specs.Edge.{IsOneMore, Stream};
-ghost use Rattle.cq_outside.specs.declared.faults.Failed.{Failed as Failure};
+ghost use Rattle.cq_common.specs.declared.faults.Failed.{Failed as Failure};
 ghost use Rattle.cq_outside.specs.declared.system.WordsFault.{WordsFault as Fault};
 
-use crate::faults::Failed;
+use cq_common::Failed;
 use std::env::Args;
 use std::io::{ErrorKind, Read, Write};
 use std::rt::{Env, Files};

@@ -3,7 +3,7 @@ use Rattle.std.proofs.Common.{◌≡◌, ◌≢◌, ℕ, Bool, true, false, cond
 use Rattle.std.specs.List.{All, AllByRecursion, slice_split, onto_first, filter, join_with_byte}
 use Rattle.std.proofs.lemmas.List.Elements.{All-head, All-tail, All-cons, All-nil, All-append, All-push}
 use Rattle.std.proofs.lemmas.List.Splits.{slice_split-cons_yes, slice_split-cons_no}
-use Rattle.cq_outside.specs.Text.{is_white}
+use Rattle.cq_common.specs.Text.{is_white}
 use Rattle.cq_position.specs.Comments.{words, comment_of}
 use Rattle.cq_position.specs.Fen.{is_not_empty}
 use Rattle.cq_position.specs.Games.{Node, bare_node, with_nag, with_comment, IsComment, HasNotes}

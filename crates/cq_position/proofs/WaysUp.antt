@@ -6,7 +6,7 @@ use Rattle.std.proofs.lemmas.Bool.{cases_lt, eq-eqb, ne_eqb}
 use Rattle.std.proofs.lemmas.List.{get_or_past}
 use Rattle.std.proofs.lemmas.List.Elements.{All-weaker, All-contains_itself}
 use Rattle.std.proofs.lemmas.List.Folds.{list_all-append}
-use Rattle.cq_outside.proofs.WithinLaw.{right}
+use Rattle.cq_common.proofs.WithinLaw.{right}
 use Rattle.cq_position.specs.Games.{Node, no_node, node_at, way_up, is_below, is_first_child, is_main, is_searched, IsTree}
 use Rattle.cq_position.proofs.Ancestors.{way_step, way_root, reaches}
 use Rattle.cq_position.proofs.Trees.{tree_first}

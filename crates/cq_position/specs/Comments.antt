@@ -1,7 +1,7 @@
 -- The words of a comment, which are what a game keeps of it.
 use Rattle.std.specs.Prelude.{ℕ, List, [], ◌∷◌}
 use Rattle.std.specs.List.{filter, slice_split, join_with_byte}
-use Rattle.cq_outside.specs.Text.{is_white}
+use Rattle.cq_common.specs.Text.{is_white}
 use Rattle.cq_position.specs.Fen.{is_not_empty}
 
 -- the words of a text are its longest parts without white space, the empty ones left out

@@ -2,7 +2,7 @@
 ghost use Rattle.std.specs.Prelude.{◌≡◌, ◌++◌, IfOk, OnOk};
 ghost use Rattle.cq_report.specs.Games as lines;
 
-use cq_outside::{Bytes, NoMemory};
+use cq_common::{Bytes, NoMemory};
 use itoa::Buffer;
 use pgn_reader::{GameFault, Reason};
 use std::alloc::Global;

@@ -3,7 +3,7 @@ ghost use Rattle.std.specs.Prelude.{◌≡◌, ◌++◌, IfOk, OnOk};
 ghost use Rattle.cql_syntax.specs.declared.fault.QueryReason.TheVariants as reasons;
 ghost use Rattle.cq_report.specs.Queries as lines;
 
-use cq_outside::{Bytes, NoMemory};
+use cq_common::{Bytes, NoMemory};
 use cql_syntax::{Kind, QueryFault, QueryReason};
 use itoa::Buffer;
 use std::alloc::Global;

@@ -6,8 +6,8 @@ use Rattle.cq_batches.specs.Whole.{cut_games, whole}
 use Rattle.cq_batches.specs.declared.state.BatchFault.{BatchFault}
 use Rattle.cq_batches.specs.declared.state.BatchFault.TheVariants.{ReadFault as TheReadFault, ArchiveTooLong as TheArchiveTooLong}
 use Rattle.cq_outside.specs.Flow.{TakesAtMost}
-use Rattle.cq_outside.specs.declared.faults.Refusal.{Refusal}
-use Rattle.cq_outside.specs.declared.faults.Refusal.TheVariants.{Fault, NoMemory as IsNoMemory}
+use Rattle.cq_common.specs.declared.faults.Refusal.{Refusal}
+use Rattle.cq_common.specs.declared.faults.Refusal.TheVariants.{Fault, NoMemory as IsNoMemory}
 use Rattle.cq_shards.specs.Outcomes.{Outcome, AreKeptRead}
 use Rattle.cq_run.specs.declared.status.Status.{Status}
 use Rattle.cq_run.specs.declared.status.Status.TheVariants.{Done, DoneWithRefusals, QueryRefused, WordsRefused, OpenFault, ReadFault, WriteFault, NoMemory, ArchiveTooLong}

@@ -13,7 +13,7 @@ use Rattle.cq_batches.specs.declared.batch.Batch.{Batch}
 use Rattle.cq_batches.specs.declared.state.BatchFault.{BatchFault}
 use Rattle.cq_batches.specs.declared.state.BatchFault.TheVariants.{ReadFault, ArchiveTooLong}
 use Rattle.cq_outside.specs.Faults.{Rose}
-use Rattle.cq_outside.specs.declared.faults.Refusal.TheVariants.{Fault}
+use Rattle.cq_common.specs.declared.faults.Refusal.TheVariants.{Fault}
 use Rattle.cq_shards.specs.Answers.{AnswersBatch, answers_from, found_in, text_of}
 use Rattle.cq_shards.specs.Outcomes.{Outcome}
 use Rattle.cq_shards.specs.declared.answers.Answer.TheVariants.{Match, Miss, Refused}

@@ -32,8 +32,8 @@ use Rattle.cq_batches.proofs.Filling.{consumes_none}
 use Rattle.cq_batches.proofs.Streams.{count_within}
 use Rattle.cq_batches.specs.declared.state.BatchFault.{BatchFault}
 use Rattle.cq_batches.specs.declared.state.BatchFault.TheVariants.{ReadFault as TheReadFault, ArchiveTooLong as TheArchiveTooLong}
-use Rattle.cq_outside.specs.declared.faults.Refusal.{Refusal}
-use Rattle.cq_outside.specs.declared.faults.Refusal.TheVariants.{Fault, NoMemory as IsNoMemory}
+use Rattle.cq_common.specs.declared.faults.Refusal.{Refusal}
+use Rattle.cq_common.specs.declared.faults.Refusal.TheVariants.{Fault, NoMemory as IsNoMemory}
 use Rattle.cq_run.specs.AllGames.{texts_so_far}
 use Rattle.cq_run.specs.Sorts.{have_sort}
 use Rattle.cq_run.specs.Status.{status_after}

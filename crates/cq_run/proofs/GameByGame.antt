@@ -6,9 +6,9 @@ use Rattle.std.proofs.lemmas.Grind.{flat_map-append}
 use Rattle.std.proofs.lemmas.List.Sums.{fold-append}
 use Rattle.std.proofs.lemmas.List.{length-take, take_all}
 use Rattle.cq_outside.specs.Flow.{Grew}
-use Rattle.cq_outside.specs.declared.faults.Failed.{Failed}
-use Rattle.cq_outside.specs.declared.faults.Refusal.{Refusal}
-use Rattle.cq_outside.specs.declared.faults.Refusal.TheVariants.{Fault, NoMemory as IsNoMemory}
+use Rattle.cq_common.specs.declared.faults.Failed.{Failed}
+use Rattle.cq_common.specs.declared.faults.Refusal.{Refusal}
+use Rattle.cq_common.specs.declared.faults.Refusal.TheVariants.{Fault, NoMemory as IsNoMemory}
 use Rattle.cq_position.specs.Games.{Game}
 use Rattle.pgn_export.specs.Export.{export_text}
 use Rattle.pgn_reader.specs.declared.fault.GameFault.{GameFault}

@@ -5,9 +5,9 @@ use Rattle.std.specs.List.Sorted.{IsPermutation}
 use Rattle.std.proofs.lemmas.Grind.{flat_map-append}
 use Rattle.std.proofs.lemmas.List.{take_more, drop_more, take-append-drop}
 use Rattle.cq_outside.specs.Flow.{Grew}
-use Rattle.cq_outside.specs.declared.faults.Failed.{Failed}
-use Rattle.cq_outside.specs.declared.faults.Refusal.{Refusal}
-use Rattle.cq_outside.specs.declared.faults.Refusal.TheVariants.{Fault, NoMemory as IsNoMemory}
+use Rattle.cq_common.specs.declared.faults.Failed.{Failed}
+use Rattle.cq_common.specs.declared.faults.Refusal.{Refusal}
+use Rattle.cq_common.specs.declared.faults.Refusal.TheVariants.{Fault, NoMemory as IsNoMemory}
 use Rattle.cq_shards.specs.Order.{AreApart, ComesBefore, HasKeys, directions, is_match}
 use Rattle.cq_shards.specs.declared.answers.GameAnswer.{GameAnswer}
 use Rattle.cql_syntax.specs.TreeOf.{query_tree}

@@ -8,9 +8,9 @@ use Rattle.cq_batches.specs.Games.{games_of, number_of}
 use Rattle.cq_batches.specs.Kept.{KeptGames}
 use Rattle.cq_batches.specs.declared.batch.Batch.{Batch}
 use Rattle.cq_outside.specs.Flow.{Grew}
-use Rattle.cq_outside.specs.declared.faults.Failed.{Failed}
-use Rattle.cq_outside.specs.declared.faults.Refusal.{Refusal}
-use Rattle.cq_outside.specs.declared.faults.Refusal.TheVariants.{Fault, NoMemory as IsNoMemory}
+use Rattle.cq_common.specs.declared.faults.Failed.{Failed}
+use Rattle.cq_common.specs.declared.faults.Refusal.{Refusal}
+use Rattle.cq_common.specs.declared.faults.Refusal.TheVariants.{Fault, NoMemory as IsNoMemory}
 use Rattle.cql_syntax.specs.TreeOf.{query_tree}
 use Rattle.cql_syntax.specs.Trees.{QueryTree}
 use Rattle.cql_syntax.specs.declared.typed.TypedQuery.{TypedQuery}

@@ -8,8 +8,8 @@ use Rattle.std.specs.Io.KnownBytes.{Consumes, IsAtEnd}
 use Rattle.cq_outside.specs.Faults.{Rose}
 use Rattle.std.specs.Option.{option_map}
 use Rattle.cq_outside.specs.Told.{Told, Opens, bytes_of}
-use Rattle.cq_outside.specs.declared.faults.Refusal.{Refusal}
-use Rattle.cq_outside.specs.declared.faults.Refusal.TheVariants.{Fault}
+use Rattle.cq_common.specs.declared.faults.Refusal.{Refusal}
+use Rattle.cq_common.specs.declared.faults.Refusal.TheVariants.{Fault}
 use Rattle.clap.specs.Takes.{takes}
 use Rattle.cq_maker.specs.Made.{made}
 use Rattle.clap.specs.Simple.{matches_of}

@@ -2,8 +2,8 @@
 use Rattle.std.specs.Prelude.{ℕ}
 use Rattle.cq_batches.specs.declared.state.BatchFault.{BatchFault}
 use Rattle.cq_batches.specs.declared.state.BatchFault.TheVariants.{ReadFault as TheReadFault, ArchiveTooLong as TheArchiveTooLong}
-use Rattle.cq_outside.specs.declared.faults.Refusal.{Refusal}
-use Rattle.cq_outside.specs.declared.faults.Refusal.TheVariants.{Fault, NoMemory as IsNoMemory}
+use Rattle.cq_common.specs.declared.faults.Refusal.{Refusal}
+use Rattle.cq_common.specs.declared.faults.Refusal.TheVariants.{Fault, NoMemory as IsNoMemory}
 use Rattle.cq_run.specs.declared.status.Status.{Status}
 use Rattle.cq_run.specs.declared.status.Status.TheVariants.{Done, DoneWithRefusals, QueryRefused, WordsRefused}
 use Rattle.cq_run.specs.declared.status.Status.TheVariants.{OpenFault, ReadFault, WriteFault, NoMemory, ArchiveTooLong}

@@ -7,7 +7,8 @@ ghost use Rattle.cq_run.specs.Promise.{desk_view, sink_view, sinks_of};
 
 use crate::status::Status;
 use crate::top_call::run;
-use cq_outside::{Desk, NoMemory, OpenGate, Sink};
+use cq_common::NoMemory;
+use cq_outside::{Desk, OpenGate, Sink};
 use std::alloc::Global;
 use std::thread::Threads;
 

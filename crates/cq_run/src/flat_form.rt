@@ -5,7 +5,8 @@ ghost use Rattle.cq_run.specs.Promise.{SinkView, sink_view, sinks_of};
 ghost use Rattle.cq_run.specs.Run.{WritesFlat, flat_lines};
 
 use crate::status::Status;
-use cq_outside::{Bytes, NoMemory, Sink, write_all_of};
+use cq_common::{Bytes, NoMemory};
+use cq_outside::{Sink, write_all_of};
 use cql_rewrite::{expand, flat_text};
 use cql_syntax::TypedQuery;
 use std::alloc::Global;

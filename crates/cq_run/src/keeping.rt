@@ -11,7 +11,8 @@ ghost use Rattle.cq_run.specs.Promise.{SinkView, sink_view, sinks_of};
 
 use crate::output::write_answers;
 use crate::tally::Tally;
-use cq_outside::{Failed, NoMemory, Refusal, Sink};
+use cq_common::{Failed, NoMemory, Refusal};
+use cq_outside::Sink;
 use cq_shards::{Answer, GameAnswer, ManyAnswers, in_order};
 use std::alloc::Global;
 

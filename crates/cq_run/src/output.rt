@@ -14,7 +14,8 @@ ghost use Rattle.cq_run.specs.Writing.{WritesFault, WritesKept, WritesLast, Writ
 use crate::sorts::have_sort;
 use crate::status::Status;
 use crate::tally::Tally;
-use cq_outside::{Failed, NoMemory, Refusal, Sink, write_all_of};
+use cq_common::{Failed, NoMemory, Refusal};
+use cq_outside::{Sink, write_all_of};
 use cq_report::{fault_line, summary_line};
 use cq_shards::{Answer, GameAnswer, by_keys};
 use cql_plan::Plan;

@@ -7,7 +7,8 @@ ghost use Rattle.cq_run.specs.Promise.{SinkView, desk_view, sink_view, sinks_of}
 ghost use Rattle.cq_run.specs.Run.{AcceptsQuery, RefusesQuery, a_query};
 
 use crate::status::Status;
-use cq_outside::{Bytes, Desk, OpenFault, Refusal, Sink, read_up_to, write_all_of};
+use cq_common::{Bytes, OpenFault, Refusal};
+use cq_outside::{Desk, Sink, read_up_to, write_all_of};
 use cq_report::query_line;
 use cql_kinds::check;
 use cql_lexer::{QUERY_LIMIT, query_tokens};

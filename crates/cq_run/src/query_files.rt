@@ -8,7 +8,8 @@ ghost use Rattle.cq_run.specs.Run.{RefusesQuery, some_queries};
 
 use crate::queries::{FileRefusal, read_query, text_in_file};
 use crate::status::Status;
-use cq_outside::{Bytes, Desk, NoMemory, Refusal, Sink, write_all_of};
+use cq_common::{Bytes, NoMemory, Refusal};
+use cq_outside::{Desk, Sink, write_all_of};
 use cq_report::numbered_query_line;
 use cql_syntax::{QueryFault, TypedQuery};
 use memchr::memchr;

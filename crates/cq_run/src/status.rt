@@ -3,7 +3,7 @@ ghost use Rattle.std.specs.Prelude.{◌≡◌};
 ghost use Rattle.cq_run.specs.Status.{exit_code, status_after};
 
 use cq_batches::BatchFault;
-use cq_outside::Refusal;
+use cq_common::Refusal;
 
 /// How a call ended. The program's exit status is the place in this list, from 0.
 #[derive(Clone, Copy, Debug, PartialEq, Eq)]

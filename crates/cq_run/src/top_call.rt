@@ -19,7 +19,8 @@ use crate::queries::{accept_query, query_in_file, read_query, refuse_query, repo
 use crate::query_files::{queries_in_file, report_queries_refusal};
 use crate::selfrun::answer_text_over_made;
 use crate::status::Status;
-use cq_outside::{Desk, Gate, OpenFault, Refusal, Sink, write_all_of};
+use cq_common::{OpenFault, Refusal};
+use cq_outside::{Desk, Gate, Sink, write_all_of};
 use cq_words::{Job, read_words};
 use cql_parser::{faulty_tokens_spell_no_query, tokens_spell_at_most_one_query};
 use cql_syntax::TypedQuery;

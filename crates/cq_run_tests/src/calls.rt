@@ -1,7 +1,8 @@
 //! The top call, and what the tests give it.
 ghost use Rattle.std.specs.Prelude.{◌≤◌};
 
-use cq_outside::{Calls, Desk, Gate, MemSink, NoMemory, Sink, SureDesk};
+use cq_common::NoMemory;
+use cq_outside::{Calls, Desk, Gate, MemSink, Sink, SureDesk};
 use cq_run::{Status, run};
 use std::alloc::{AllocError, Global};
 use std::thread::Threads;

@@ -2,7 +2,8 @@
 ghost use Rattle.std.specs.Prelude.{◌≡◌, ◌≤◌, None};
 
 use crate::calls::status_of;
-use cq_outside::{Desk, Failed, NoMemory, OpenFault, OpenGate, Source, SureSink};
+use cq_common::{Failed, NoMemory, OpenFault};
+use cq_outside::{Desk, OpenGate, Source, SureSink};
 use cq_run::Status;
 use std::alloc::Global;
 use std::process::Abort;

@@ -3,7 +3,8 @@
 ghost use Rattle.std.specs.Prelude.{◌≤◌};
 
 use crate::calls::{is_part, sink_with, status_of};
-use cq_outside::{Bytes, Calls, MemDesk, MemSink, NoMemory, OpenGate};
+use cq_common::{Bytes, NoMemory};
+use cq_outside::{Calls, MemDesk, MemSink, OpenGate};
 use cq_run::Status;
 use std::alloc::Global;
 use std::process::Abort;

@@ -1,6 +1,7 @@
 //! The program has as many workers as it is told, and each of them tells the gate that was handed in.
 use crate::calls::{desk_of, job_of, status_by};
-use cq_outside::{Gate, NoMemory, SureDesk, SureSink};
+use cq_common::NoMemory;
+use cq_outside::{Gate, SureDesk, SureSink};
 use cq_run::Status;
 use std::alloc::Global;
 use std::process::Abort;

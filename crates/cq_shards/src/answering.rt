@@ -12,7 +12,7 @@ use crate::answers::{Answer, GameAnswer, Keys};
 use crate::finding::find;
 use cq_annotate::mark;
 use cq_batches::Batch;
-use cq_outside::{Bytes, NoMemory, Refusal};
+use cq_common::{Bytes, NoMemory, Refusal};
 use cql_plan::Plan;
 use cql_syntax::TypedQuery;
 use pgn_export::export;

@@ -1,7 +1,7 @@
 //! What a query finds in a game.
 ghost use Rattle.std.specs.Prelude.{◌≡◌, List, ℤ, IfOk};
 
-use cq_outside::{Bytes, NoMemory};
+use cq_common::{Bytes, NoMemory};
 use pgn_reader::GameFault;
 use std::alloc::Global;
 use std::marker::Model;

@@ -6,7 +6,7 @@ ghost use Rattle.cq_shared.specs.Plans.{queries_of, trees_of};
 ghost use Rattle.cq_shared.specs.Verdicts as all;
 ghost use Rattle.cq_shards.specs.Answers.{query_in};
 
-use cq_outside::{NoMemory, Steps};
+use cq_common::{NoMemory, Steps};
 use cq_shared::{SharedPlan, Verdicts, match_all};
 use cql_plan::{Plan, Verdict, match_game};
 use pgn_tree::Game;

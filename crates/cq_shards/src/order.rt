@@ -7,7 +7,7 @@ ghost use Rattle.cq_shards.specs.Order.{is_match as is_matching, keys_in};
 ghost use Rattle.cq_shards.specs.Comparing.{answer_cmp, keys_cmp, value_cmp};
 
 use crate::answers::{Answer, GameAnswer};
-use cq_outside::NoMemory;
+use cq_common::NoMemory;
 use cql_syntax::{Filter, Form, Query};
 use std::alloc::Global;
 use std::cmp::Ordering;

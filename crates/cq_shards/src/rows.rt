@@ -8,7 +8,7 @@ use crate::answering::{answer_found, read_at, refused};
 use crate::answers::GameAnswer;
 use crate::finding::find_all;
 use cq_batches::Batch;
-use cq_outside::NoMemory;
+use cq_common::NoMemory;
 use cq_shared::SharedPlan;
 use pgn_reader::GameFault;
 use pgn_tree::Game;

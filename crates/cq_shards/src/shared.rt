@@ -2,7 +2,7 @@
 
 use crate::answers::{Answer, GameAnswer, Keys};
 use crate::many::ManyAnswers;
-use cq_outside::Shared;
+use cq_common::Shared;
 
 impl Shared for Keys {}
 

@@ -9,7 +9,7 @@ ghost use Rattle.cq_shared.specs.Singles.{shown};
 
 use crate::nodes::Asked;
 use crate::part::Part;
-use cq_outside::{NoMemory, Steps};
+use cq_common::{NoMemory, Steps};
 use cql_columns::order::SORTS;
 use cql_eval::{Column, hit_columns_at};
 use pgn_tree::Game;

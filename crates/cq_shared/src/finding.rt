@@ -3,7 +3,7 @@ ghost use Rattle.std.specs.Prelude.{◌≡◌, ◌++◌, ◌≤◌, map, OnOk};
 ghost use Rattle.cql_syntax.specs.TreeOf.{filter_tree, filters_tree};
 ghost use Rattle.cq_shared.specs.Parts.{parts_of, all_parts, top_parts, item_parts, top_sorts, item_sorts};
 
-use cq_outside::NoMemory;
+use cq_common::NoMemory;
 use cql_syntax::{Chain, Filter, Filters, Form};
 use std::alloc::Global;
 

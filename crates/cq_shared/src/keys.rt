@@ -7,7 +7,7 @@ ghost use Rattle.cq_shared.specs.declared.nodes.Row.{Row as RowOf};
 use crate::nodes::Row;
 use crate::part::{Asker, Part};
 use crate::single::reading::filter_of;
-use cq_outside::NoMemory;
+use cq_common::NoMemory;
 use cql_plan::key_over;
 use cql_syntax::{Filter, Form};
 use std::alloc::Global;

@@ -12,7 +12,7 @@ use crate::part::Part;
 use crate::single::Single;
 use crate::single::reading::{filter_of, place, same_single, single_of};
 use crate::table::{Place, put};
-use cq_outside::NoMemory;
+use cq_common::NoMemory;
 use cql_columns::order::class_of;
 use cql_syntax::Filter;
 use std::alloc::Global;

@@ -8,7 +8,7 @@ use crate::asking::asked_at;
 use crate::narrowing::{narrowed, wanted_nodes};
 use crate::nodes::{Narrowed, Nodes, Row, Sorted};
 use crate::part::Part;
-use cq_outside::{NoMemory, Steps};
+use cq_common::{NoMemory, Steps};
 use cql_columns::order::SORTS;
 use pgn_tree::Game;
 use std::alloc::Global;

@@ -6,7 +6,7 @@ ghost use Rattle.cq_shared.specs.Matching.{tree_for, is_left, is_asked_by, IsRea
 
 use crate::nodes::Nodes;
 use crate::part::Part;
-use cq_outside::NoMemory;
+use cq_common::NoMemory;
 use cql_columns::narrow::keep_true;
 use pgn_tree::Game;
 use std::alloc::Global;

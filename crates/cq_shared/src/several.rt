@@ -11,7 +11,7 @@ use crate::found::found_all;
 use crate::matching::{left_by, sorted_by};
 use crate::plan::SharedPlan;
 use crate::verdicts::Verdicts;
-use cq_outside::{NoMemory, Steps};
+use cq_common::{NoMemory, Steps};
 use pgn_tree::Game;
 use std::alloc::Global;
 use std::sync::ledger::Ledger;

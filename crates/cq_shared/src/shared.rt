@@ -2,7 +2,7 @@
 
 use crate::plan::SharedPlan;
 use crate::verdicts::Verdicts;
-use cq_outside::Shared;
+use cq_common::Shared;
 
 impl Shared for SharedPlan {}
 

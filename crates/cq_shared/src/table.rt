@@ -2,7 +2,7 @@
 ghost use Rattle.std.specs.Prelude.{◌≡◌, ℕ, ◌<◌, ◌++◌, ◌∷◌, [], length, get_or, IfOk, OnOk};
 ghost use Rattle.cq_shared.specs.Places.{mixed, mixed_all, numbers_at};
 
-use cq_outside::NoMemory;
+use cq_common::NoMemory;
 use std::alloc::Global;
 
 /// The numbers at a place.

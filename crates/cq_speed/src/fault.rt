@@ -1,5 +1,5 @@
 //! Why nothing is measured.
-use cq_outside::NoMemory;
+use cq_common::NoMemory;
 use std::alloc::{AllocError, AllocFailed};
 use std::io;
 use thiserror::Error;

@@ -1,5 +1,5 @@
 //! A cutter that is fed piece by piece, and laws that nothing else calls.
-use cq_outside::NoMemory;
+use cq_common::NoMemory;
 use pgn_cut::{Cutter, Span};
 use pgn_laws::{markers_end_games, split_games_are_read_alike};
 use pgn_pieces::pieces_cover_their_archive;

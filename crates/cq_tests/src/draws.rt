@@ -3,7 +3,7 @@ ghost use Rattle.std.specs.Prelude.{◌≡◌, All, length};
 ghost use Rattle.cq_board.specs.Seats.{IsSeatOf, HasEnded};
 
 use cq_board::{Board, ClaimSeat};
-use cq_outside::NoMemory;
+use cq_common::NoMemory;
 use std::alloc::Global;
 use std::sync::atomic::{AtomicU32, Ordering};
 use std::thread;

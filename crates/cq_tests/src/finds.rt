@@ -2,8 +2,8 @@
 ghost use Rattle.std.specs.Prelude.{◌≡◌, ◌<◌, ◌≤◌, All, length};
 ghost use Rattle.cq_first.specs.Seats.{IsSeatOf, numbers_of};
 
+use cq_common::NoMemory;
 use cq_first::{FirstBoard, FirstSeat};
-use cq_outside::NoMemory;
 use std::alloc::Global;
 use std::thread;
 use std::thread::Threads;

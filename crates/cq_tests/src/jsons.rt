@@ -1,5 +1,5 @@
 //! What the laws of lines ask of a game.
-use cq_outside::Refusal;
+use cq_common::Refusal;
 use pgn_json::{
     games_are_kept, lines_are_json, lines_are_utf8, same_lines_have_the_same_game,
     strings_are_read_back, texts_are_bytes,

@@ -1,7 +1,7 @@
 //! Archives that an independent model made.
+use cq_common::NoMemory;
 use cq_maker::laws::games_are_read_back;
 use cq_maker::make_archive;
-use cq_outside::NoMemory;
 use std::alloc::Global;
 use std::test::Fail;
 

@@ -1,9 +1,8 @@
 //! The outside in memory, which fails at given calls, and the trusted edge.
 ghost use Rattle.std.specs.Prelude.{◌≤◌};
 
-use cq_outside::{
-    Calls, Desk, FileDesk, MemDesk, MemSink, MemSource, NoMemory, OpenFault, Sink, Source, StdSink,
-};
+use cq_common::{NoMemory, OpenFault};
+use cq_outside::{Calls, Desk, FileDesk, MemDesk, MemSink, MemSource, Sink, Source, StdSink};
 use std::alloc::Global;
 use std::test::Fail;
 

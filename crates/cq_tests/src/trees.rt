@@ -1,7 +1,7 @@
 //! Games as trees: their nodes, their paths and their men.
 ghost use Rattle.std.specs.Prelude.{◌<◌, length};
 
-use cq_outside::{NoMemory, Refusal};
+use cq_common::{NoMemory, Refusal};
 use cq_position::{GameResult, Position};
 use pgn_reader::{GameFault, read_game};
 use pgn_tree::{Game, Tags};

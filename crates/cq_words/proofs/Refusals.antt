@@ -3,7 +3,7 @@ use Rattle.std.proofs.Common.{◌≡◌, List, [], ◌∷◌, true, sym, subst, 
 use Rattle.clap.specs.Words.{App, HasKind, Kinds, Text, fault_of, is_simple_and_free, kind_of, takes}
 use Rattle.clap.specs.declared.error.Error.{Error}
 use Rattle.clap.specs.declared.error.kind.ErrorKind.TheVariants.{OutOfMemory}
-use Rattle.cq_outside.specs.declared.faults.Refusal.TheVariants.{Fault}
+use Rattle.cq_common.specs.declared.faults.Refusal.TheVariants.{Fault}
 use Rattle.cq_words.specs.declared.job.WordsRefused.{WordsRefused}
 use Rattle.cq_words.specs.Line.{line}
 use Rattle.cq_words.specs.Promises.{IsRefused}

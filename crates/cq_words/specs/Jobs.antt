@@ -8,8 +8,8 @@ use Rattle.clap.specs.Walk.{is_empty}
 use Rattle.clap.specs.ValueTests.{is_unsigned_in}
 use Rattle.clap.specs.Simple.{matches_of}
 use Rattle.clap.specs.Faults.{fault_of}
-use Rattle.cq_outside.specs.declared.faults.Refusal.{Refusal}
-use Rattle.cq_outside.specs.declared.faults.Refusal.TheVariants.{Fault, NoMemory}
+use Rattle.cq_common.specs.declared.faults.Refusal.{Refusal}
+use Rattle.cq_common.specs.declared.faults.Refusal.TheVariants.{Fault, NoMemory}
 use Rattle.cq_words.specs.declared.job.Job.{Job}
 use Rattle.cq_words.specs.declared.job.Job.TheVariants as job
 use Rattle.cq_words.specs.declared.job.Settings.{Settings}

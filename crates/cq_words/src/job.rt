@@ -1,5 +1,5 @@
 //! What the command words may ask.
-use cq_outside::Bytes;
+use cq_common::Bytes;
 
 /// The most workers.
 pub(crate) const WORKERS_LIMIT: u64 = 64;

@@ -8,7 +8,7 @@ use crate::job::{
     SelfRunSettings, Settings, WORKERS_LIMIT,
 };
 use clap::ArgMatches;
-use cq_outside::{Bytes, NoMemory};
+use cq_common::{Bytes, NoMemory};
 use std::alloc::Global;
 
 // The text of an argument, where it is given.

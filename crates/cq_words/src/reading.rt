@@ -15,7 +15,7 @@ use crate::options::{
 };
 use clap::ArgMatches;
 use clap::error::ErrorKind;
-use cq_outside::{Bytes, Refusal};
+use cq_common::{Bytes, Refusal};
 use std::alloc::Global;
 
 // The matches that `clap` gives of the words.

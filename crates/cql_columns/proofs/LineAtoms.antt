@@ -1,7 +1,7 @@
 -- The atoms and places of a line, and its pattern part by part.
 use Rattle.std.proofs.Common.{◌≡◌, ℕ, zero, suc, ◌+◌, ◌*◌, ◌<◌, ◌≤◌, max, List, [], ◌∷◌, ◌++◌, length, drop, get_or, refl, sym, ap, ap₂, ◌∙◌, subst, arith, add-one}
 use Rattle.std.proofs.Math.Nat.{suc-max-suc, zero-max}
-use Rattle.cq_outside.specs.Spelling.{Pattern, nothing, joined}
+use Rattle.cq_common.specs.Spelling.{Pattern, nothing, joined}
 use Rattle.cql_lines.specs.Automata.{places as automaton_places}
 use Rattle.cql_lines.specs.Building.{AtomsBelow}
 use Rattle.cql_lines.specs.PatternTrees.{pattern_tree, pattern_trees}

@@ -12,9 +12,9 @@ use Rattle.cql_values.proofs.Evaluated.{map_snoc}
 use Rattle.std.proofs.lemmas.Option.{slice_get-get_or, slice_get_cases}
 use Rattle.std.proofs.lemmas.List.FromFn.{get_or-map-range_with_len, length-map-range_with_len, map-range_with_len_more}
 use Rattle.std.proofs.lemmas.List.Sums.{sum_by-cons, length-filter}
-use Rattle.cq_outside.specs.Greatest.{IsGreatest}
-use Rattle.cq_outside.specs.Spelling.{Pattern, nothing}
-use Rattle.cq_outside.specs.Ways.{Line}
+use Rattle.cq_common.specs.Greatest.{IsGreatest}
+use Rattle.cq_common.specs.Spelling.{Pattern, nothing}
+use Rattle.cq_common.specs.Ways.{Line}
 use Rattle.cq_position.specs.Games.{IsTree, node_at, is_first_child, is_searched, searched, numbers}
 use Rattle.cq_position.specs.Search.{SearchedTree, IsStep}
 use Rattle.cq_position.proofs.WaysUp.{searched_up, parent_before}

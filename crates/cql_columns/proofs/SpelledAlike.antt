@@ -1,7 +1,7 @@
 -- What is spelled on ways that begin at some nodes, part by part.
 use Rattle.std.proofs.Common.{◌≡◌, ℕ, zero, suc, ◌≤◌, Bool, true, false, List, [], ◌∷◌, ◌++◌, Option, Some, None, refl, sym, ap, ◌∙◌, subst, arith, ⊎_elim}
 use Rattle.std.specs.Prelude.{◌&&◌, ◌||◌, not}
-use Rattle.cq_outside.specs.Spelling.{Pattern, one, joined, repeated, Spells, Times}
+use Rattle.cq_common.specs.Spelling.{Pattern, one, joined, repeated, Spells, Times}
 use Rattle.cq_position.specs.Games.{IsTree, is_below}
 use Rattle.cq_position.specs.Search.{SearchedTree, IsStep, Along}
 use Rattle.cq_position.proofs.WaysUp.{is_below_self, below_parent, parent_before}

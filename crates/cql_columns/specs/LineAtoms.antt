@@ -1,6 +1,6 @@
 -- The pattern of a line with its atoms numbered in order, and the table of its atoms.
 use Rattle.std.specs.Prelude.{◌≡◌, ℕ, ◌+◌, ◌<◌, ◌≤◌, ◌||◌, Bool, true, false, List, Option, Some, None}
-use Rattle.cq_outside.specs.Spelling.{Pattern, one, nothing, joined}
+use Rattle.cq_common.specs.Spelling.{Pattern, one, nothing, joined}
 use Rattle.cq_position.specs.Games.{node_at, is_first_child, is_searched}
 use Rattle.cq_position.specs.Search.{SearchedTree}
 use Rattle.cql_lines.specs.Tables.{atoms_of, nodes_of, holds_in}

@@ -1,6 +1,6 @@
 -- Where a filter is asked, as the private functions give it.
 use Rattle.std.specs.Prelude.{ℕ, List, []}
-use Rattle.cq_outside.specs.Spelling.{Pattern}
+use Rattle.cq_common.specs.Spelling.{Pattern}
 use Rattle.cq_position.specs.Search.{SearchedTree}
 use Rattle.cql_syntax.specs.Meaning.{Names, value, values, pattern, body_pattern}
 use Rattle.cql_syntax.specs.Trees.{FilterTree, FilterTrees, PartTrees, BodyTree}

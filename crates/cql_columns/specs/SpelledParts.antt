@@ -1,6 +1,6 @@
 -- What a table's atoms spell on the ways of a line that begin at some nodes, and where a way leads.
 use Rattle.std.specs.Prelude.{◌≡◌, ◌↔◌, ℕ, ◌<◌, ◌==◌, Bool, true, false, not, List, [], ◌∷◌}
-use Rattle.cq_outside.specs.Spelling.{Pattern, joined, Spells}
+use Rattle.cq_common.specs.Spelling.{Pattern, joined, Spells}
 use Rattle.cq_position.specs.Games.{is_below}
 use Rattle.cq_position.specs.Search.{SearchedTree, IsStep, Along}
 use Rattle.cql_lines.specs.Tables.{holds_in}

@@ -13,7 +13,7 @@ use crate::combine::{held, pair_column};
 use crate::filter_column::FilterColumn;
 use crate::leaves::standing_sets;
 use crate::scope::Scope;
-use cq_outside::NoMemory;
+use cq_common::NoMemory;
 use cql_syntax::{Chain, Designator, Filter, Form, Pair};
 use std::alloc::Global;
 

@@ -13,8 +13,8 @@ use crate::filter_column::{FilterColumn, blank_sets, blank_truths, blank_values}
 use crate::narrow::has_number;
 use crate::scope::Scope;
 use crate::spans::{asked_end, end_of, first_asked, first_live};
+use cq_common::NoMemory;
 use cq_geometry::Compass;
-use cq_outside::NoMemory;
 use cql_syntax::{Chain, Kind, Pair, Unary};
 use cql_values::combine::{any_of, chain_of, compares, if_of, related, unary_here};
 use cql_values::numbers::total;

@@ -12,7 +12,7 @@ use crate::scope::Scope;
 use crate::tree::{
     above, below, children, lowered, none, of_parents, parents, raised, with_parents,
 };
-use cq_outside::NoMemory;
+use cq_common::NoMemory;
 use cql_syntax::Unary;
 use pgn_tree::Game;
 use std::alloc::Global;

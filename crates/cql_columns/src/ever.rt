@@ -15,7 +15,7 @@ use crate::filter_column::set_at;
 use crate::free::is_all;
 use crate::leaves::standing_sets;
 use crate::scope::Scope;
-use cq_outside::NoMemory;
+use cq_common::NoMemory;
 use cq_symmetry::SquarePart;
 use cql_syntax::{Designator, Filter, Filters, Form};
 use std::alloc::Global;

@@ -3,7 +3,7 @@ ghost use Rattle.std.specs.Prelude.{◌≡◌, get_or, length, false, None, IfOk
 ghost use Rattle.cql_values.specs.declared.value.Value.TheVariants.{Truth};
 ghost use Rattle.cql_columns.specs.Columns.{kept_at};
 
-use cq_outside::NoMemory;
+use cq_common::NoMemory;
 use cql_values::value::Value;
 use std::alloc::Global;
 

@@ -8,8 +8,8 @@ ghost use Rattle.cql_syntax.specs.declared.leaves.Chain.TheVariants.{Or, And, Al
 ghost use Rattle.cql_syntax.specs.declared.leaves.Pair.TheVariants.{Attacks, AttackedBy};
 ghost use Rattle.cql_columns.specs.Covers.{IsFree, AreFree, IsFreeMove, IsFreePart, IsOwn, IsOwnPart};
 
+use cq_common::NoMemory;
 use cq_geometry::Square;
-use cq_outside::NoMemory;
 use cql_syntax::{Chain, Filter, Filters, Form, Pair, Played};
 use cql_values::names::Names;
 use std::alloc::Global;

@@ -13,7 +13,7 @@ ghost use Rattle.cql_columns.specs.Scopes.{tree_in};
 use crate::filter_column::{blank_sets, blank_values};
 use crate::scope::Scope;
 use crate::spans::{asked_end, first_asked};
-use cq_outside::NoMemory;
+use cq_common::NoMemory;
 use cq_position::Man;
 use cql_syntax::{Designator, Plain};
 use cql_values::counts::counts;

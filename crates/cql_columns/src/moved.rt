@@ -11,7 +11,7 @@ use crate::filter_column::{blank_truths, set_at};
 use crate::free::is_free_part;
 use crate::moves::{PartColumns, meets_parts};
 use crate::scope::Scope;
-use cq_outside::NoMemory;
+use cq_common::NoMemory;
 use cql_syntax::{Filter, Played};
 use cql_values::names::Names;
 use cql_values::value::Value;

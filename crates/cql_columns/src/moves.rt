@@ -11,7 +11,7 @@ use crate::filter_column::{FilterColumn, blank_truths};
 use crate::nodes::same;
 use crate::scope::Scope;
 use crate::spans::{asked_end, first_asked};
-use cq_outside::NoMemory;
+use cq_common::NoMemory;
 use cq_position::Promotion;
 use cql_values::led::{before, led_to, meets_all};
 use cql_values::value::Value;

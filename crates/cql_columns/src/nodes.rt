@@ -11,7 +11,7 @@ ghost use Rattle.cql_columns.specs.Scopes.{tree_in};
 use crate::filter_column::{FilterColumn, blank_truths};
 use crate::narrow::narrow;
 use crate::scope::Scope;
-use cq_outside::{NoMemory, Steps};
+use cq_common::{NoMemory, Steps};
 use cql_values::walks::is_searched;
 use pgn_tree::Game;
 use std::alloc::Global;

@@ -14,7 +14,7 @@ ghost use Rattle.cql_columns.specs.LineAtoms.{HasRoom, IsPut, IsFilledIn, limits
 ghost use Rattle.cql_columns.specs.Scopes.{tree_in};
 
 use crate::scope::Scope;
-use cq_outside::NoMemory;
+use cq_common::NoMemory;
 use cql_lines::{AtomTable, Pattern, Patterns, Shape};
 use cql_syntax::{Body, Constituents, Extent, Mark};
 use cql_values::walks::{is_first_child, is_searched};

@@ -15,7 +15,7 @@ use crate::filter_column::{FilterColumn, set_at};
 use crate::free::is_all;
 use crate::nodes::same;
 use crate::spans::{end_of, first_live};
-use cq_outside::NoMemory;
+use cq_common::NoMemory;
 use cql_syntax::{Designator, Filter, Form};
 use cql_values::value::Value;
 use std::alloc::Global;

@@ -9,7 +9,7 @@ ghost use Rattle.cql_columns.specs.Trees.{IsBelowLive, IsAboveLive, AreChildrenO
 use crate::filter_column::{blank_truths, truth_at};
 use crate::nodes::same;
 use crate::scope::Scope;
-use cq_outside::NoMemory;
+use cq_common::NoMemory;
 use cql_values::walks::is_searched;
 use pgn_tree::Game;
 use std::alloc::Global;

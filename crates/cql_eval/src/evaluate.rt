@@ -29,7 +29,7 @@ use columns::{
     any_values_column, chain_values_column, chosen_column, found_column, here_column,
     numbered_column, paired_column, reached_column, standing_column, sum_column, word_column,
 };
-use cq_outside::{NoMemory, Steps};
+use cq_common::{NoMemory, Steps};
 use cql_columns::binding::Binding;
 use cql_columns::elsewhere::{looked_at, looks_elsewhere};
 use cql_columns::filter_column::FilterColumn;

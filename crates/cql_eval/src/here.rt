@@ -6,7 +6,7 @@ ghost use Rattle.cql_eval.specs.Bindings.{holds_with};
 ghost use Rattle.cql_columns.specs.Columns.{AreAsked, AreTruths, shown};
 ghost use Rattle.cql_columns.specs.Scopes.{tree_in};
 
-use cq_outside::NoMemory;
+use cq_common::NoMemory;
 use cql_columns::binding::Binding;
 use cql_columns::filter_column::blank_truths;
 use cql_columns::spans::{asked_end, first_asked};

@@ -17,7 +17,7 @@ ghost use Rattle.cql_columns.specs.Scopes.{tree_in};
 
 use crate::column::Column;
 use crate::evaluate::{evaluate, left_by};
-use cq_outside::{NoMemory, Steps};
+use cq_common::{NoMemory, Steps};
 use cql_columns::combine::numbered;
 use cql_columns::filter_column::FilterColumn;
 use cql_columns::narrow::keep_numbered;

@@ -9,7 +9,7 @@ ghost use Rattle.cql_values.specs.Shown.{meant};
 use crate::cheap::{is_cheap, is_moved};
 use crate::evaluate::square_at;
 use crate::place::Place;
-use cq_outside::{NoMemory, Refusal};
+use cq_common::{NoMemory, Refusal};
 use cql_syntax::Filter;
 use cql_values::names::Names;
 use cql_values::value::Value;

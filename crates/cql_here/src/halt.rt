@@ -1,6 +1,6 @@
 //! Why a filter is not answered at a node.
 
-use cq_outside::Refusal;
+use cq_common::Refusal;
 
 /// A filter that is not answered node by node.
 #[derive(Clone, Copy)]

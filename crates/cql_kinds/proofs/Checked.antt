@@ -2,9 +2,9 @@
 use Rattle.std.proofs.Common.{◌≡◌, ℕ, Bool, true, false, List, [], ◌∷◌, ◌++◌, map, nat_lt, unwrap_or, Option, Some, None, Ok, Err, refl, ◌∙◌, ap, ap₂}
 use Rattle.std.specs.List.{flat_map}
 use Rattle.std.specs.Option.{option_or}
-use Rattle.cq_outside.specs.Refusals.{Refuses}
-use Rattle.cq_outside.specs.declared.faults.Refusal.{Refusal}
-use Rattle.cq_outside.specs.declared.faults.Refusal.TheVariants.{Fault, NoMemory}
+use Rattle.cq_common.specs.Refusals.{Refuses}
+use Rattle.cq_common.specs.declared.faults.Refusal.{Refusal}
+use Rattle.cq_common.specs.declared.faults.Refusal.TheVariants.{Fault, NoMemory}
 use Rattle.cql_syntax.specs.Limits.{most_weight}
 use Rattle.cql_syntax.specs.Occurrences.{Occurrence, all_occurrences}
 use Rattle.cql_syntax.specs.TreeFaults.{first, where_it, ok_unless, holds_brace, rule_faults, is_long_line, is_fifth_square, is_family, bytes_where, tree_faults, tree_fault, checked}

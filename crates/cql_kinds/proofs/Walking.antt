@@ -5,9 +5,9 @@ use Rattle.std.proofs.lemmas.List.Elements.{filter-append}
 use Rattle.std.proofs.lemmas.Grind.{flat_map-append}
 use Rattle.std.specs.List.{flat_map}
 use Rattle.std.specs.Option.{option_or}
-use Rattle.cq_outside.specs.Refusals.{Refuses, Gives}
-use Rattle.cq_outside.specs.declared.faults.Refusal.{Refusal}
-use Rattle.cq_outside.specs.declared.faults.Refusal.TheVariants.{Fault, NoMemory}
+use Rattle.cq_common.specs.Refusals.{Refuses, Gives}
+use Rattle.cq_common.specs.declared.faults.Refusal.{Refusal}
+use Rattle.cq_common.specs.declared.faults.Refusal.TheVariants.{Fault, NoMemory}
 use Rattle.cql_syntax.specs.Occurrences.{Occurrence, Standing, occurrences, inner}
 use Rattle.cql_syntax.specs.Trees.{FormTree, filter_at}
 use Rattle.cql_syntax.specs.TreeFaults.{first, ok_unless, rule_faults, broken_rules, is_long_line, is_fifth_square, is_family, bytes_where}

@@ -1,6 +1,6 @@
 //! The fault of a query's tree.
 ghost use Rattle.std.specs.Prelude.{◌≡◌, ◌<◌, ◌≤◌, ◌+◌, ◌^◌, nat_lt, false, None};
-ghost use Rattle.cq_outside.specs.Refusals.{Gives};
+ghost use Rattle.cq_common.specs.Refusals.{Gives};
 ghost use Rattle.cql_syntax.specs.Limits.{most_weight};
 ghost use Rattle.cql_syntax.specs.Occurrences.{of_items, sorts_with};
 ghost use Rattle.cql_syntax.specs.TreeFaults.{checked, has_any};
@@ -13,7 +13,7 @@ use crate::names::Names;
 use crate::rules::holds_brace;
 use crate::standing::Standing;
 use crate::walk::walk;
-use cq_outside::Refusal;
+use cq_common::Refusal;
 use cql_syntax::{
     Filter, Filters, Form, Kind, Query, QueryFault, QueryReason, TypedQuery, WEIGHT_LIMIT, weight,
 };

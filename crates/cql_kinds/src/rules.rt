@@ -8,7 +8,7 @@ ghost use Rattle.cql_kinds.specs.Standings.{names_in, occurrence};
 
 use crate::names::Names;
 use crate::standing::Standing;
-use cq_outside::{Bytes, NoMemory};
+use cq_common::{Bytes, NoMemory};
 use cql_syntax::{Filter, Form, Kind, QueryReason, kind_of};
 use std::alloc::Global;
 

@@ -1,6 +1,6 @@
 //! The walk over the filters of a query, outer before inner and left before right.
 ghost use Rattle.std.specs.Prelude.{◌++◌};
-ghost use Rattle.cq_outside.specs.Refusals.{Gives};
+ghost use Rattle.cq_common.specs.Refusals.{Gives};
 ghost use Rattle.cql_syntax.specs.Occurrences.{occurrences, inner, all_of, of_terms, of_played, of_written, of_parts, of_body};
 ghost use Rattle.cql_syntax.specs.TreeOf.{filter_tree, form_tree, filters_tree, terms_tree, played_tree, written_tree, parts_tree, body_tree};
 ghost use Rattle.cql_kinds.specs.Standings.{standing_in};
@@ -11,7 +11,7 @@ use crate::names::Names;
 use crate::rules::broken_rule;
 use crate::standing::Standing;
 use crate::wants::{pair_wants, unary_wants};
-use cq_outside::Refusal;
+use cq_common::Refusal;
 use cql_syntax::{Body, Constituents, Filter, Filters, Form, Kind, Played, QueryFault, Terms};
 use std::alloc::Global;
 

@@ -14,7 +14,7 @@ use Rattle.cql_syntax.specs.declared.fault.QueryFault.{QueryFault}
 use Rattle.cql_syntax.specs.declared.fault.QueryReason.TheVariants.{QueryTooLong}
 use Rattle.cql_lexer.specs.declared.expected.Expected.{Expected}
 use Rattle.cql_lexer.specs.declared.expected.Expected.TheVariants.{Token, FileName, Outcome}
-use Rattle.cq_outside.specs.Text.{is_white}
+use Rattle.cq_common.specs.Text.{is_white}
 use Rattle.cql_lexer.specs.Characters.{is_line_feed}
 use Rattle.cql_lexer.specs.Lexemes.{first_lexeme}
 

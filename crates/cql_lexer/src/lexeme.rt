@@ -1,6 +1,6 @@
 //! One token at the front of a text, by the first rule that applies.
 ghost use Rattle.std.specs.Prelude.{◌≡◌, ◌<◌, ◌≤◌, length, IfOk, IfSome, IsTrue, Some};
-ghost use Rattle.cq_outside.specs.Refusals.{Gives};
+ghost use Rattle.cq_common.specs.Refusals.{Gives};
 ghost use Rattle.std.specs.Char.{is_ascii_digit};
 ghost use Rattle.cql_syntax.specs.Words.{marks};
 ghost use Rattle.cql_lexer.specs.Characters.{begins, begins_name_or_squares};
@@ -10,7 +10,7 @@ ghost use Rattle.cql_lexer.specs.Longest.{front, longest};
 use crate::characters::{file_name_len, find, name_len};
 use crate::designators::designator_at;
 use crate::expected::Expected;
-use cq_outside::{Bytes, NoMemory, Refusal, decimal_up_to, digits_len};
+use cq_common::{Bytes, NoMemory, Refusal, decimal_up_to, digits_len};
 use cql_syntax::{Outcome, QueryReason, QueryTokenKind, is_reserved, mark_number, word_number};
 use std::alloc::Global;
 

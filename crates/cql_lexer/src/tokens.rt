@@ -4,13 +4,13 @@ ghost use Rattle.std.specs.Prelude.{◌++◌, ◌∷◌, ◌↔◌, [], ℕ, Lis
 ghost use Rattle.cql_syntax.specs.Limits.{most_bytes};
 ghost use Rattle.cql_syntax.specs.declared.fault.QueryFault.{QueryFault};
 ghost use Rattle.cql_syntax.specs.declared.token.QueryToken.{QueryToken};
-ghost use Rattle.cq_outside.specs.Refusals.{Gives};
+ghost use Rattle.cq_common.specs.Refusals.{Gives};
 ghost use Rattle.cql_lexer.specs.Tokens.{separator_len, token_at, tokens_of, EndOnce, IsRead};
 
 use crate::characters::find;
 use crate::expected::{Expected, expected_after};
 use crate::lexeme::{Lexeme, first_lexeme};
-use cq_outside::{NoMemory, Refusal, white_len};
+use cq_common::{NoMemory, Refusal, white_len};
 use cql_syntax::{QueryFault, QueryReason, QueryToken, QueryTokenKind};
 use std::alloc::Global;
 

@@ -1,6 +1,6 @@
 -- The rules that an automaton has for a pattern, wherever they are numbered.
 use Rattle.std.specs.Prelude.{◌≡◌, ℕ, zero, suc, ◌-◌, ◌^◌, List, Bool, true, Option, Some, None, slice_get, bit_or}
-use Rattle.cq_outside.specs.Spelling.{Pattern, one, nothing, joined, repeated}
+use Rattle.cq_common.specs.Spelling.{Pattern, one, nothing, joined, repeated}
 use Rattle.cql_lines.specs.declared.automaton.Next.{Next}
 use Rattle.cql_lines.specs.declared.automaton.Rule.{Rule}
 use Rattle.cql_lines.specs.Places.{when}

@@ -1,6 +1,6 @@
 -- What is asked of cells holds of both kinds.
 use Rattle.std.proofs.Common.{◌≡◌, ℕ, ◌<◌, ◌≤◌, Bool, true, false, List, length, Option, Some, None, sym, subst}
-use Rattle.cq_outside.specs.Greatest.{IsGreatest}
+use Rattle.cq_common.specs.Greatest.{IsGreatest}
 use Rattle.cql_lines.specs.Cells.{Known, both_kinds, place_cell, LeavesRoom, Counts, IsAnswer, Allowed}
 use Rattle.cql_lines.specs.Limits.{most_nodes}
 use Rattle.cql_lines.specs.Reads.{FromPlace, Read}

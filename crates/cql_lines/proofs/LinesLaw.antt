@@ -4,12 +4,12 @@ use Rattle.std.specs.Prelude.{◌⊎◌}
 use Rattle.cql_lines.specs.declared.automaton.Next.{Next}
 use Rattle.cql_lines.specs.declared.automaton.Rule.{Rule}
 use Rattle.cql_lines.specs.declared.plain.Plain.{Plain as Given, Atom, Empty, Both', Star', Plus', Times'}
-use Rattle.cq_outside.specs.Spelling.{Pattern, one, nothing, joined, repeated}
+use Rattle.cq_common.specs.Spelling.{Pattern, one, nothing, joined, repeated}
 use Rattle.cql_lines.specs.Building.{begins, null_times, nullable, size, firsts_times, firsts, rows_times, rows, IsPlain, AtomsBelow}
 use Rattle.cql_lines.proofs.Built.{Built}
-use Rattle.cq_outside.specs.Ways.{Line}
-use Rattle.cq_outside.specs.Greatest.{IsGreatest}
-use Rattle.cq_outside.proofs.WithinLaw.{is_from_to, from_to_is}
+use Rattle.cq_common.specs.Ways.{Line}
+use Rattle.cq_common.specs.Greatest.{IsGreatest}
+use Rattle.cq_common.proofs.WithinLaw.{is_from_to, from_to_is}
 use Rattle.cql_lines.specs.Reads.{Read}
 use Rattle.cql_lines.specs.Tables.{holds}
 use Rattle.cql_lines.specs.Values.{AnswerAt, allows}

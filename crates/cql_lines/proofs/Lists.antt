@@ -1,7 +1,7 @@
 -- A sequence is its parts from the first to the last, and may be put together from the last to the first.
 use Rattle.std.proofs.Common.{◌≡◌, ℕ, suc, ◌+◌, ◌-◌, ◌<◌, ◌≤◌, List, length, get_or, drop, drop-cons, refl, sym, ◌∙◌, ap, arith}
 use Rattle.std.proofs.lemmas.List.{drop_all}
-use Rattle.cq_outside.specs.Spelling.{nothing, joined}
+use Rattle.cq_common.specs.Spelling.{nothing, joined}
 use Rattle.cql_lines.specs.PatternTrees.{pattern_tree, pattern_row, patterns_in, pattern_trees}
 use Rattle.cql_lines.specs.declared.pattern.Pattern.{Pattern as Given, Sequence, Row_of-Pattern, end_of-Pattern, more_of-Pattern, items-the_row-Pattern, items_hidden-the_row-Pattern-0}
 use Rattle.cql_lines.specs.declared.pattern.Pattern.TheBlock.{hidden-the_row-Pattern-0}

@@ -6,7 +6,7 @@ use Rattle.cql_lines.specs.declared.automaton.Rule.{Rule}
 use Rattle.cql_lines.specs.Reads.{FromPlace, Read}
 use Rattle.cql_lines.proofs.Below.{Below}
 use Rattle.cql_lines.specs.Lengths.{IsGreatestOrZero, is_set, greatest_in, farther, place_value}
-use Rattle.cq_outside.specs.Greatest.{IsGreatest}
+use Rattle.cq_common.specs.Greatest.{IsGreatest}
 use Rattle.cql_lines.specs.Tables.{holds}
 use Rattle.cql_lines.specs.Down.{found}
 use Rattle.cql_lines.proofs.WaysLaw.{place_here, place_off, read_here}

@@ -6,7 +6,7 @@ use Rattle.std.proofs.lemmas.Nat.Bits.{bit_at_or, bit_at-zero, bit_at-lt, bit_at
 use Rattle.std.proofs.lemmas.Bool.{cases_eq}
 use Rattle.cql_lines.specs.declared.automaton.Next.{Next}
 use Rattle.cql_lines.specs.declared.automaton.Rule.{Rule}
-use Rattle.cq_outside.specs.Spelling.{Pattern, one, nothing, joined, repeated, Times, Spells}
+use Rattle.cq_common.specs.Spelling.{Pattern, one, nothing, joined, repeated, Times, Spells}
 use Rattle.cql_lines.specs.Places.{IsIn, from, Accepts, when}
 use Rattle.cql_lines.specs.Building.{begins, null_times, null_repeated, nullable}
 use Rattle.cql_lines.proofs.Built.{BuiltTimes, BuiltRepeated, Built}

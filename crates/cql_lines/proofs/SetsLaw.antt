@@ -12,7 +12,7 @@ use Rattle.cql_lines.proofs.Below.{Below}
 use Rattle.cql_lines.specs.Lengths.{is_set}
 use Rattle.cql_lines.specs.Limits.{longest_limit}
 use Rattle.cql_lines.specs.Sets.{IsSet, shifted, union_in, place_set, Between}
-use Rattle.cq_outside.specs.Greatest.{IsGreatest}
+use Rattle.cq_common.specs.Greatest.{IsGreatest}
 use Rattle.cql_lines.specs.Tables.{holds}
 use Rattle.cql_lines.proofs.PlacesLaw.{in_left, in_right, in_either, in_none, in_when}
 use Rattle.cql_lines.proofs.WaysLaw.{set_is_in, in_is_set, alone, onward}

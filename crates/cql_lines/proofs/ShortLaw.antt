@@ -4,7 +4,7 @@ use Rattle.std.proofs.lemmas.Bool.{cases_lt}
 use Rattle.std.proofs.lemmas.Option.{slice_get_past}
 use Rattle.cql_lines.specs.declared.automaton.Rule.{Rule}
 use Rattle.cql_lines.specs.declared.shape.Spot.{Spot}
-use Rattle.cq_outside.specs.Ways.{Follow}
+use Rattle.cq_common.specs.Ways.{Follow}
 use Rattle.cql_lines.proofs.Below.{Below}
 use Rattle.cql_lines.specs.Lengths.{IsGreatestOrZero}
 use Rattle.cql_lines.specs.Limits.{most_nodes}

@@ -10,7 +10,7 @@ use Rattle.cql_lines.specs.Reads.{FromPlace}
 use Rattle.cql_lines.proofs.Below.{Below}
 use Rattle.cql_lines.specs.Lengths.{is_set, at}
 use Rattle.cql_lines.specs.Shapes.{joined, joined_by, searched_by, is_searched, Edge}
-use Rattle.cq_outside.specs.Greatest.{IsGreatest}
+use Rattle.cq_common.specs.Greatest.{IsGreatest}
 use Rattle.cql_lines.specs.Tables.{holds}
 use Rattle.cql_lines.specs.Values.{AnswerAt}
 use Rattle.cql_lines.specs.Down.{cell, Late, Stands, found, Passed}

@@ -5,7 +5,7 @@ use Rattle.std.proofs.lemmas.Option.{slice_get_within}
 use Rattle.std.proofs.lemmas.List.{append-nil}
 use Rattle.cql_lines.specs.declared.automaton.Next.{Next}
 use Rattle.cql_lines.specs.declared.automaton.Rule.{Rule}
-use Rattle.cq_outside.specs.Spelling.{Pattern, Spells}
+use Rattle.cq_common.specs.Spelling.{Pattern, Spells}
 use Rattle.cql_lines.specs.Places.{IsIn, from, Accepts}
 use Rattle.cql_lines.proofs.Built.{Built}
 use Rattle.cql_lines.specs.Reads.{FromPlace, Read}

@@ -1,6 +1,6 @@
 -- Automata as their callers see them.
 use Rattle.std.specs.Prelude.{◌≡◌, ◌↔◌, ℕ, suc, ◌+◌, ◌*◌, ◌<◌, zero, List, ◌∷◌, Bool, Some, None, slice_get}
-use Rattle.cq_outside.specs.Spelling.{Pattern, one, nothing, joined, repeated, Spells}
+use Rattle.cq_common.specs.Spelling.{Pattern, one, nothing, joined, repeated, Spells}
 use Rattle.cql_lines.specs.declared.automaton.Rule.{Rule}
 use Rattle.cql_lines.specs.declared.automaton.Automaton.{Automaton}
 use Rattle.cql_lines.specs.Places.{from, Accepts}

@@ -2,7 +2,7 @@
 use Rattle.std.specs.Prelude.{◌≡◌, ℕ, suc, List, ◌∷◌, Bool, true, Some, length, slice_get}
 use Rattle.cql_lines.specs.declared.automaton.Rule.{Rule}
 use Rattle.cql_lines.specs.Places.{from, Accepts}
-use Rattle.cq_outside.specs.Ways.{Follow}
+use Rattle.cq_common.specs.Ways.{Follow}
 
 -- some way of k nodes from n is read, its first node by the place i
 abbrev pub FromPlace : (ℕ → ℕ → Bool) → List Rule → (ℕ → ℕ → Type 0) → ℕ → ℕ → ℕ → Type 0

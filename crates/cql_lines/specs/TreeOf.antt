@@ -1,6 +1,6 @@
 -- The tree of a pattern without lists, as the private functions make it.
 use Rattle.std.specs.Prelude.{ℕ, Some, None}
-use Rattle.cq_outside.specs.Spelling.{Pattern, one, nothing, joined, repeated}
+use Rattle.cq_common.specs.Spelling.{Pattern, one, nothing, joined, repeated}
 use Rattle.cql_lines.specs.declared.plain.Plain.{Plain as Given, Atom, Empty, Both', Star', Plus', Times'}
 
 -- a box has its place in memory before its pattern

@@ -1,15 +1,15 @@
 -- The value of a line at a node.
 use Rattle.std.specs.Prelude.{◌≡◌, ℕ, Bool, true, false, Option, Some, None}
-use Rattle.cq_outside.specs.Greatest.{IsGreatest}
-use Rattle.cq_outside.specs.Within.{is_within}
-use Rattle.cq_outside.specs.Spelling.{Pattern}
+use Rattle.cq_common.specs.Greatest.{IsGreatest}
+use Rattle.cq_common.specs.Within.{is_within}
+use Rattle.cq_common.specs.Spelling.{Pattern}
 use Rattle.cql_lines.specs.declared.table.AtomTable.{AtomTable}
 use Rattle.cql_lines.specs.declared.shape.Limits.{Limits}
 use Rattle.cql_lines.specs.declared.shape.Shape.{Shape}
 use Rattle.cql_lines.specs.Shapes.{Edge, is_searched}
 use Rattle.cql_lines.specs.Tables.{holds_in}
 use Rattle.cql_lines.specs.Trees.{spots_of, goes_back, is_primary, limits_of}
-use Rattle.cq_outside.specs.Ways.{Line}
+use Rattle.cq_common.specs.Ways.{Line}
 
 -- the lengths that limits allow; without limits, all
 abbrev pub allows : Option Limits → ℕ → Bool

@@ -10,7 +10,7 @@ ghost use Rattle.cql_lines.specs.Automata.{places, IsAutomatonOf, UsesBelow};
 use crate::automaton::{Automaton, Next, Rule};
 use crate::pattern::Pattern;
 use crate::plain::{Plain, plain_of};
-use cq_outside::NoMemory;
+use cq_common::NoMemory;
 use std::alloc::{AllocError, Global};
 
 impl Automaton {

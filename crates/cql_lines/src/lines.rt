@@ -1,6 +1,6 @@
 //! The value of a line at each node.
 ghost use Rattle.std.specs.Prelude.{◌≡◌, ℕ, ◌+◌, ◌*◌, ◌<◌, ◌≤◌, get_or, length, None, IfOk, OnErr, OnOk};
-ghost use Rattle.cq_outside.specs.Spelling.{Pattern as SpelledPattern};
+ghost use Rattle.cq_common.specs.Spelling.{Pattern as SpelledPattern};
 ghost use Rattle.cql_lines.specs.Automata.{IsAutomatonOf, UsesBelow};
 ghost use Rattle.cql_lines.specs.Shapes.{searched_count};
 ghost use Rattle.cql_lines.specs.Tables.{atoms_of, nodes_of};
@@ -11,7 +11,7 @@ use crate::automaton::Automaton;
 use crate::shape::Shape;
 use crate::table::AtomTable;
 use crate::visits::longest;
-use cq_outside::{NoMemory, Steps};
+use cq_common::{NoMemory, Steps};
 use std::alloc::Global;
 use std::sync::ledger::Ledger;
 

@@ -2,7 +2,7 @@
 ghost use Rattle.std.specs.Prelude.{◌≡◌, ◌++◌, ◌∷◌, [], length, OnOk, OnErr};
 ghost use Rattle.cql_lines.specs.PatternTrees.{patterns_in};
 
-use cq_outside::NoMemory;
+use cq_common::NoMemory;
 use std::alloc::Global;
 
 /// What a path has to be, node by node.

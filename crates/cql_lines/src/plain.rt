@@ -1,11 +1,11 @@
 //! Patterns without lists: a sequence is its first part and the rest.
 ghost use Rattle.std.specs.Prelude.{◌≡◌, IfOk};
-ghost use Rattle.cq_outside.specs.Spelling.{joined};
+ghost use Rattle.cq_common.specs.Spelling.{joined};
 ghost use Rattle.cql_lines.specs.PatternTrees.{pattern_tree, pattern_trees, patterns_in};
 ghost use Rattle.cql_lines.specs.TreeOf.{plain_tree};
 
 use crate::pattern::{Pattern, Patterns};
-use cq_outside::NoMemory;
+use cq_common::NoMemory;
 use std::alloc::Global;
 
 /// A pattern without lists.

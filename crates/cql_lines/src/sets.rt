@@ -1,7 +1,7 @@
 //! Rows of the sets of lengths, where the lengths that count are limited: bit k of a cell is the length k, and no greater length than 127
 //! counts.
 ghost use Rattle.std.specs.Prelude.{◌≡◌, ℕ, ◌<◌, ◌≤◌, length, if◌then◌else◌, bit_or, slice_get, Some, true};
-ghost use Rattle.cq_outside.specs.Greatest.{IsGreatest};
+ghost use Rattle.cq_common.specs.Greatest.{IsGreatest};
 ghost use Rattle.cql_lines.specs.Lengths.{is_set, at};
 ghost use Rattle.cql_lines.specs.Places.{when, IsIn};
 ghost use Rattle.cql_lines.specs.Sets.{Between, shifted, union_in, place_set};

@@ -3,7 +3,7 @@
 use crate::automaton::Automaton;
 use crate::shape::Shape;
 use crate::table::AtomTable;
-use cq_outside::Shared;
+use cq_common::Shared;
 use std::sync::ledger::Ledger;
 
 impl Shared for Automaton {}

@@ -5,7 +5,7 @@ ghost use Rattle.cql_lines.specs.Shapes.{joined, is_searched};
 ghost use Rattle.cql_lines.specs.Trees.{spots_of, goes_back, is_primary, limits_of};
 
 use crate::shape::{Limits, Shape, Spot};
-use cq_outside::NoMemory;
+use cq_common::NoMemory;
 use std::alloc::Global;
 
 impl Shape {

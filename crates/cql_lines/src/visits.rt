@@ -13,7 +13,7 @@ use crate::automaton::Rule;
 use crate::rows::Row;
 use crate::shape::Shape;
 use crate::table::AtomTable;
-use cq_outside::{NoMemory, Steps};
+use cq_common::{NoMemory, Steps};
 use std::alloc::{AllocError, Global};
 use std::sync::ledger::Ledger;
 

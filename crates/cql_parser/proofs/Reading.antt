@@ -2,7 +2,7 @@
 use Rattle.std.proofs.Common.{◌≡◌, inl, inr, ℕ, ◌+◌, ◌<◌, ◌≤◌, List, [], ◌∷◌, ◌++◌, Bool, true, false, refl, sym, ap, ap₂, ◌∙◌, subst, take, drop, length, get_or, append_assoc, append-nil, ◌⊎◌, Result, Ok, Err, IfOk}
 use Rattle.std.proofs.lemmas.List.{take_all, take_more, take-append-drop}
 use Rattle.cql_syntax.specs.Limits.{most_open}
-use Rattle.cq_outside.specs.declared.faults.NoMemory.{NoMemory}
+use Rattle.cq_common.specs.declared.faults.NoMemory.{NoMemory}
 use Rattle.cql_syntax.specs.Trees.{FilterTrees, QueryTree}
 use Rattle.cql_syntax.specs.declared.fault.QueryFault.{QueryFault}
 use Rattle.cql_syntax.specs.declared.token.QueryToken.{QueryToken}

@@ -1,8 +1,8 @@
 -- What is wrong with tokens that spell no query.
 use Rattle.std.specs.Prelude.{◌≡◌, ◌⊎◌, ℕ, List, [], ◌∷◌, ◌++◌, Result, Ok, Err}
 use Rattle.cql_syntax.specs.Limits.{most_open}
-use Rattle.cq_outside.specs.declared.faults.Refusal.{Refusal}
-use Rattle.cq_outside.specs.declared.faults.Refusal.TheVariants.{Fault, NoMemory}
+use Rattle.cq_common.specs.declared.faults.Refusal.{Refusal}
+use Rattle.cq_common.specs.declared.faults.Refusal.TheVariants.{Fault, NoMemory}
 use Rattle.cql_syntax.specs.TreeOf.{query_tree}
 use Rattle.cql_syntax.specs.declared.fault.QueryFault.{QueryFault}
 use Rattle.cql_syntax.specs.declared.fault.QueryReason.{QueryReason}

@@ -10,7 +10,7 @@ ghost use Rattle.cql_parser.specs.declared.maker.Maker.TheVariants as makers;
 
 use crate::maker::{Maker, maker_of};
 use crate::place::Place;
-use cq_outside::{Bytes, NoMemory};
+use cq_common::{Bytes, NoMemory};
 use cq_symmetry::Family;
 use cql_syntax::{
     Body, Chain, Constituent, Constituents, Extent, Field, Filter, Filters, Form, Line, Mark, Of,

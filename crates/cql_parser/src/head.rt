@@ -3,7 +3,7 @@ ghost use Rattle.std.specs.Prelude.{◌≡◌, IfOk, OnOk};
 ghost use Rattle.cql_parser.specs.Drafts.{no_opening, hear, hear_word, hear_text};
 ghost use Rattle.cql_parser.specs.Shown.{head_shown};
 
-use cq_outside::{Bytes, NoMemory};
+use cq_common::{Bytes, NoMemory};
 use cql_syntax::{QueryToken, QueryTokenKind, Word, word_of};
 use std::alloc::Global;
 

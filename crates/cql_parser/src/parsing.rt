@@ -5,7 +5,7 @@ ghost use Rattle.cql_parser.specs.Readers.{reason_of};
 
 use crate::place::Heading;
 use crate::reader::{Reached, Reader};
-use cq_outside::{Bytes, NoMemory, Refusal};
+use cq_common::{Bytes, NoMemory, Refusal};
 use cql_syntax::{Query, QueryFault, QueryReason, QueryToken, QueryTokenKind};
 use std::alloc::Global;
 

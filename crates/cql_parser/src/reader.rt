@@ -18,7 +18,7 @@ use crate::role::{Role, joins, joint_level, joint_of, role_of, takes};
 use crate::row::joined;
 use crate::rule::Rule;
 use crate::stack::{DEPTH_LIMIT, Frame, Stack};
-use cq_outside::NoMemory;
+use cq_common::NoMemory;
 use cql_syntax::{Filters, Query, QueryToken};
 use std::alloc::Global;
 

@@ -9,7 +9,7 @@ ghost use Rattle.cql_parser.specs.declared.role.Joint.TheVariants.{Chained, Adde
 
 use crate::draft::{Node, boxed_filter, filter_in};
 use crate::role::{Joint, joint_level};
-use cq_outside::NoMemory;
+use cq_common::NoMemory;
 use cql_syntax::{Chain, Filter, Filters, Form, Pair, Term, Terms};
 use std::alloc::Global;
 

@@ -7,7 +7,7 @@ ghost use Rattle.cql_parser.specs.Shown.{node_shown, draft_shown, rule_shown};
 
 use crate::draft::{Draft, Node};
 use crate::place::Place;
-use cq_outside::NoMemory;
+use cq_common::NoMemory;
 use cql_syntax::QueryToken;
 use std::alloc::Global;
 

@@ -9,7 +9,7 @@ use crate::draft::Node;
 use crate::place::Context;
 use crate::role::{Joint, joint_level};
 use crate::rule::Rule;
-use cq_outside::NoMemory;
+use cq_common::NoMemory;
 use std::alloc::Global;
 
 /// How many constructs may be open at a place: parentheses, braces, and all that takes one filter or more but for the

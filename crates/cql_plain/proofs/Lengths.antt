@@ -6,9 +6,9 @@ use Rattle.std.proofs.lemmas.List.{get_or_past}
 use Rattle.cql_syntax.specs.Meaning.{allows}
 use Rattle.cql_syntax.specs.declared.extents.Extent.{Extent}
 use Rattle.cql_plain.specs.Places.{IsIn}
-use Rattle.cq_outside.specs.Greatest.{IsGreatest, with_number}
-use Rattle.cq_outside.proofs.GreatestLaw.{greatest_with}
-use Rattle.cq_outside.proofs.WithinLaw.{left, right}
+use Rattle.cq_common.specs.Greatest.{IsGreatest, with_number}
+use Rattle.cq_common.proofs.GreatestLaw.{greatest_with}
+use Rattle.cq_common.proofs.WithinLaw.{left, right}
 use Rattle.cql_plain.specs.Paths.{length_at, nodes_to, IsLength}
 use Rattle.cql_plain.specs.declared.paths.Reached.{Reached}
 

@@ -1,8 +1,8 @@
 -- The greatest length of the paths that a pattern spells is that of the places at which it ends.
 use Rattle.std.proofs.Common.{◌≡◌, ℕ, zero, suc, ◌+◌, ◌<◌, ◌≤◌, max, pos, Bool, true, false, ◌&&◌, List, [], ◌∷◌, length, get_or, replicate, Option, Some, None, option_map, refl, sym, ap, ◌∙◌, subst, arith, inl, inr}
 use Rattle.std.specs.Prelude.{◌⊎◌, Contains, if◌then◌else◌}
-use Rattle.cq_outside.specs.Spelling.{Pattern, spells}
-use Rattle.cq_outside.proofs.SpellingLaw.{spelling_law}
+use Rattle.cq_common.specs.Spelling.{Pattern, spells}
+use Rattle.cq_common.proofs.SpellingLaw.{spelling_law}
 use Rattle.cq_position.specs.Games.{IsTree}
 use Rattle.cq_position.specs.Search.{SearchedTree, IsStep, Along, IsPath, paths}
 use Rattle.cq_position.proofs.Paths.{paths_law}
@@ -10,12 +10,12 @@ use Rattle.cql_syntax.specs.Meaning.{allows, line_of}
 use Rattle.cql_syntax.specs.Values.{Value, as_number, holds}
 use Rattle.cql_syntax.specs.declared.extents.Extent.{Extent}
 use Rattle.cql_plain.specs.Lines.{EndsOf}
-use Rattle.cq_outside.specs.Greatest.{IsGreatest, longest}
-use Rattle.cq_outside.proofs.GreatestLaw.{IsListed, greatest_listed, one_greatest}
+use Rattle.cq_common.specs.Greatest.{IsGreatest, longest}
+use Rattle.cq_common.proofs.GreatestLaw.{IsListed, greatest_listed, one_greatest}
 use Rattle.cql_plain.specs.Paths.{GoesTo, length_at, AreSteps, ArePaths, IsLength}
 use Rattle.cql_plain.specs.Places.{Slice, IsIn}
 use Rattle.cql_plain.specs.declared.paths.Reached.{Reached}
-use Rattle.cq_outside.proofs.WithinLaw.{left, right}
+use Rattle.cq_common.proofs.WithinLaw.{left, right}
 
 pub first_only : (m j : ℕ) → get_or (replicate m false) j false ≡ false
 first_only zero j = refl

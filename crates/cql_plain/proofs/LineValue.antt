@@ -9,7 +9,7 @@ use Rattle.cql_syntax.specs.TreeOf.{line_tree, parts_tree}
 use Rattle.cql_syntax.specs.Values.{as_number}
 use Rattle.cql_syntax.specs.declared.tree.Line.{Line as OneLine, Line', out-Line}
 use Rattle.cql_plain.specs.Lines.{EndsOf}
-use Rattle.cq_outside.specs.Greatest.{IsGreatest}
+use Rattle.cq_common.specs.Greatest.{IsGreatest}
 use Rattle.cql_plain.specs.Paths.{ArePaths, IsLength}
 use Rattle.cql_plain.specs.declared.paths.Reached.{Reached}
 use Rattle.cql_plain.proofs.LineLaw.{line_law}

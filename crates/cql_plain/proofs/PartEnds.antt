@@ -5,7 +5,7 @@ use Rattle.std.specs.List.{list_any, range_with_len}
 use Rattle.std.proofs.lemmas.Bool.{cases_lt, cases_Bool, eq-eqb}
 use Rattle.std.proofs.lemmas.List.{get_or_past, length-map, get_or-map}
 use Rattle.std.proofs.lemmas.List.FromFn.{length-range_with_len, get_or-range_with_len, map-range_with_len_more}
-use Rattle.cq_outside.specs.Spelling.{Pattern, one, repeated}
+use Rattle.cq_common.specs.Spelling.{Pattern, one, repeated}
 use Rattle.cq_position.specs.Search.{SearchedTree}
 use Rattle.cql_syntax.specs.Contexts.{Context}
 use Rattle.cql_syntax.specs.Meaning.{Names, marked, pattern, body_pattern, value}
@@ -20,7 +20,7 @@ use Rattle.cql_plain.specs.Paths.{place_before, GoesTo, AreSteps, comes_from}
 use Rattle.cql_plain.specs.Places.{IsEnd, IsIn}
 use Rattle.cql_plain.specs.declared.paths.Reached.{Reached}
 use Rattle.cql_plain.proofs.LineLaw.{short}
-use Rattle.cq_outside.proofs.WithinLaw.{left, right}
+use Rattle.cq_common.proofs.WithinLaw.{left, right}
 use Rattle.cql_plain.proofs.PatternEnds.{Turns, begun, turned, stopped, repeated_law, once_law, any_most, star_few, plus_few, joined_law, nothing_law, one_law, IsNext, more_ends}
 
 -- sets made of others

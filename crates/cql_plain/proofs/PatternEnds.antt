@@ -2,7 +2,7 @@
 use Rattle.std.proofs.Common.{◌≡◌, ℕ, zero, suc, ◌+◌, ◌≤◌, Bool, true, List, [], ◌∷◌, ◌++◌, length, refl, sym, ap, ◌∙◌, subst, Option, Some, None, IfSome, inl, inr, arith, length-append, append_assoc, append-nil}
 use Rattle.std.specs.Prelude.{◌⊎◌, ◌↔◌}
 use Rattle.std.proofs.lemmas.Bool.{cases_lt}
-use Rattle.cq_outside.specs.Spelling.{Pattern, one, nothing, joined, repeated, Times, Spells}
+use Rattle.cq_common.specs.Spelling.{Pattern, one, nothing, joined, repeated, Times, Spells}
 use Rattle.cql_plain.specs.Places.{Slice, IsEnd}
 
 times_snoc : (Part : List ℕ → Type 0) (k : ℕ) (u v : List ℕ) → Times Part k u → Part v → Times Part (suc k) (u ++ v)

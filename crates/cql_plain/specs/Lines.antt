@@ -1,6 +1,6 @@
 -- What a line asks of places, and how often a part stands, as the private functions give it.
 use Rattle.std.specs.Prelude.{ℕ, ◌+◌, Bool, List, Option}
-use Rattle.cq_outside.specs.Spelling.{Pattern}
+use Rattle.cq_common.specs.Spelling.{Pattern}
 use Rattle.cql_syntax.specs.Values.{Value, holds}
 use Rattle.cql_syntax.specs.declared.leaves.Mark.{Mark}
 use Rattle.cql_syntax.specs.declared.leaves.Mark.TheVariants.{Once, Star, Plus, Maybe, Times}

@@ -1,6 +1,6 @@
 -- Where a pattern ends that begins at some of the places along paths, as the private functions give it.
 use Rattle.std.specs.Prelude.{◌≡◌, ◌↔◌, ℕ, suc, List, [], ◌∷◌, Bool, true, false, length, get_or}
-use Rattle.cq_outside.specs.Spelling.{Pattern, Spells}
+use Rattle.cq_common.specs.Spelling.{Pattern, Spells}
 
 -- Place 0 is before the first node of each path, and place suc k just after node k. Here `goes i k` says that paths go on from place i to
 -- node k, and so to place suc k.

@@ -10,7 +10,7 @@ ghost use Rattle.cql_values.specs.Trees.{searched_tree};
 
 use crate::evaluate::evaluate;
 use crate::scope::Scope;
-use cq_outside::NoMemory;
+use cq_common::NoMemory;
 use cq_symmetry::Mapping;
 use cql_syntax::Filter;
 use cql_values::names::Names;

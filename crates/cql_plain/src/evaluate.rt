@@ -19,8 +19,8 @@ mod played;
 
 use crate::scope::Scope;
 use crate::standing::standing;
+use cq_common::NoMemory;
 use cq_geometry::Square;
-use cq_outside::NoMemory;
 use cq_symmetry::{Family, Mapping, member, size as family_size};
 use cql_rewrite::contexts::{
     field_image, inside, of_image, outcome_image, unary_image, way_image, word_image,

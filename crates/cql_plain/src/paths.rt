@@ -4,12 +4,12 @@ ghost use Rattle.cq_position.specs.Games.{IsTree};
 ghost use Rattle.cql_syntax.specs.Meaning as meaning;
 ghost use Rattle.cql_syntax.specs.Values.{as_number};
 ghost use Rattle.cql_plain.specs.Paths as path;
-ghost use Rattle.cq_outside.specs.Greatest.{IsGreatest, with_number};
+ghost use Rattle.cq_common.specs.Greatest.{IsGreatest, with_number};
 ghost use Rattle.cql_plain.specs.Paths.{ArePaths, IsLength};
 ghost use Rattle.cql_values.specs.Shown.{meant};
 ghost use Rattle.cql_values.specs.Trees.{searched_tree};
 
-use cq_outside::NoMemory;
+use cq_common::NoMemory;
 use cql_syntax::Extent;
 use cql_values::value::Value;
 use cql_values::walks::{both, is_first_child, is_searched};

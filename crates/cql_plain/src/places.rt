@@ -5,7 +5,7 @@ ghost use Rattle.cql_plain.specs.Paths as path;
 ghost use Rattle.cql_plain.specs.Paths.{AreSteps};
 
 use crate::paths::Reached;
-use cq_outside::NoMemory;
+use cq_common::NoMemory;
 use std::alloc::Global;
 
 /// Place 0 alone, where each of so many nodes has a place after it.

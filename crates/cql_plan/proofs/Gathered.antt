@@ -4,7 +4,7 @@ use Rattle.std.specs.Prelude.{nat_lt}
 use Rattle.std.specs.List.{list_all, list_any}
 use Rattle.std.proofs.lemmas.Bool.{lt-ltb}
 use Rattle.std.proofs.lemmas.List.{take_all}
-use Rattle.cq_outside.proofs.SpellingLaw.{left, right, both_true as both}
+use Rattle.cq_common.proofs.SpellingLaw.{left, right, both_true as both}
 use Rattle.cq_position.specs.Search.{SearchedTree}
 use Rattle.cql_syntax.specs.Kinds.{filter_kind}
 use Rattle.cql_syntax.specs.Leaves.{same_kind}

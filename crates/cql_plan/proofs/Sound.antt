@@ -3,7 +3,7 @@ use Rattle.std.proofs.Common.{◌≡◌, ℕ, Bool, true, false, ◌&&◌, ◌||
 use Rattle.std.specs.Prelude.{not}
 use Rattle.std.specs.List.{list_all, list_any}
 use Rattle.std.proofs.lemmas.List.Folds.{list_all-append}
-use Rattle.cq_outside.proofs.SpellingLaw.{left, right, both_true as both}
+use Rattle.cq_common.proofs.SpellingLaw.{left, right, both_true as both}
 use Rattle.cql_syntax.specs.FlatItems.{has_family, kinds_agree, break_no_rule, has_its_kind, breaks_none, is_empty}
 use Rattle.cql_syntax.specs.Kinds.{filter_kind, form_kind}
 use Rattle.cql_syntax.specs.Leaves.{same_kind}

@@ -5,7 +5,7 @@ use Rattle.std.specs.List.{list_all, list_any}
 use Rattle.std.proofs.Math.Path.{fun_ext}
 use Rattle.std.proofs.lemmas.Bool.{ltb-true}
 use Rattle.std.proofs.lemmas.List.{take_all}
-use Rattle.cq_outside.proofs.SpellingLaw.{left, right, both_true as both}
+use Rattle.cq_common.proofs.SpellingLaw.{left, right, both_true as both}
 use Rattle.cq_position.specs.Search.{SearchedTree}
 use Rattle.cql_syntax.specs.Contexts.{unary_image}
 use Rattle.cql_syntax.specs.Hits.{all_keys}

@@ -8,7 +8,7 @@ ghost use Rattle.cql_plan.specs.Items.{item_holds};
 ghost use Rattle.cql_plan.specs.Rows.{AreRowsFrom};
 
 use crate::keys::key_over;
-use cq_outside::NoMemory;
+use cq_common::NoMemory;
 use cql_eval::Column;
 use cql_syntax::{Filter, FlatQuery, Form};
 use cql_values::walks::push_if;

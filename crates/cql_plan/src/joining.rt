@@ -6,7 +6,7 @@ ghost use Rattle.cql_plan.specs.Joined.{StandsFor, AllStandFor, Gathers, HaveSam
 
 use crate::lifting::any_of;
 use crate::members::{Members, add, no_members};
-use cq_outside::NoMemory;
+use cq_common::NoMemory;
 use cql_syntax::{Filter, Filters, FlatQuery, Form, Kind};
 use std::alloc::Global;
 

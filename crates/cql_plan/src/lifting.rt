@@ -8,7 +8,7 @@ ghost use Rattle.cql_plan.specs.Joined.{StandsFor, alone};
 ghost use Rattle.cql_plan.specs.Lifted.{AreCommon, AreDivided, AreLeft, IsRest, AreRests};
 
 use crate::members::has_like;
-use cq_outside::NoMemory;
+use cq_common::NoMemory;
 use cql_syntax::{Chain, Filter, Filters, Form, Kind};
 use std::alloc::Global;
 

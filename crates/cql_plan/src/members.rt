@@ -7,7 +7,7 @@ ghost use Rattle.cql_plan.specs.Joined as spec;
 ghost use Rattle.cql_plan.specs.Joined.{Gathers, alone};
 
 use crate::keyed::key_of;
-use cq_outside::NoMemory;
+use cq_common::NoMemory;
 use cql_rewrite::same_unplaced;
 use cql_syntax::{Filter, Filters};
 use std::alloc::Global;

@@ -2,7 +2,7 @@
 
 use crate::plan::Plan;
 use crate::verdict::Verdict;
-use cq_outside::Shared;
+use cq_common::Shared;
 
 impl Shared for Plan {}
 

@@ -8,7 +8,7 @@ ghost use Rattle.cql_values.specs.Trees.{searched_tree};
 ghost use Rattle.cql_plan.specs.Plans.{nodes_of, keys_of};
 
 use crate::found::{Told, hits, keys};
-use cq_outside::{NoMemory, Steps};
+use cq_common::{NoMemory, Steps};
 use cql_eval::hit_columns;
 use cql_syntax::FlatQuery;
 use pgn_tree::Game;

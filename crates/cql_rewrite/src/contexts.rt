@@ -2,8 +2,8 @@
 ghost use Rattle.std.specs.Prelude.{◌≡◌, ◌∷◌, IfOk, if◌then◌else◌};
 ghost use Rattle.cql_syntax.specs.Contexts as spec;
 
+use cq_common::NoMemory;
 use cq_geometry::Compass;
-use cq_outside::NoMemory;
 use cq_symmetry::{Mapping, changes_light, image, image_compass};
 use cql_syntax::{Designator, Field, Of, Outcome, Plain, Unary, Way};
 use std::alloc::Global;

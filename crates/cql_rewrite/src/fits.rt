@@ -6,7 +6,7 @@ ghost use Rattle.cql_syntax.specs.Meaning as meaning;
 ghost use Rattle.cql_syntax.specs.TreeOf.{filter_tree, filters_tree, terms_tree, parts_tree, body_tree, played_tree, written_tree};
 
 use crate::contexts::{designator_image, inside};
-use cq_outside::NoMemory;
+use cq_common::NoMemory;
 use cq_symmetry::{Family, Mapping, member, size};
 use cql_syntax::{Body, Constituents, Filter, Filters, Form, Played, Terms};
 use std::alloc::Global;

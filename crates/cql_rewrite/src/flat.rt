@@ -13,7 +13,7 @@ use crate::contexts::{
 };
 use crate::fits::fits;
 use crate::same::same_filter;
-use cq_outside::{Bytes, NoMemory};
+use cq_common::{Bytes, NoMemory};
 use cq_symmetry::{Family, Mapping, SquarePart, member, size};
 use cql_syntax::{
     Body, Constituent, Constituents, Designator, Filter, Filters, FlatQuery, Form, Line, Played,

@@ -6,7 +6,7 @@ ghost use Rattle.cql_syntax.specs.Words.{word_text};
 ghost use Rattle.cql_syntax.specs.declared.words.Word.TheVariants.{Comment, Elo, Result};
 
 use crate::words::{arrow_word, field_word, line_word, outcome_word, whose_word};
-use cq_outside::{Bytes, NoMemory};
+use cq_common::{Bytes, NoMemory};
 use cql_syntax::{Designator, Extent, Field, Mark, Of, Outcome, Sign, Word};
 use std::alloc::Global;
 

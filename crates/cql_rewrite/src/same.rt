@@ -10,7 +10,7 @@ use crate::leaves::{
     same_chain, same_designator, same_extent, same_family, same_field, same_flag, same_kind,
     same_mark, same_of, same_outcome, same_pair, same_plain, same_unary, same_way,
 };
-use cq_outside::Bytes;
+use cq_common::Bytes;
 use cql_syntax::{
     Body, Constituent, Constituents, Filter, Filters, Form, Line, Played, Term, Terms,
 };

@@ -4,7 +4,7 @@ ghost use Rattle.cql_syntax.specs.TreeOf.{term_trees};
 ghost use Rattle.cql_rewrite.specs.Sums as spec;
 
 use crate::pieces::push_both;
-use cq_outside::{Bytes, NoMemory};
+use cq_common::{Bytes, NoMemory};
 use cql_syntax::Term;
 use std::alloc::Global;
 

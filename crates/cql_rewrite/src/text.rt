@@ -10,7 +10,7 @@ use crate::pieces::{
 };
 use crate::sums::{push_term, sum_start};
 use crate::words::{any_word, chain_word, pair_word, sort_word, square_word};
-use cq_outside::{Bytes, NoMemory};
+use cq_common::{Bytes, NoMemory};
 use cql_syntax::{Body, Constituents, Filter, Filters, FlatQuery, Form, Line, Played, Terms, Word};
 use std::alloc::Global;
 

@@ -2,7 +2,7 @@
 ghost use Rattle.std.specs.Prelude.{◌≡◌, IfOk};
 ghost use Rattle.cql_rewrite.specs.FlatText as spec;
 
-use cq_outside::{Bytes, NoMemory};
+use cq_common::{Bytes, NoMemory};
 use cql_syntax::{Chain, Field, Kind, Of, Outcome, Pair, Sign, Word};
 use std::alloc::Global;
 

@@ -23,7 +23,7 @@ use Rattle.cql_syntax.specs.declared.leaves.Kind.{Kind}
 use Rattle.cql_syntax.specs.declared.leaves.Kind.TheVariants.{Position, Set, Number}
 use Rattle.cql_syntax.specs.declared.leaves.Unary.{Unary}
 use Rattle.cql_syntax.specs.declared.leaves.Unary.TheVariants.{Not, Complement, Count, Power, Light, Dark, Find, FindUp, Child, Parent}
-use Rattle.cq_outside.proofs.SpellingLaw.{left, right, both_true as both}
+use Rattle.cq_common.proofs.SpellingLaw.{left, right, both_true as both}
 use Rattle.cql_syntax.proofs.SameLeaves.{same_numbers}
 use Rattle.cql_syntax.proofs.ValueKinds.{kept, word_kept, light_kept}
 

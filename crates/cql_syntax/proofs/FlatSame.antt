@@ -16,7 +16,7 @@ use Rattle.cql_syntax.specs.Flat.{without, distinct, image_or_nothing, flat, fla
 use Rattle.cql_syntax.specs.Kinds.{filter_kind}
 use Rattle.cql_syntax.specs.Meaning.{Names, value, form_value, values, term_values, pattern, body_pattern, played_value, written_value, position_at, before, stands_on, directions_of, unary_of, marked, line_of, meets_all, fitting}
 use Rattle.cql_syntax.specs.Same.{same_filter}
-use Rattle.cq_outside.specs.Spelling.{one, joined}
+use Rattle.cq_common.specs.Spelling.{one, joined}
 use Rattle.cql_syntax.specs.Trees.{FilterTree, filter_at, FormTree, designator, number, name, plain, tagged, outcome, elo, unary, direction, chain, sum_of, pair, if_, square, line, played, transform, sort, comment, any, FilterTrees, no_filters, more_filters, TermTrees, no_terms, more_terms, path, PlayedTree, move_of, WrittenTree, left_out, written, PartTrees, no_parts, more_parts, BodyTree, atom, group}
 use Rattle.cql_syntax.specs.Values.{Value, as_truth, as_number, squares_where, holds, has, amount, any_of, chain_of, pair_of, greatest, greater, if_of, square_of, total_of, reached_of}
 use Rattle.cql_syntax.specs.declared.leaves.Designator.{Designator}

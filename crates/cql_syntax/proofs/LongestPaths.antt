@@ -1,10 +1,10 @@
 -- The value of a line is the greatest length of the paths that its pattern spells.
 use Rattle.std.proofs.Common.{◌≡◌, ℕ, ◌≤◌, Bool, ◌&&◌, List, length, Option, Some, None, refl, sym, ap, ap₂, ◌∙◌}
-use Rattle.cq_outside.specs.Greatest.{IsGreatest, longest}
-use Rattle.cq_outside.specs.Spelling.{Pattern, spells}
-use Rattle.cq_outside.proofs.GreatestLaw.{IsListed, greatest_listed}
-use Rattle.cq_outside.proofs.SpellingLaw.{spelling_law}
-use Rattle.cq_outside.proofs.WithinLaw.{left, right}
+use Rattle.cq_common.specs.Greatest.{IsGreatest, longest}
+use Rattle.cq_common.specs.Spelling.{Pattern, spells}
+use Rattle.cq_common.proofs.GreatestLaw.{IsListed, greatest_listed}
+use Rattle.cq_common.proofs.SpellingLaw.{spelling_law}
+use Rattle.cq_common.proofs.WithinLaw.{left, right}
 use Rattle.cq_position.specs.Games.{IsTree}
 use Rattle.cq_position.specs.Search.{SearchedTree, paths}
 use Rattle.cq_position.proofs.Paths.{paths_law}

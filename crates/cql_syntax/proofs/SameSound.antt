@@ -6,7 +6,7 @@ use Rattle.std.proofs.lemmas.Slice.Eq.{bytes_eq-Decides}
 use Rattle.cql_syntax.specs.Leaves.{plain_number, of_number, outcome_number, unary_number, way_number, chain_number, pair_number, family_number, kind_number}
 use Rattle.cql_syntax.specs.Same.{same_filter, same_form, same_filters, same_terms, same_line, same_played, same_written, same_parts, same_body}
 use Rattle.cql_syntax.specs.Trees.{FilterTree, filter_at, FormTree, designator, number, name, plain, tagged, outcome, elo, unary, direction, chain, sum_of, pair, if_, square, line, played, transform, sort, comment, any, FilterTrees, no_filters, more_filters, TermTrees, no_terms, more_terms, LineTree, path, PlayedTree, move_of, WrittenTree, left_out, written, PartTrees, no_parts, more_parts, BodyTree, atom, group}
-use Rattle.cq_outside.proofs.SpellingLaw.{left, right, both_true as both}
+use Rattle.cq_common.proofs.SpellingLaw.{left, right, both_true as both}
 use Rattle.cql_syntax.proofs.SameLeaves.{flags, same_flags, same_numbers, plains, ofs, outcomes, unarys, ways, chains, pairs, familys, kinds, designators, fields, marks, extents, same_designators, same_fields, same_marks, same_extents}
 
 texts : (a b : List ℕ) → bytes_eq a b ≡ true → a ≡ b

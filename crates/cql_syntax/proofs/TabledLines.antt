@@ -1,12 +1,12 @@
 -- The greatest length that a table's atoms spell is the value of a line.
 use Rattle.std.proofs.Common.{◌≡◌, ℕ, zero, suc, ◌<◌, ◌≤◌, pos, Bool, true, false, ◌&&◌, List, [], ◌∷◌, ◌++◌, length, Option, option_map, refl, sym, ap, ap₂, ◌∙◌, subst, arith}
 use Rattle.std.specs.Prelude.{Contains, IfSome}
-use Rattle.cq_outside.specs.Greatest.{IsGreatest, longest}
-use Rattle.cq_outside.specs.Spelling.{Pattern, one, nothing, joined, repeated, Spells, Times, spells}
-use Rattle.cq_outside.specs.Ways.{Follow, Line}
-use Rattle.cq_outside.proofs.GreatestLaw.{IsListed, greatest_listed, one_greatest}
-use Rattle.cq_outside.proofs.SpellingLaw.{spelling_law}
-use Rattle.cq_outside.proofs.WithinLaw.{left, right}
+use Rattle.cq_common.specs.Greatest.{IsGreatest, longest}
+use Rattle.cq_common.specs.Spelling.{Pattern, one, nothing, joined, repeated, Spells, Times, spells}
+use Rattle.cq_common.specs.Ways.{Follow, Line}
+use Rattle.cq_common.proofs.GreatestLaw.{IsListed, greatest_listed, one_greatest}
+use Rattle.cq_common.proofs.SpellingLaw.{spelling_law}
+use Rattle.cq_common.proofs.WithinLaw.{left, right}
 use Rattle.cq_position.specs.Games.{IsTree}
 use Rattle.cq_position.specs.Search.{SearchedTree, IsStep, Along, IsPath, paths}
 use Rattle.cq_position.proofs.Paths.{paths_law}

@@ -3,7 +3,7 @@ use Rattle.std.proofs.Common.{◌≡◌, ℕ, Bool, true, false, ◌&&◌, List,
 use Rattle.std.specs.Prelude.{is_some}
 use Rattle.std.specs.List.{list_any, filter}
 use Rattle.std.proofs.Math.Path.{fun_ext}
-use Rattle.cq_outside.specs.Spelling.{one, joined}
+use Rattle.cq_common.specs.Spelling.{one, joined}
 use Rattle.cq_position.specs.Led.{led_to}
 use Rattle.cq_position.specs.Search.{SearchedTree}
 use Rattle.cq_symmetry.specs.Families.{members}

@@ -1,7 +1,7 @@
 -- What the value of a line is, in one sentence.
 use Rattle.std.specs.Prelude.{◌≡◌, ℕ, Bool, true, List, length, Option, pos, option_map}
-use Rattle.cq_outside.specs.Greatest.{IsGreatest}
-use Rattle.cq_outside.specs.Spelling.{Pattern, Spells}
+use Rattle.cq_common.specs.Greatest.{IsGreatest}
+use Rattle.cq_common.specs.Spelling.{Pattern, Spells}
 use Rattle.cq_position.specs.Games.{IsTree}
 use Rattle.cq_position.specs.Search.{SearchedTree, IsPath}
 use Rattle.cql_syntax.specs.Contexts.{Context}

@@ -5,9 +5,9 @@ use Rattle.std.specs.Str.{bytes_eq}
 use Rattle.cq_geometry.specs.Lines.{orthogonals, diagonals}
 use Rattle.cq_geometry.specs.declared.compass.Compass.{Compass}
 use Rattle.cq_geometry.specs.declared.compass.Compass.TheVariants.{Up as ToUp, Down as ToDown, Left as ToLeft, Right as ToRight, Northeast as ToNortheast, Northwest as ToNorthwest, Southeast as ToSoutheast, Southwest as ToSouthwest}
-use Rattle.cq_outside.specs.Greatest.{longest}
-use Rattle.cq_outside.specs.Spelling.{Pattern, one, nothing, joined, repeated, spells}
-use Rattle.cq_outside.specs.Within.{is_within}
+use Rattle.cq_common.specs.Greatest.{longest}
+use Rattle.cq_common.specs.Spelling.{Pattern, one, nothing, joined, repeated, spells}
+use Rattle.cq_common.specs.Within.{is_within}
 use Rattle.cq_position.specs.Attacks.{in_check}
 use Rattle.cq_position.specs.Board.{Board, man_at}
 use Rattle.cq_position.specs.Games.{node_at, is_main, way_up}

@@ -1,8 +1,8 @@
 -- Lines whose atoms are answered by a table.
 use Rattle.std.specs.Prelude.{◌≡◌, ◌↔◌, ℕ, ◌<◌, Bool, true, false, List, ◌∷◌, Option, Some, length, pos, option_map}
-use Rattle.cq_outside.specs.Greatest.{IsGreatest}
-use Rattle.cq_outside.specs.Spelling.{Pattern, one, nothing, joined, repeated, Spells}
-use Rattle.cq_outside.specs.Ways.{Line}
+use Rattle.cq_common.specs.Greatest.{IsGreatest}
+use Rattle.cq_common.specs.Spelling.{Pattern, one, nothing, joined, repeated, Spells}
+use Rattle.cq_common.specs.Ways.{Line}
 use Rattle.cq_position.specs.Games.{IsTree, node_at, is_first_child, is_searched}
 use Rattle.cq_position.specs.Search.{SearchedTree, IsStep, Along}
 use Rattle.cql_syntax.specs.Meaning.{line_of, allows}

@@ -7,7 +7,7 @@ use crate::leaves::{Chain, Field, Kind, Pair, Unary, Way};
 use crate::tree::{
     Body, Constituent, Constituents, Filter, Filters, Form, Line, Played, Query, Term, Terms,
 };
-use cq_outside::{Bytes, NoMemory};
+use cq_common::{Bytes, NoMemory};
 use cq_symmetry::Family;
 use std::alloc::Global;
 

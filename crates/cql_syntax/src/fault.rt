@@ -1,7 +1,7 @@
 //! Why a query is refused.
 
 use crate::leaves::Kind;
-use cq_outside::Bytes;
+use cq_common::Bytes;
 
 /// The fault of a query, and where it stands.
 #[derive(Drop, Debug, PartialEq, Eq)]

@@ -1,5 +1,5 @@
 //! The meaning of each word at worked rows, and laws of it for proofs in other crates.
-ghost use Rattle.cq_outside.specs.Spelling.{TestIsSpelling};
+ghost use Rattle.cq_common.specs.Spelling.{TestIsSpelling};
 ghost use Rattle.cq_position.specs.Search.{SearchedTree};
 ghost use Rattle.cql_syntax.specs.Contexts.{Context};
 ghost use Rattle.cql_syntax.specs.EdgeRows.{FitRows, ExchangeRows, EdgeRows};
@@ -71,7 +71,7 @@ pub fn hits_are_as_worked()
 {}
 
 /// A path passes the test of a line's pattern exactly where the pattern spells it.
-#[tactic(auto, using(cq_outside::proofs::SpellingLaw::spelling_law))]
+#[tactic(auto, using(cq_common::proofs::SpellingLaw::spelling_law))]
 pub fn lines_are_tested_by_splits()
     ensures { TestIsSpelling (ℕ → Value) }
 {}

@@ -5,7 +5,7 @@ use crate::flat::FlatQuery;
 use crate::token::QueryToken;
 use crate::tree::Query;
 use crate::typed::TypedQuery;
-use cq_outside::Shared;
+use cq_common::Shared;
 
 impl Shared for QueryToken {}
 

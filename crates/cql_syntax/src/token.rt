@@ -1,7 +1,7 @@
 //! The tokens of a query text.
 
 use crate::leaves::{Designator, Outcome};
-use cq_outside::Bytes;
+use cq_common::Bytes;
 
 /// A token, and where it stands.
 #[derive(Drop, PartialEq, Eq)]

@@ -7,7 +7,7 @@ ghost use Rattle.cql_syntax.specs.TreeOf.{filter_tree, body_tree, filters_in, te
 
 use crate::extents::Extent;
 use crate::leaves::{Chain, Designator, Field, Kind, Mark, Of, Outcome, Pair, Plain, Unary, Way};
-use cq_outside::{Bytes, NoMemory};
+use cq_common::{Bytes, NoMemory};
 use cq_symmetry::Family;
 use std::alloc::Global;
 

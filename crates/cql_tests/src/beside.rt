@@ -6,7 +6,7 @@ use crate::drawn::DRAWN;
 use crate::games::GAMES;
 use crate::plans::flat_query;
 use crate::queries::{FORMS, PAGES};
-use cq_outside::{NoMemory, Steps};
+use cq_common::{NoMemory, Steps};
 use cql_eval::{Column, columns, hit_columns};
 use cql_plain::holds_at;
 use cql_syntax::FlatQuery;

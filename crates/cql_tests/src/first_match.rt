@@ -1,7 +1,8 @@
 //! A batch up to its first match.
 use crate::plans::plan_of;
 use crate::workers::batch_of;
-use cq_outside::{Bytes, Gate, NoMemory};
+use cq_common::{Bytes, NoMemory};
+use cq_outside::Gate;
 use cq_shards::{Batch, run_first};
 use cql_plan::Plan;
 use std::alloc::Global;

@@ -7,7 +7,7 @@ ghost use Rattle.cql_lines.specs.Shapes.{searched_count};
 ghost use Rattle.cql_lines.specs.Tables.{atoms_of, nodes_of};
 ghost use Rattle.cql_lines.specs.Trees.{spots_of};
 
-use cq_outside::{NoMemory, Steps};
+use cq_common::{NoMemory, Steps};
 use cql_lines::{AtomTable, Automaton, Pattern, Patterns, Shape, line_values};
 use std::alloc::Global;
 use std::marker::Brand;

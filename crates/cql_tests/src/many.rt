@@ -8,7 +8,7 @@ ghost use Rattle.cq_shared.specs.Plans.{queries_of, plan_parts};
 ghost use Rattle.cq_shared.specs.Verdicts.{nodes_of};
 
 use crate::plans::read_query;
-use cq_outside::{NoMemory, Refusal, Steps};
+use cq_common::{NoMemory, Refusal, Steps};
 use cq_shared::{SharedPlan, Verdicts, match_all};
 use cql_syntax::{QueryFault, TypedQuery};
 use pgn_reader::read_game;

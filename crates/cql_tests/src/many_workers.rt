@@ -5,7 +5,8 @@ ghost use Rattle.cq_shards.specs.Many.{answers_in};
 
 use crate::many::plan_of;
 use crate::workers::{Watch, watched_batch};
-use cq_outside::{Gate, NoMemory};
+use cq_common::NoMemory;
+use cq_outside::Gate;
 use cq_shards::{Batch, ManyAnswers, run_many};
 use cq_shared::SharedPlan;
 use std::alloc::Global;

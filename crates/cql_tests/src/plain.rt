@@ -1,8 +1,8 @@
 //! A set by the plain evaluator, at the start; truths and numbers are beside the columns.
 ghost use Rattle.std.specs.Prelude.{◌<◌, length};
 
+use cq_common::{Bytes, NoMemory};
 use cq_geometry::Square;
-use cq_outside::{Bytes, NoMemory};
 use cq_position::{GameResult, Position};
 use cql_plain::set_at;
 use cql_syntax::{Filter, Form};

@@ -3,7 +3,7 @@ ghost use Rattle.std.specs.Prelude.{◌≡◌, ◌<◌, false, IfOk};
 ghost use Rattle.cql_syntax.specs.TreeFaults.{has_any};
 ghost use Rattle.cql_syntax.specs.TreeOf.{query_tree};
 
-use cq_outside::{NoMemory, Refusal, Steps};
+use cq_common::{NoMemory, Refusal, Steps};
 use cql_kinds::check;
 use cql_lexer::query_tokens;
 use cql_parser::{parse, spelled_queries_have_no_any, tokens_of_a_text_are_ended};

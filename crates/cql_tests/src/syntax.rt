@@ -1,6 +1,6 @@
 //! Trees of queries: their copies and kinds, and which are the same.
 use crate::plans::parsed;
-use cq_outside::NoMemory;
+use cq_common::NoMemory;
 use cq_symmetry::{Family, Mapping, SquarePart};
 use cql_lexer::tokens_are_read;
 use cql_rewrite::{same_filter, same_unplaced};

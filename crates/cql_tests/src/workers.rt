@@ -2,7 +2,8 @@
 ghost use Rattle.std.specs.Prelude.{◌≤◌};
 
 use crate::plans::plan_of;
-use cq_outside::{Bytes, Gate, NoMemory};
+use cq_common::{Bytes, NoMemory};
+use cq_outside::Gate;
 use cq_shards::{Batch, run_batch};
 use cql_plan::Plan;
 use pgn_cut::cut_whole;

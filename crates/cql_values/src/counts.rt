@@ -6,7 +6,7 @@ ghost use Rattle.cql_values.specs.Counts.{moves_on, AreCounts};
 
 use crate::numbers::one_if;
 use crate::walks::begins_variation;
-use cq_outside::NoMemory;
+use cq_common::NoMemory;
 use pgn_tree::Game;
 use std::alloc::Global;
 

@@ -6,8 +6,8 @@ ghost use Rattle.cql_values.specs.Bindings.{rebound};
 ghost use Rattle.cql_values.specs.Shown.{meant};
 
 use crate::value::Value;
+use cq_common::{Bytes, NoMemory};
 use cq_geometry::Square;
-use cq_outside::{Bytes, NoMemory};
 use std::alloc::Global;
 use std::marker::Model;
 

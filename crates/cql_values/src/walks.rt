@@ -7,7 +7,7 @@ ghost use Rattle.cq_position.specs.Search as search_of;
 ghost use Rattle.cql_values.specs.Trees.{searched_tree};
 
 use crate::numbers::one_if;
-use cq_outside::NoMemory;
+use cq_common::NoMemory;
 use pgn_tree::Game;
 use std::alloc::Global;
 

@@ -12,7 +12,7 @@ use Rattle.pgn_lexer.specs.Grammar.{IsLexeme, IsLongest}
 use Rattle.pgn_lexer.specs.Lexemes.{Lexeme, end, lexeme, lexemes, lexemes_from, first_at}
 use Rattle.pgn_lexer.specs.Local.{IsUnsettled, is_left_open, Settles, Grows}
 use Rattle.pgn_lexer.specs.Bytes.{continues_symbol}
-use Rattle.cq_outside.specs.Text.{is_white}
+use Rattle.cq_common.specs.Text.{is_white}
 use Rattle.pgn_lexer.specs.Readings.{reading, symbol, single}
 use Rattle.pgn_lexer.specs.declared.token.LexemeKind.{LexemeKind}
 use Rattle.pgn_lexer.specs.declared.token.LexemeKind.TheVariants.{EscapeLine, Token}

@@ -9,7 +9,7 @@ use Rattle.std.proofs.lemmas.List.{drop-drop, drop-take, drop_all, get_or-drop, 
 use Rattle.std.proofs.lemmas.List.Concat.{flat_map-cons}
 use Rattle.std.proofs.lemmas.List.Elements.{filter-append}
 use Rattle.std.proofs.lemmas.Slice.Eq.{bytes_eq-Decides}
-use Rattle.cq_outside.specs.Text.{is_white}
+use Rattle.cq_common.specs.Text.{is_white}
 use Rattle.pgn_lexer.specs.Bytes.{ends_line}
 use Rattle.pgn_lexer.specs.Grammar.{IsLexeme}
 use Rattle.pgn_lexer.specs.Lexemes.{Lexeme, end, lexeme, lexemes, first_at, moved, token_if, token_of, tokens_among}

@@ -4,7 +4,7 @@ use Rattle.std.specs.Prelude.{◌==◌, IfSome}
 use Rattle.std.specs.Option.{option_to_list}
 use Rattle.std.proofs.lemmas.Bool.{false≢true}
 use Rattle.std.proofs.lemmas.List.{append_assoc, length-append, length-take-le, take_all, take_more, take-append-drop}
-use Rattle.cq_outside.specs.Text.{is_white}
+use Rattle.cq_common.specs.Text.{is_white}
 use Rattle.pgn_lexer.specs.Lexemes.{Lexeme, lexemes, first_at}
 use Rattle.pgn_lexer.specs.Local.{Grows}
 use Rattle.pgn_lexer.specs.Readings.{reading}

@@ -3,7 +3,7 @@ use Rattle.std.proofs.Common.{◌≡◌, ℕ, suc, ◌+◌, ◌≤◌, Bool, tru
 use Rattle.std.specs.Prelude.{◌==◌}
 use Rattle.std.specs.Option.{option_to_list}
 use Rattle.std.proofs.lemmas.List.{append-nil, append_assoc, length-append, get_or_push}
-use Rattle.cq_outside.specs.Text.{is_white}
+use Rattle.cq_common.specs.Text.{is_white}
 use Rattle.pgn_lexer.specs.Bytes.{ends_line}
 use Rattle.pgn_lexer.specs.Lexemes.{Lexeme, lexemes, first_at}
 use Rattle.pgn_lexer.specs.declared.token.LexemeKind.{LexemeKind}

@@ -1,7 +1,7 @@
 -- Tag pairs: a bracket, words, a string and a bracket. An open game that has more before it, and no movetext, passes one at once.
 use Rattle.std.specs.Prelude.{◌≡◌, ℕ, ◌<◌, ◌&&◌, ◌||◌, ◌⊎◌, not, Bool, true, false, List, ◌∷◌, ◌++◌, length}
 use Rattle.std.specs.List.{AllByRecursion}
-use Rattle.cq_outside.specs.Text.{is_white}
+use Rattle.cq_common.specs.Text.{is_white}
 use Rattle.pgn_lexer.specs.Bytes.{left_bracket}
 use Rattle.pgn_lexer.specs.Lexemes.{first_at}
 use Rattle.pgn_lexer.specs.declared.token.LexemeKind.{LexemeKind}

@@ -1,6 +1,6 @@
 -- Lexemes at the start of some bytes that end there, whatever follows.
 use Rattle.std.specs.Prelude.{◌≡◌, ℕ, ◌+◌, ◌<◌, ◌⊎◌, Bool, true, false, List, ◌∷◌, ◌++◌, length, slice_index}
-use Rattle.cq_outside.specs.Text.{is_white}
+use Rattle.cq_common.specs.Text.{is_white}
 use Rattle.pgn_lexer.specs.Lexemes.{lexemes, first_at}
 use Rattle.pgn_lexer.specs.Whole.{runs_on}
 use Rattle.pgn_lexer.specs.declared.token.Reading.{Reading}

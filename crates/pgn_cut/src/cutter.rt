@@ -24,7 +24,7 @@ use crate::pairs::pair_len;
 use crate::span::Span;
 use crate::state::State;
 use crate::words::words_len;
-use cq_outside::{NoMemory, is_white};
+use cq_common::{NoMemory, is_white};
 use pgn_lexer::{
     LexemeKind, TokenKind, lexemes_follow, lexemes_stand_apart, longest_reading,
     readings_are_longest, readings_grow, white_space_is_passed,

@@ -5,7 +5,7 @@ ghost use Rattle.pgn_cut.specs.Cut.{marks};
 ghost use Rattle.pgn_cut.specs.Settled.{is_whole, IsSettled, IsFound};
 
 use crate::game::marks;
-use cq_outside::is_white;
+use cq_common::is_white;
 use pgn_lexer::{
     LexemeKind, Reading, TokenKind, longest_reading, readings_grow, white_space_is_passed,
     whole_lexemes_stay,

@@ -1,7 +1,7 @@
 //! Laws of the cut, for the crates above. Each is proved for all archives; to call one costs nothing.
 ghost use Rattle.std.specs.Prelude.{◌≡◌, ◌+◌, ◌++◌, ◌==◌, ℕ, Bool, true, false, List, [], ◌∷◌, None, All, length};
 ghost use Rattle.pgn_lexer.specs.Lexemes.{lexemes, tokens_of};
-ghost use Rattle.cq_outside.specs.Text.{is_white};
+ghost use Rattle.cq_common.specs.Text.{is_white};
 ghost use Rattle.pgn_lexer.specs.Bytes.{ends_line, star};
 ghost use Rattle.pgn_lexer.specs.Lexemes.{Lexeme as ALexeme};
 ghost use Rattle.pgn_lexer.specs.Local.{IsUnsettled};

@@ -2,7 +2,7 @@
 
 use crate::cutter::Cutter;
 use crate::span::Span;
-use cq_outside::Shared;
+use cq_common::Shared;
 
 impl Shared for Cutter {}
 

@@ -8,7 +8,7 @@ ghost use Rattle.pgn_cut.specs.Cut.{cut};
 use crate::cutter::Cutter;
 use crate::laws::{closed_games_stay, games_end_once, games_have_their_tokens, games_stand_apart};
 use crate::span::Span;
-use cq_outside::NoMemory;
+use cq_common::NoMemory;
 use std::alloc::Global;
 
 /// The games of an archive of fewer than 2^62 bytes, in order. Fails only when out of memory.

@@ -8,7 +8,7 @@ ghost use Rattle.pgn_reader.specs.Words.{words_of};
 use crate::movetext::write_movetext;
 use crate::page::Page;
 use crate::tag_lines::write_tags;
-use cq_outside::{Bytes, NoMemory};
+use cq_common::{Bytes, NoMemory};
 use pgn_tree::Game;
 use std::alloc::Global;
 

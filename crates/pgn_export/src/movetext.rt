@@ -13,7 +13,7 @@ ghost use Rattle.pgn_export.specs.Places.{words_to, words_after, words_instead_o
 ghost use Rattle.pgn_export.specs.Words.{opened, closed, comment_words};
 
 use crate::page::Page;
-use cq_outside::NoMemory;
+use cq_common::NoMemory;
 use cq_position::{Move, Position, Side};
 use cq_san::san_text_to;
 use itoa::Buffer;

@@ -2,7 +2,7 @@
 ghost use Rattle.std.specs.Prelude.{◌≡◌, ◌<◌, ◌++◌, length, OnOk, codes};
 ghost use Rattle.pgn_export.specs.Page.{after_lines, with_word, with_longer_word, with_last_in_new_line};
 
-use cq_outside::NoMemory;
+use cq_common::NoMemory;
 use std::marker::Model;
 
 /// How many bytes a line has at most, but where a word has more.

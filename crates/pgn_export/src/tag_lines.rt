@@ -6,7 +6,7 @@ ghost use Rattle.cq_position.specs.Games.{tag_value};
 ghost use Rattle.pgn_export.specs.Plain.{plain};
 ghost use Rattle.pgn_export.specs.TagLines as tag_lines;
 
-use cq_outside::{Bytes, NoMemory};
+use cq_common::{Bytes, NoMemory};
 use pgn_tree::{Game, Tags, result_text};
 use std::alloc::Global;
 use std::collections::BTreeMap;

@@ -13,7 +13,7 @@ use crate::node::{push_node, push_plain, push_position};
 use crate::notes::{comma_after, is_marked, push_notes, push_number};
 use crate::plies::plies;
 use crate::strings::push_string;
-use cq_outside::{Bytes, NoMemory};
+use cq_common::{Bytes, NoMemory};
 use pgn_tree::{Game, Tags, result_text};
 use std::alloc::Global;
 

@@ -11,8 +11,8 @@ ghost use Rattle.pgn_json.specs.Moves as moves;
 ghost use Rattle.pgn_json.specs.Values.{member, next, plain};
 
 use crate::notes::{is_marked, push_notes, push_number};
+use cq_common::{Bytes, NoMemory};
 use cq_geometry::{Square, file, rank};
-use cq_outside::{Bytes, NoMemory};
 use cq_position::{Move, Position, Promotion, fen_text};
 use cq_san::san_text_to;
 use pgn_tree::Game;

@@ -9,7 +9,7 @@ ghost use Rattle.pgn_json.specs.Strings.{string_text};
 ghost use Rattle.pgn_json.specs.Values.{array_member, next, separated};
 
 use crate::strings::push_string;
-use cq_outside::{Bytes, NoMemory};
+use cq_common::{Bytes, NoMemory};
 use itoa::Buffer;
 use pgn_tree::Game;
 

@@ -3,7 +3,7 @@ ghost use Rattle.std.specs.Prelude.{◌≡◌, ◌<◌, length, IfOk};
 ghost use Rattle.cq_position.specs.Search as search_of;
 ghost use Rattle.pgn_json.specs.Left.{ArePlies};
 
-use cq_outside::NoMemory;
+use cq_common::NoMemory;
 use pgn_tree::Game;
 use std::alloc::Global;
 

@@ -6,7 +6,7 @@ ghost use Rattle.std.specs.Prelude.{IsUtf8};
 ghost use Rattle.pgn_json.specs.Bytes.{byte_text};
 ghost use Rattle.pgn_json.specs.Strings.{character_text, characters, escape, is_escaped, string_text};
 
-use cq_outside::{Bytes, NoMemory};
+use cq_common::{Bytes, NoMemory};
 use std::str;
 
 /// Adds a text as a string: its characters in UTF-8, those that have to be escaped after a backslash.

@@ -4,7 +4,7 @@ use Rattle.clap.specs.Words.{App, HasKind, HasMatchesOf, Kinds, Text, fault_of, 
 use Rattle.clap.specs.declared.error.Error.{Error}
 use Rattle.clap.specs.declared.error.kind.ErrorKind.TheVariants.{OutOfMemory}
 use Rattle.clap.specs.declared.parser.matches.ArgMatches.{ArgMatches}
-use Rattle.cq_outside.specs.declared.faults.Refusal.TheVariants.{Fault}
+use Rattle.cq_common.specs.declared.faults.Refusal.TheVariants.{Fault}
 use Rattle.pgn_json_run.specs.Jobs.{HasMatches, IsRefused}
 use Rattle.pgn_json_run.specs.Line.{line}
 use Rattle.pgn_json_run.specs.declared.job.WordsRefused.{WordsRefused}

@@ -1,5 +1,5 @@
 //! What the command words ask.
-use cq_outside::Bytes;
+use cq_common::Bytes;
 
 /// The greatest number of workers.
 pub(crate) const WORKERS_LIMIT: u64 = 64;

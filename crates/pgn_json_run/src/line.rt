@@ -6,7 +6,7 @@ ghost use Rattle.pgn_json_run.specs.Line.{line, number_option, text_option, word
 use crate::job::{BYTES_LIMIT, WORKERS_LIMIT};
 use clap::builder::ValueParser;
 use clap::{Arg, Command};
-use cq_outside::NoMemory;
+use cq_common::NoMemory;
 use std::alloc::Global;
 
 // An option with a text.

@@ -5,8 +5,8 @@ ghost use Rattle.pgn_json_run.specs.Parts.{part_at, size};
 
 use crate::texts::{Texts, game_texts};
 use cq_batches::Batch;
+use cq_common::{Bytes, NoMemory};
 use cq_crew::{Maker, nothing_kept, run_crew};
-use cq_outside::{Bytes, NoMemory};
 use std::alloc::Global;
 use std::thread::Threads;
 

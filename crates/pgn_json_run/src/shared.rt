@@ -2,7 +2,7 @@
 
 use crate::making::GameTexts;
 use crate::texts::Texts;
-use cq_outside::Shared;
+use cq_common::Shared;
 
 impl Shared for Texts {}
 

@@ -5,7 +5,7 @@ ghost use Rattle.cq_batches.specs.declared.kept.KeptGame.{KeptGame as AGame};
 ghost use Rattle.pgn_json_run.specs.Texts.{AreTextsOf};
 
 use cq_batches::Batch;
-use cq_outside::{Bytes, NoMemory, Refusal};
+use cq_common::{Bytes, NoMemory, Refusal};
 use cq_report::fault_line;
 use pgn_json::json_line;
 use pgn_reader::read_game;

@@ -8,7 +8,7 @@ use crate::job::{BYTES_LIMIT, Job, WORKERS_LIMIT, WordsRefused};
 use crate::line::line;
 use clap::ArgMatches;
 use clap::error::ErrorKind;
-use cq_outside::{Bytes, NoMemory, Refusal};
+use cq_common::{Bytes, NoMemory, Refusal};
 use std::alloc::Global;
 
 // The text of an argument, where it is given.

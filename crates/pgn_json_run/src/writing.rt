@@ -9,7 +9,8 @@ ghost use Rattle.pgn_json_run.specs.Writing.{SinkView, sinks_of, view_of};
 use crate::making::{TextMaker, part_texts};
 use crate::status::Status;
 use crate::texts::Texts;
-use cq_outside::{Bytes, Failed, NoMemory, Refusal, Sink, write_all_of};
+use cq_common::{Bytes, Failed, NoMemory, Refusal};
+use cq_outside::{Sink, write_all_of};
 use std::alloc::Global;
 use std::thread::Threads;
 

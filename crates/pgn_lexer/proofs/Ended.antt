@@ -8,7 +8,7 @@ use Rattle.std.proofs.Math.Seq.{take-append_seam, drop-append_seam}
 use Rattle.std.proofs.lemmas.Bool.{cases_lt, agree_below_at}
 use Rattle.std.proofs.lemmas.Bool.Decides.{nat_tests}
 use Rattle.std.proofs.lemmas.List.{take_all, take-take, length-take-le, append-nil, get_or_append_left}
-use Rattle.cq_outside.specs.Text.{is_white}
+use Rattle.cq_common.specs.Text.{is_white}
 use Rattle.pgn_lexer.specs.Bytes.{ends_line, continues_symbol}
 use Rattle.pgn_lexer.specs.Grammar.{Lacks, IsBody, IsSuffix, IsLexeme}
 use Rattle.pgn_lexer.specs.Lexemes.{lexemes, first_at}

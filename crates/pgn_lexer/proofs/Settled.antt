@@ -7,7 +7,7 @@ use Rattle.std.specs.Str.Parse.{digits_value}
 use Rattle.std.proofs.lemmas.Bool.{cases_lt, cases_Bool}
 use Rattle.std.proofs.lemmas.List.{take_all, take-append-le, take-take, length-take-le, length-append, append_assoc}
 use Rattle.pgn_lexer.specs.Bytes.{ends_line, continues_symbol}
-use Rattle.cq_outside.specs.Text.{is_white}
+use Rattle.cq_common.specs.Text.{is_white}
 use Rattle.pgn_lexer.specs.Grammar.{IsBody, IsSuffix, IsLexeme}
 use Rattle.pgn_lexer.specs.Readings.{reading, single}
 use Rattle.pgn_lexer.specs.declared.token.LexemeKind.{LexemeKind}

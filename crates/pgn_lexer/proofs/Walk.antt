@@ -5,7 +5,7 @@ use Rattle.std.specs.List.{prefix_len}
 use Rattle.std.proofs.lemmas.List.{get_or-drop, drop-drop, drop_all, drop_more, length-drop, take_rest, length-take-le}
 use Rattle.std.proofs.lemmas.List.Sums.{prefix_len_stops}
 use Rattle.pgn_lexer.proofs.Within.{of_both, reading_some}
-use Rattle.cq_outside.specs.Text.{is_white}
+use Rattle.cq_common.specs.Text.{is_white}
 use Rattle.pgn_lexer.specs.Bytes.{ends_line}
 use Rattle.pgn_lexer.specs.Readings.{reading}
 use Rattle.pgn_lexer.specs.declared.token.Reading.{Reading}

@@ -1,7 +1,7 @@
 -- The lexemes of a text, taken off its front one after the other, and the tokens among them.
 use Rattle.std.specs.Prelude.{ℕ, zero, suc, ◌+◌, ◌-◌, Bool, List, [], ◌∷◌, length, take, drop, slice_index, if◌then◌else◌}
 use Rattle.std.specs.List.{flat_map}
-use Rattle.cq_outside.specs.Text.{is_white}
+use Rattle.cq_common.specs.Text.{is_white}
 use Rattle.pgn_lexer.specs.Bytes.{ends_line}
 use Rattle.pgn_lexer.specs.Readings.{reading}
 use Rattle.pgn_lexer.specs.declared.token.LexemeKind.{LexemeKind}

@@ -1,7 +1,7 @@
 -- Which bytes may go on with a lexeme, and so where one is read whole, whatever comes later.
 use Rattle.std.specs.Prelude.{◌≡◌, ℕ, Bool, true, false, not, ◌==◌, ◌||◌, List, [], ◌∷◌, length}
 use Rattle.std.specs.Char.{is_ascii_digit}
-use Rattle.cq_outside.specs.Text.{is_white}
+use Rattle.cq_common.specs.Text.{is_white}
 use Rattle.pgn_lexer.specs.Bytes.{exclamation_mark, question_mark, hyphen, ends_line, continues_symbol}
 use Rattle.pgn_lexer.specs.Readings.{reading}
 use Rattle.pgn_lexer.specs.declared.token.LexemeKind.{LexemeKind}

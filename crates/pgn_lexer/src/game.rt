@@ -6,7 +6,7 @@ ghost use Rattle.pgn_lexer.specs.Texts.{IsTokenOf, AreTokensInOrder};
 use crate::laws::tokens_stand_apart;
 use crate::lexeme::next_lexeme;
 use crate::token::{LexemeKind, Token};
-use cq_outside::NoMemory;
+use cq_common::NoMemory;
 use std::alloc::Global;
 
 /// The tokens of a text of at most 2^24 bytes; escape lines give none. `start` is the place of its first byte in the

@@ -1,7 +1,7 @@
 //! Laws of the lexemes of a text, for the crates above. Each is proved for all texts; to call one costs nothing.
 ghost use Rattle.std.specs.Prelude.{◌≡◌, ◌+◌, ℕ, Bool, true, false, List, [], ◌∷◌, ◌++◌, All, drop, length, map, slice_range};
 ghost use Rattle.std.specs.List.{AllByRecursion, prefix_len};
-ghost use Rattle.cq_outside.specs.Text.{is_white};
+ghost use Rattle.cq_common.specs.Text.{is_white};
 ghost use Rattle.pgn_lexer.specs.Bytes.{ends_line};
 ghost use Rattle.pgn_lexer.specs.Lexemes.{lexeme, lexemes, first_at, moved, tokens_of};
 ghost use Rattle.pgn_lexer.specs.Readings.{reading};

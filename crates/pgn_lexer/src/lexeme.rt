@@ -5,7 +5,7 @@ ghost use Rattle.pgn_lexer.specs.Shown.{shown};
 
 use crate::reading::longest_reading;
 use crate::token::LexemeKind;
-use cq_outside::white_len;
+use cq_common::white_len;
 
 /// A lexeme of some bytes: its place among them, whether it begins in the first column, its bytes and its kind.
 #[derive(Clone, Copy, Debug)]

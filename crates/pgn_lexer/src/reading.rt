@@ -6,7 +6,7 @@ ghost use Rattle.pgn_lexer.specs.Bytes.{backslash, continues_symbol};
 ghost use Rattle.pgn_lexer.specs.Readings.{token, comment, line_comment, escape_line, is_special, body_len, text, symbol, nag, good_suffix, poor_suffix, null_move, single, reading};
 
 use crate::token::{LexemeKind, Reading, TokenKind};
-use cq_outside::{decimal_up_to, digits_len};
+use cq_common::{decimal_up_to, digits_len};
 use memchr::{memchr, memchr3};
 
 /// Whether a symbol goes on with a byte, for each of the 256.

@@ -9,7 +9,7 @@ ghost use Rattle.pgn_pieces.specs.declared.piece.Piece.{Piece as APiece};
 use crate::piece::Place;
 use crate::state::{OpenPiece, Pieces};
 use crate::table::push_line;
-use cq_outside::{Bytes, NoMemory};
+use cq_common::{Bytes, NoMemory};
 use pgn_cut::{Cutter, Span, closed_games_stay, games_stand_apart};
 use std::alloc::Global;
 

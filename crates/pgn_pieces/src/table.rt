@@ -3,7 +3,7 @@ ghost use Rattle.std.specs.Prelude.{◌≡◌, ◌++◌, OnOk, decimal};
 ghost use Rattle.pgn_pieces.specs.Table.{line};
 
 use crate::piece::Piece;
-use cq_outside::{Bytes, NoMemory};
+use cq_common::{Bytes, NoMemory};
 use itoa::Buffer;
 
 /// Adds the line of a piece: its number, its first byte, how many bytes it has, its first game, and how many games it has.

@@ -7,7 +7,8 @@ ghost use Rattle.pgn_pieces_run.specs.Cutting.{HasCut, Pipe, Says, pipe};
 
 use crate::job::BYTES_LIMIT;
 use crate::status::Status;
-use cq_outside::{Bytes, Sink, Source, read_piece, write_all_of};
+use cq_common::Bytes;
+use cq_outside::{Sink, Source, read_piece, write_all_of};
 use pgn_pieces::Pieces;
 use std::alloc::Global;
 

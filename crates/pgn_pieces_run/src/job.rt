@@ -1,5 +1,5 @@
 //! What the command words ask.
-use cq_outside::Bytes;
+use cq_common::Bytes;
 
 /// The greatest number of bytes that a piece may be asked to have, and the most that an archive may have.
 pub(crate) const BYTES_LIMIT: u64 = 1_099_511_627_776;

@@ -8,7 +8,8 @@ ghost use Rattle.pgn_pieces_run.specs.Promise.{EndsWithoutWords, EndsWords, Prom
 use crate::cutting::cut;
 use crate::status::Status;
 use crate::words::read_words;
-use cq_outside::{Desk, NoMemory, OpenFault, Refusal, Sink, write_all_of};
+use cq_common::{NoMemory, OpenFault, Refusal};
+use cq_outside::{Desk, Sink, write_all_of};
 use std::alloc::Global;
 
 /// The line that answers words that are refused.

@@ -8,7 +8,7 @@ use crate::job::{BYTES_LIMIT, Job, WordsRefused};
 use crate::line::line;
 use clap::ArgMatches;
 use clap::error::{Error, ErrorKind};
-use cq_outside::{Bytes, Refusal};
+use cq_common::{Bytes, Refusal};
 use std::alloc::Global;
 
 // The text of an argument, where it is given.

@@ -2,8 +2,8 @@
 use Rattle.std.proofs.Common.{◌≡◌, ◌≢◌, ℕ, zero, suc, ◌+◌, ◌-◌, ◌<◌, ◌≤◌, Bool, List, [], ◌∷◌, ◌++◌, length, take, drop, map, get_or, slice_get, Result, Some, None, Ok, Err, refl, sym, ap, ◌∙◌, subst, arith}
 use Rattle.std.proofs.lemmas.List.{at_drop_more, length-drop}
 use Rattle.std.proofs.lemmas.Option.{slice_get-get_or, slice_get_past}
-use Rattle.cq_outside.specs.declared.faults.Refusal.{Refusal}
-use Rattle.cq_outside.specs.declared.faults.Refusal.TheVariants.{Fault}
+use Rattle.cq_common.specs.declared.faults.Refusal.{Refusal}
+use Rattle.cq_common.specs.declared.faults.Refusal.TheVariants.{Fault}
 use Rattle.pgn_lexer.specs.declared.lexeme.Lexeme.{Lexeme}
 use Rattle.pgn_lexer.specs.declared.token.LexemeKind.{LexemeKind}
 use Rattle.pgn_lexer.specs.declared.token.LexemeKind.TheVariants.{EscapeLine, Token as IsToken}

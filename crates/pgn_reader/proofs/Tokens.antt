@@ -4,8 +4,8 @@ use Rattle.std.proofs.Common.{inl, inr, ◌↔◌, reverse}
 use Rattle.cq_position.specs.Position.{IsPosition}
 use Rattle.cq_position.specs.Games.{Game, IsTree}
 use Rattle.std.proofs.lemmas.List.{take_all, take_more, get_or-map, length-map}
-use Rattle.cq_outside.specs.declared.faults.Refusal.{Refusal}
-use Rattle.cq_outside.specs.declared.faults.Refusal.TheVariants.{Fault}
+use Rattle.cq_common.specs.declared.faults.Refusal.{Refusal}
+use Rattle.cq_common.specs.declared.faults.Refusal.TheVariants.{Fault}
 use Rattle.pgn_reader.specs.declared.fault.Reason.{Reason}
 use Rattle.pgn_reader.specs.declared.fault.Reason.TheVariants.{TooManyPositions}
 use Rattle.pgn_reader.specs.declared.token_machine.Reader.{Reader}

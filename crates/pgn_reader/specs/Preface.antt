@@ -1,7 +1,7 @@
 -- The tags of a game that is being read, as the private functions give them.
 use Rattle.std.specs.Prelude.{◌≡◌, Result, Ok, Err}
-use Rattle.cq_outside.specs.declared.faults.Refusal.{Refusal}
-use Rattle.cq_outside.specs.declared.faults.Refusal.TheVariants.{Fault, NoMemory}
+use Rattle.cq_common.specs.declared.faults.Refusal.{Refusal}
+use Rattle.cq_common.specs.declared.faults.Refusal.TheVariants.{Fault, NoMemory}
 use Rattle.cq_position.specs.Board.{Board}
 use Rattle.cq_position.specs.declared.fen.FenFault.{FenFault}
 use Rattle.pgn_reader.specs.Tags.{Tags, start_of}

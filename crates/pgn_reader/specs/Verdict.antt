@@ -1,7 +1,7 @@
 -- What the bytes of a game spell, and their fault.
 use Rattle.std.specs.Prelude.{◌≡◌, ℕ, ◌+◌, ◌<◌, ◌≤◌, ◌⊎◌, Bool, List, length, slice_get, Option, Some, None, Result, Ok, Err}
-use Rattle.cq_outside.specs.declared.faults.Refusal.{Refusal}
-use Rattle.cq_outside.specs.declared.faults.Refusal.TheVariants.{Fault, NoMemory}
+use Rattle.cq_common.specs.declared.faults.Refusal.{Refusal}
+use Rattle.cq_common.specs.declared.faults.Refusal.TheVariants.{Fault, NoMemory}
 use Rattle.cq_position.specs.Games.{Game}
 use Rattle.pgn_lexer.specs.declared.token.Token.{Token}
 use Rattle.pgn_lexer.specs.Lexemes.{tokens_of}

@@ -11,7 +11,7 @@ ghost use Rattle.pgn_reader.specs.Words.{words_of};
 
 use crate::fault::{GameFault, Reason};
 use crate::token_machine::{Phase, Reader};
-use cq_outside::{NoMemory, Refusal};
+use cq_common::{NoMemory, Refusal};
 use pgn_lexer::{Lexeme, LexemeKind, next_lexeme};
 use std::alloc::Global;
 

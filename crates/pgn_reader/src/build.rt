@@ -7,7 +7,7 @@ ghost use Rattle.pgn_reader.specs.Arranged.{way_on, nodes_by, nodes_of_rows};
 ghost use Rattle.pgn_reader.specs.Building.{IsNext};
 
 use crate::row::Row;
-use cq_outside::NoMemory;
+use cq_common::NoMemory;
 use cq_position::GameResult;
 use pgn_tree::{Game, Tags};
 use std::alloc::Global;

@@ -5,7 +5,7 @@ ghost use Rattle.pgn_reader.specs.Frame.{begin, begin_game, advance, with_last_k
 ghost use Rattle.pgn_reader.specs.LineInside.{backwards};
 
 use crate::row::Row;
-use cq_outside::NoMemory;
+use cq_common::NoMemory;
 use cq_position::{Move, Position};
 use pgn_tree::Notes;
 use std::alloc::Global;

@@ -5,7 +5,7 @@ ghost use Rattle.cq_position.specs.Games.{with_tag};
 ghost use Rattle.pgn_reader.specs.Preface.{IsAdded};
 ghost use Rattle.pgn_reader.specs.Tags.{start_of};
 
-use cq_outside::{NoMemory, Refusal};
+use cq_common::{NoMemory, Refusal};
 use cq_position::{FenFault, Position, read_fen};
 use pgn_tree::Tags;
 use std::alloc::Global;

@@ -1,6 +1,6 @@
 //! What threads share, or hand over.
 
 use crate::fault::GameFault;
-use cq_outside::Shared;
+use cq_common::Shared;
 
 impl Shared for GameFault {}

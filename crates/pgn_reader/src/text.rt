@@ -5,7 +5,7 @@ ghost use Rattle.std.specs.Char.{is_ascii_digit};
 ghost use Rattle.pgn_reader.specs.Words.{result_of_text};
 ghost use Rattle.pgn_reader.specs.Tags.{unescaped, value_of};
 
-use cq_outside::NoMemory;
+use cq_common::NoMemory;
 use cq_position::GameResult;
 use std::alloc::Global;
 

@@ -3,7 +3,7 @@ ghost use Rattle.std.specs.Prelude.{◌≡◌, ◌<◌, ◌+◌, ◌^◌, List, 
 ghost use Rattle.pgn_reader.specs.Words.{Word};
 ghost use Rattle.pgn_reader.specs.Tags.{result_of_tags};
 ghost use Rattle.pgn_reader.specs.Reading.{IsWhole, ending_by, game_of};
-ghost use Rattle.cq_outside.specs.declared.faults.Refusal.TheVariants.{Fault as IsFault};
+ghost use Rattle.cq_common.specs.declared.faults.Refusal.TheVariants.{Fault as IsFault};
 ghost use Rattle.pgn_reader.specs.declared.fault.Reason.TheVariants.{GameTooLong as IsTooLong};
 ghost use Rattle.pgn_reader.specs.Limits.{longest};
 ghost use Rattle.pgn_reader.specs.Verdict.{IsVerdict};
@@ -13,7 +13,7 @@ use crate::build::game_of_rows;
 use crate::fault::{GameFault, Reason};
 use crate::text::result_of_text;
 use crate::token_machine::{Phase, Reader};
-use cq_outside::{NoMemory, Refusal};
+use cq_common::{NoMemory, Refusal};
 use cq_position::GameResult;
 use pgn_tree::{Game, Tags};
 use std::alloc::Global;

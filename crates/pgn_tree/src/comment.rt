@@ -1,11 +1,11 @@
 //! The words of a comment.
 ghost use Rattle.std.specs.Prelude.{◌≡◌, ◌<◌, ℕ, [], ◌∷◌, ◌++◌, drop, length, OnOk, IfOk, IfSome, MatchOption, not, position};
-ghost use Rattle.cq_outside.specs.Text.{is_white};
+ghost use Rattle.cq_common.specs.Text.{is_white};
 ghost use Rattle.std.specs.List.{join_with_byte};
 ghost use Rattle.cq_position.specs.Comments.{words};
 ghost use Rattle.pgn_tree.specs.Words.{space, without_brace, without_braces, Begins};
 
-use cq_outside::{Bytes, NoMemory, is_white};
+use cq_common::{Bytes, NoMemory, is_white};
 use std::alloc::Global;
 
 /// The words of a text with single spaces between them, in which a closing brace becomes a closing parenthesis: the comment that a node

@@ -6,7 +6,7 @@ ghost use Rattle.pgn_tree.specs.Comments.{start_of};
 ghost use Rattle.pgn_tree.specs.Words.{without_braces};
 
 use crate::comment::push_words;
-use cq_outside::NoMemory;
+use cq_common::NoMemory;
 use std::alloc::Global;
 use std::marker::Model;
 

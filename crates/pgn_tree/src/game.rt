@@ -13,7 +13,7 @@ ghost use Rattle.pgn_tree.specs.Notes.{noted_node};
 use crate::node::Node;
 use crate::notes::Notes;
 use crate::tags::Tags;
-use cq_outside::NoMemory;
+use cq_common::NoMemory;
 use cq_position::{GameResult, Man, Move, Position};
 use std::alloc::Global;
 use std::marker::Model;

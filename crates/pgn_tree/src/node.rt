@@ -6,7 +6,7 @@ ghost use Rattle.pgn_tree.specs.Notes.{noted_node};
 ghost use Rattle.pgn_tree.specs.Words.{without_braces};
 
 use crate::notes::Notes;
-use cq_outside::NoMemory;
+use cq_common::NoMemory;
 use cq_position::{Move, Position};
 use std::alloc::Global;
 use std::marker::Model;

@@ -5,7 +5,7 @@ ghost use Rattle.pgn_tree.specs.Words.{without_braces};
 ghost use Rattle.pgn_tree.specs.Notes.{AreKept};
 
 use crate::comments::Comments;
-use cq_outside::NoMemory;
+use cq_common::NoMemory;
 use smallvec::SmallVec;
 use std::alloc::Global;
 use std::marker::Model;

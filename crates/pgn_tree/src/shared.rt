@@ -2,7 +2,7 @@
 
 use crate::game::Game;
 use crate::tags::Tags;
-use cq_outside::Shared;
+use cq_common::Shared;
 
 impl Shared for Game {}
 

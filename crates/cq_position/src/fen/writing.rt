@@ -10,8 +10,8 @@ ghost use Rattle.cq_position.specs.Position.{IsPosition};
 use crate::fen::bytes::{DASH, SLASH, SPACE, right_letter, side_letter};
 use crate::men::{Man, Side, letter_of};
 use crate::position::{Position, Rights};
+use cq_common::{Bytes, NoMemory};
 use cq_geometry::{Square, file, rank};
-use cq_outside::{Bytes, NoMemory};
 use std::alloc::Global;
 
 /// The FEN text of a position: six fields, the halfmove clock 0, the rights in the order `KQkq`, and the en passant square that the

@@ -16,7 +16,7 @@ use crate::known::add_all;
 use crate::part::{Asker, Listed, Part};
 use crate::plan::SharedPlan;
 use crate::table::{Place, empty_places};
-use cq_outside::NoMemory;
+use cq_common::NoMemory;
 use cql_plan::Plan;
 use cql_rewrite::expand;
 use cql_syntax::TypedQuery;

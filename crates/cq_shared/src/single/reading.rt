@@ -9,7 +9,7 @@ ghost use Rattle.cq_shared.specs.Singles.{part_tree, shown};
 
 use crate::single::Single;
 use crate::table::mixed_of;
-use cq_outside::NoMemory;
+use cq_common::NoMemory;
 use cql_plan::join;
 use cql_rewrite::{flat_text, same_unplaced};
 use cql_syntax::{Filter, Filters, FlatQuery};

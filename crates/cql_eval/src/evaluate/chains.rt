@@ -13,7 +13,7 @@ ghost use Rattle.cql_columns.specs.Scopes.{tree_in, values_in};
 
 use super::columns::negated_column;
 use super::evaluate;
-use cq_outside::{NoMemory, Steps};
+use cq_common::{NoMemory, Steps};
 use cql_columns::ever::{Asking, evers_of, fails_anyway};
 use cql_columns::filter_column::FilterColumn;
 use cql_columns::narrow::narrow;

@@ -9,8 +9,8 @@ ghost use Rattle.cql_columns.specs.Elsewhere.{asks_elsewhere, AreLookedAt};
 ghost use Rattle.cql_columns.specs.Moved.{is_as_asked};
 ghost use Rattle.cql_columns.specs.Scopes.{tree_in};
 
+use cq_common::NoMemory;
 use cq_geometry::Compass;
-use cq_outside::NoMemory;
 use cql_columns::combine::{
     any_values, chain_values, chosen, negated, numbered, pair_column, reached_values, sum_values,
     unary_values,

@@ -13,7 +13,7 @@ ghost use Rattle.cql_eval.specs.Trials.{AskNoMore, LeavesHolding};
 
 use super::played::written_column;
 use super::trial::Trial;
-use cq_outside::{NoMemory, Steps};
+use cq_common::{NoMemory, Steps};
 use cql_columns::covers::{cut_moves, cut_where_fails, with_squares};
 use cql_columns::filter_column::FilterColumn;
 use cql_columns::free::{is_free_and_written, is_own_part};

@@ -11,7 +11,7 @@ ghost use Rattle.cql_eval.specs.Trials.{LeavesHolding};
 
 use super::covers::cover;
 use super::trial::Trial;
-use cq_outside::{NoMemory, Steps};
+use cq_common::{NoMemory, Steps};
 use cql_columns::covers::{add_sets, cut, same_sets};
 use cql_columns::filter_column::{FilterColumn, blank_sets};
 use cql_syntax::{Filter, Filters};

@@ -16,7 +16,7 @@ use super::cover_some::cover_some;
 use super::cover_squares::cover_square;
 use super::evaluate;
 use super::trial::Trial;
-use cq_outside::{NoMemory, Steps};
+use cq_common::{NoMemory, Steps};
 use cql_columns::covers::{
     any_left, any_squares, cut, cut_related, cut_where_fails, everywhere, with_squares,
 };

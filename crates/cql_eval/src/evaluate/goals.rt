@@ -12,7 +12,7 @@ ghost use Rattle.cql_columns.specs.Moved.{goes_as_asked};
 ghost use Rattle.cql_columns.specs.Scopes.{tree_in};
 
 use super::played::part_columns;
-use cq_outside::{NoMemory, Steps};
+use cq_common::{NoMemory, Steps};
 use cql_columns::binding::Binding;
 use cql_columns::covers::sets_of;
 use cql_columns::free::is_all;

@@ -8,7 +8,7 @@ ghost use Rattle.cql_columns.specs.Columns.{AreAsked, IsColumn, shown};
 ghost use Rattle.cql_columns.specs.Costs.{filter_cost, line_cost, parts_cost, body_cost, parts_atoms, body_atoms, searched_len};
 ghost use Rattle.cql_columns.specs.FlatTrees.{IsFlat, IsFlatLine, AreFlatParts, IsFlatBody};
 ghost use Rattle.cql_lines.specs.Tables.{atoms_of, nodes_of};
-ghost use Rattle.cq_outside.specs.Spelling.{one};
+ghost use Rattle.cq_common.specs.Spelling.{one};
 ghost use Rattle.cql_columns.specs.LineAtoms as spec;
 ghost use Rattle.cql_columns.specs.LineAtoms.{HasRoom, IsFilledIn};
 ghost use Rattle.cql_columns.specs.Scopes.{tree_in, value_in, parts_in, body_in};
@@ -18,7 +18,7 @@ ghost use Rattle.cql_syntax.specs.TabledLines.{IsAsked};
 ghost use Rattle.cq_position.specs.Search.{IsStep};
 
 use super::evaluate;
-use cq_outside::{NoMemory, Steps};
+use cq_common::{NoMemory, Steps};
 use cql_columns::filter_column::FilterColumn;
 use cql_columns::nodes::{all_nodes, any_live, part_of, same};
 use cql_columns::patterns::{empty_table, parts_pattern, put_nodes, shape_of, wide_numbers};

@@ -12,7 +12,7 @@ ghost use Rattle.cql_columns.specs.Scopes.{tree_in};
 
 use super::columns::met_column;
 use super::evaluate;
-use cq_outside::{NoMemory, Steps};
+use cq_common::{NoMemory, Steps};
 use cql_columns::filter_column::FilterColumn;
 use cql_columns::moves::{PartColumns, promoting};
 use cql_columns::scope::Scope;

@@ -5,7 +5,7 @@ ghost use Rattle.cql_lines.specs.Limits.{most_nodes};
 ghost use Rattle.cql_lines.specs.Tables.{atoms_of, nodes_of, words_of, holds_in};
 
 use crate::table::AtomTable;
-use cq_outside::{NoMemory, Steps};
+use cq_common::{NoMemory, Steps};
 use std::alloc::Global;
 use std::marker::PhantomData;
 use std::sync::ledger::Ledger;

@@ -1,6 +1,6 @@
 //! What a line gives at a node.
 ghost use Rattle.std.specs.Prelude.{◌≡◌, ◌<◌, ◌≤◌, ◌+◌, ◌&&◌, length, get_or, Some, None, IfOk};
-ghost use Rattle.cq_outside.specs.Spelling.{one, repeated};
+ghost use Rattle.cq_common.specs.Spelling.{one, repeated};
 ghost use Rattle.cq_position.specs.Games.{IsTree};
 ghost use Rattle.cql_syntax.specs.Meaning as meaning;
 ghost use Rattle.cql_syntax.specs.TreeOf.{body_tree, filter_tree, line_tree, parts_tree};
@@ -14,7 +14,7 @@ use super::evaluate;
 use crate::paths::{Reached, longest, number_of, paths_from};
 use crate::places::{comes_from, fresh, has_some, only_first, where_counted, with_next};
 use crate::scope::Scope;
-use cq_outside::NoMemory;
+use cq_common::NoMemory;
 use cql_syntax::{Body, Constituents, Filter, Line, Mark};
 use cql_values::value::Value;
 use std::alloc::Global;

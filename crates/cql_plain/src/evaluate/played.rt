@@ -9,7 +9,7 @@ ghost use Rattle.cql_values.specs.Shown.{meant};
 
 use super::evaluate;
 use crate::scope::Scope;
-use cq_outside::NoMemory;
+use cq_common::NoMemory;
 use cql_syntax::{Filter, Played};
 use cql_values::led::{before, led_to, meets_all};
 use cql_values::value::Value;

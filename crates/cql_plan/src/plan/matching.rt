@@ -13,7 +13,7 @@ use crate::joining::join;
 use crate::needs::all_needed;
 use crate::plan::Plan;
 use crate::verdict::{Verdict, find};
-use cq_outside::{NoMemory, Steps};
+use cq_common::{NoMemory, Steps};
 use cql_rewrite::expand;
 use cql_syntax::TypedQuery;
 use pgn_tree::Game;

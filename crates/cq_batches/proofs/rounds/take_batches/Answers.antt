@@ -1,5 +1,5 @@
 use Rattle.std.proofs.Common.{◌≡◌, ◌+◌, ◌≤◌, ◌^◌, Ok, Err, Some, None, [], length, refl, ap, sym, subst, ◌∙◌, arith, rules}
-use Rattle.cq_outside.specs.declared.faults.Refusal.TheVariants.{Fault, NoMemory}
+use Rattle.cq_common.specs.declared.faults.Refusal.TheVariants.{Fault, NoMemory}
 use Rattle.cq_batches.specs.Games.{games_of, number_of}
 use Rattle.cq_batches.specs.Kept.{KeptGames}
 use Rattle.cq_batches.specs.Nexts.{GivesBatch, HasGivenAll, HasGivenFull}

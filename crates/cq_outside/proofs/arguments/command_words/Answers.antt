@@ -1,7 +1,8 @@
 use Rattle.std.proofs.Common.{map, Ok, ◌++◌, ap, sym, ◌∙◌}
 use Rattle.std.specs.String.{string_bytes}
 use Rattle.std.specs.Vec.Iter.{into_iter_items, into_iter_len}
-use Rattle.cq_outside.proofs.GivenWords.{first_off, one_kept, name_and_word, all_kept, always_on_err}
+use Rattle.cq_common.proofs.Refused.{always_on_err}
+use Rattle.cq_outside.proofs.GivenWords.{first_off, one_kept, name_and_word, all_kept}
 use Rattle.cq_outside.proofs.arguments.command_words.Goals as goal
 
 pub loop-word-init : goal.loop-word-init

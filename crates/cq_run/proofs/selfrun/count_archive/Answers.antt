@@ -1,6 +1,6 @@
 use Rattle.std.proofs.Common.{◌*◌, ◌≤◌, ◌^◌, [], length, Ok, Err, ap, sym, ◌∙◌, subst, arith, refl, rules}
 use Rattle.cq_batches.specs.Whole.{cut_games}
-use Rattle.cq_outside.specs.declared.faults.NoMemory.{NoMemory}
+use Rattle.cq_common.specs.declared.faults.NoMemory.{NoMemory}
 use Rattle.cq_shards.specs.Answers.{query_in}
 use Rattle.cq_run.specs.SelfRun.{totals_of}
 use Rattle.cq_run.specs.declared.totals.Totals.{Totals}

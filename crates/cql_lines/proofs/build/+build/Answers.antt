@@ -1,7 +1,7 @@
 use Rattle.std.proofs.Common.{◌≡◌, ◌∙◌, ℕ, ◌+◌, ◌-◌, ◌*◌, ◌<◌, ◌≤◌, ◌++◌, length, arith, rules, sym, ap, ap₂, subst, Some}
 use Rattle.std.proofs.lemmas.Nat.{mul-le}
 use Rattle.std.specs.Prelude.{IfOk, OnOk, bit_or}
-use Rattle.cq_outside.specs.Spelling.{Pattern, joined, repeated}
+use Rattle.cq_common.specs.Spelling.{Pattern, joined, repeated}
 use Rattle.cql_lines.specs.Building.{begins, size, firsts, firsts_times, rows, rows_times, nullable, null_times}
 use Rattle.cql_lines.specs.Places.{when}
 use Rattle.cql_lines.specs.TreeOf.{plain_tree}

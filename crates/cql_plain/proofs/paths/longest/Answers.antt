@@ -1,5 +1,5 @@
 use Rattle.std.proofs.Common.{◌≡◌, ◌+◌, ◌&&◌, length, get_or, false, ap, ◌∙◌, subst, arith}
-use Rattle.cq_outside.specs.Greatest.{IsGreatest}
+use Rattle.cq_common.specs.Greatest.{IsGreatest}
 use Rattle.cql_plain.proofs.Lengths.{IsLengthBelow, longest_more, longest_all}
 use Rattle.cql_plain.proofs.paths.longest.Goals as goal
 

@@ -1,4 +1,4 @@
-use Rattle.cq_outside.specs.Greatest.{IsGreatest}
+use Rattle.cq_common.specs.Greatest.{IsGreatest}
 use Rattle.cql_plain.proofs.Lengths.{IsLengthBelow}
 use Rattle.cql_plain.proofs.paths.longest.Given as goal
 

@@ -1,5 +1,5 @@
 use Rattle.std.proofs.Common.{◌≡◌, ◌≤◌, ◌<◌, Ok, Err, refl, ap, ◌∙◌, arith, rules}
-use Rattle.cq_outside.specs.declared.faults.Refusal.TheVariants.{Fault}
+use Rattle.cq_common.specs.declared.faults.Refusal.TheVariants.{Fault}
 use Rattle.cq_batches.specs.declared.state.BatchFault.TheVariants.{ReadFault, ArchiveTooLong}
 use Rattle.cq_batches.specs.Whole.{cut_games}
 use Rattle.pgn_json_run.specs.Writing.{pipe_of, sinks_of}

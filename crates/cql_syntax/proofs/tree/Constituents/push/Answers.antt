@@ -1,5 +1,5 @@
 use Rattle.std.proofs.Common.{ap, sym, ◌∙◌}
-use Rattle.cq_outside.proofs.GivenWords.{always_on_err}
+use Rattle.cq_common.proofs.Refused.{always_on_err}
 use Rattle.cql_syntax.specs.TreeOf.{body_tree, parts_in, part_trees}
 use Rattle.cql_syntax.specs.Trees.{with_part}
 use Rattle.cql_syntax.specs.declared.tree.Constituents.{out-roll-Constituents}

@@ -1,5 +1,5 @@
 use Rattle.std.proofs.Common.{ap, sym, ◌∙◌}
-use Rattle.cq_outside.proofs.GivenWords.{always_on_err}
+use Rattle.cq_common.proofs.Refused.{always_on_err}
 use Rattle.cql_syntax.specs.TreeOf.{filter_tree, filters_in, filter_trees}
 use Rattle.cql_syntax.specs.Trees.{with_filter}
 use Rattle.cql_syntax.specs.declared.tree.Filters.{out-roll-Filters}

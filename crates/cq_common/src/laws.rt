@@ -1,6 +1,6 @@
 //! Laws of the definitions, for proofs in other crates.
 ghost use Rattle.std.specs.Prelude.{ℕ};
-ghost use Rattle.cq_outside.specs.Spelling.{TestIsSpelling};
+ghost use Rattle.cq_common.specs.Spelling.{TestIsSpelling};
 
 /// A list passes the test of a pattern exactly where the pattern spells it.
 #[tactic(auto, using(crate::proofs::SpellingLaw::spelling_law))]

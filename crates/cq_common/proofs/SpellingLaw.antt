@@ -3,7 +3,7 @@ use Rattle.std.proofs.Common.{◌≡◌, ℕ, zero, suc, ◌+◌, ◌<◌, ◌�
 use Rattle.std.specs.Prelude.{◌⊎◌, ◌↔◌}
 use Rattle.std.specs.List.{list_any, range_with_len}
 use Rattle.std.proofs.lemmas.Bool.{cases_lt}
-use Rattle.cq_outside.specs.Spelling.{Pattern, one, nothing, joined, repeated, splits, is_empty, is_one, times, counts, spells, Times, Spells}
+use Rattle.cq_common.specs.Spelling.{Pattern, one, nothing, joined, repeated, splits, is_empty, is_one, times, counts, spells, Times, Spells}
 
 pub left : (a b : Bool) → (a && b) ≡ true → a ≡ true
 left true b e = refl

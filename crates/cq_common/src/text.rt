@@ -3,7 +3,7 @@ ghost use Rattle.std.specs.Prelude.{◌≡◌, ◌≤◌, length, min, take};
 ghost use Rattle.std.specs.List.{AllPass, prefix_len};
 ghost use Rattle.std.specs.Char.{is_ascii_digit};
 ghost use Rattle.std.specs.Str.Parse.{digits_value};
-ghost use Rattle.cq_outside.specs.Text.{is_white};
+ghost use Rattle.cq_common.specs.Text.{is_white};
 
 /// Whether a byte is white space: 0x09 to 0x0D, or the space, 0x20.
 pub fn is_white(b: u8) -> bool

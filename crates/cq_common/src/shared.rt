@@ -2,7 +2,6 @@
 
 use crate::bytes::Bytes;
 use crate::faults::{Failed, NoMemory, OpenFault, Refusal};
-use crate::gate::OpenGate;
 
 /// A type of which threads may share values, or hand them over.
 pub trait Shared: Send + Sync {}
@@ -16,5 +15,3 @@ impl Shared for Failed {}
 impl Shared for OpenFault {}
 
 impl<F: Shared> Shared for Refusal<F> {}
-
-impl Shared for OpenGate {}

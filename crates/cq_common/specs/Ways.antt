@@ -1,6 +1,6 @@
 -- Ways through a tree, and what a pattern spells on them.
 use Rattle.std.specs.Prelude.{◌≡◌, ℕ, suc, List, [], ◌∷◌, Bool, length}
-use Rattle.cq_outside.specs.Spelling.{Pattern, Spells}
+use Rattle.cq_common.specs.Spelling.{Pattern, Spells}
 
 -- the nodes of w follow n, each joined to the one before
 abbrev pub Follow : (ℕ → ℕ → Type 0) → ℕ → List ℕ → Type 0

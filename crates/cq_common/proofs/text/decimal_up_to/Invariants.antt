@@ -1,6 +1,6 @@
 use Rattle.std.proofs.Common.{◌≡◌, min, take}
 use Rattle.std.specs.Str.Parse.{digits_value}
-use Rattle.cq_outside.proofs.text.decimal_up_to.Given as goal
+use Rattle.cq_common.proofs.text.decimal_up_to.Given as goal
 
 abbrev pub invariant-loop-digit : goal.invariant-loop-digit
 invariant-loop-digit l = l.value ≡ min l.most (digits_value 10 (take l.digit-index l.digits))

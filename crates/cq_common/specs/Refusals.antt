@@ -1,7 +1,7 @@
 -- What a call gives that may also be refused as out of memory.
 use Rattle.std.specs.Prelude.{◌≡◌, Result, Ok, Err}
-use Rattle.cq_outside.specs.declared.faults.Refusal.{Refusal}
-use Rattle.cq_outside.specs.declared.faults.Refusal.TheVariants.{Fault, NoMemory}
+use Rattle.cq_common.specs.declared.faults.Refusal.{Refusal}
+use Rattle.cq_common.specs.declared.faults.Refusal.TheVariants.{Fault, NoMemory}
 
 -- the refusal is this fault, or out of memory
 abbrev pub Refuses : {Y E : Type 0} → Refusal E → Result Y E → Type 0

@@ -2,7 +2,7 @@
 use Rattle.std.proofs.Common.{◌≡◌, ℕ, zero, suc, ◌<◌, max, Bool, true, false, List, [], ◌∷◌, length, get_or, Option, Some, None, refl, sym, ap, ◌∙◌, subst, arith, inl, inr}
 use Rattle.std.specs.Prelude.{◌⊎◌, Contains, if◌then◌else◌}
 use Rattle.std.proofs.lemmas.Bool.{cases_lt}
-use Rattle.cq_outside.specs.Greatest.{IsGreatest, with_number, longer, longest}
+use Rattle.cq_common.specs.Greatest.{IsGreatest, with_number, longer, longest}
 
 pub greatest_with : (P Q : ℕ → Type 0) (best : Option ℕ) (counts : Bool) (n : ℕ) → ((m : ℕ) → P m → Q m) → (counts ≡ true → Q n)
     → ((m : ℕ) → Q m → P m ⊎ ((counts ≡ true) × (m ≡ n))) → IsGreatest P best → IsGreatest Q (with_number best counts n)

@@ -1,7 +1,7 @@
 //! Why a call may be refused.
 ghost use Rattle.std.specs.Prelude.{◌≡◌};
-ghost use Rattle.cq_outside.specs.declared.faults.OpenFault.TheVariants.{NoMemory as no_memory_to_open};
-ghost use Rattle.cq_outside.specs.declared.faults.Refusal.TheVariants.{NoMemory as no_memory_left};
+ghost use Rattle.cq_common.specs.declared.faults.OpenFault.TheVariants.{NoMemory as no_memory_to_open};
+ghost use Rattle.cq_common.specs.declared.faults.Refusal.TheVariants.{NoMemory as no_memory_left};
 
 use std::alloc::{AllocError, AllocFailed};
 

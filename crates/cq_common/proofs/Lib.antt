@@ -1,0 +1,5 @@
+pub mod Digits
+pub mod GreatestLaw
+pub mod Refused
+pub mod SpellingLaw
+pub mod WithinLaw

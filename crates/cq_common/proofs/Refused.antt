@@ -1,0 +1,7 @@
+-- What holds anyway holds where there is an error.
+use Rattle.std.proofs.Common.{Result, Ok, Err}
+use Rattle.std.specs.Prelude.{OnErr}
+
+pub always_on_err : {T E P : Type 0} (r : Result T E) → P → OnErr r P
+always_on_err (Ok value) p = tt
+always_on_err (Err e) p = p

@@ -1,0 +1,6 @@
+pub mod Greatest
+pub mod Refusals
+pub mod Spelling
+pub mod Text
+pub mod Ways
+pub mod Within
