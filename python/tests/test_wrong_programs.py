@@ -40,7 +40,7 @@ def test_a_wrong_program_is_read(crate: Path) -> None:
     text = "only: signs::sign\nfile: src/signs.rt\nold:     1\nnew:     3\nold:     2\nnew:     4\n"
     wrong = WRONG.read_wrong(text, crate)
     assert wrong.only == ["signs::sign"]
-    assert wrong.texts == {"src/signs.rt": CODE.replace("    1", "    3").replace("    2", "    4")}
+    assert WRONG.changed([wrong], crate) == {"src/signs.rt": CODE.replace("    1", "    3").replace("    2", "    4")}
 
 
 @pytest.mark.parametrize(
@@ -60,6 +60,19 @@ def test_a_wrong_program_is_read(crate: Path) -> None:
 def test_what_names_no_function_or_changes_nothing_is_no_wrong_program(crate: Path, text: str) -> None:
     with pytest.raises(WRONG.BadEdit):
         WRONG.read_wrong(text, crate)
+
+
+def test_those_that_change_different_functions_are_tried_together(crate: Path) -> None:
+    texts = [
+        "only: signs::sign\nfile: src/signs.rt\nold:     1\nnew:     3\n",
+        "only: signs::sign\nfile: src/signs.rt\nold: sign() -> u8\nnew: sign() -> u16\n",
+        "only: signs::other\nfile: src/signs.rt\nold:     1\nnew:     5\n",
+        "only: signs::other\nfile: src/signs.rt\nold:     2\nnew:     4\n",
+    ]
+    wrongs = [WRONG.read_wrong(text, crate) for text in texts]
+    group = WRONG.together(wrongs, crate)
+    assert group == [wrongs[0], wrongs[3]]
+    assert WRONG.changed(group, crate) == {"src/signs.rt": CODE.replace("    1", "    3").replace("    2", "    4")}
 
 
 NOTE = "note: src/signs.rt:1:1: it is not proved that what the function ensures holds when it returns (`returns`)\n"
@@ -84,6 +97,30 @@ def test_what_counts_as_a_refusal(status: int, said: str, is_refusal: bool, word
     is_refused, why = WRONG.judged(status, said)
     assert is_refused == is_refusal
     assert word in why
+
+
+NONE = "fn low::signs::sign: no proof: expected answers in ./proofs/signs/sign/Answers.antt; `search` did not prove `returns`\n"
+TERM = "./proofs/signs/sign/Answers.antt:3:1: error: `returns`: the two types differ\n"
+GONE = "./proofs/signs/sign/Answers.antt:3:1: error: `returns`: `c.sum` has no field `ensures`\n"
+
+
+@pytest.mark.parametrize(
+    ("status", "said", "line"),
+    [
+        (1, NONE + "fn low::signs::other: not proved\nonly=2 proved=0\n", NONE.strip()),
+        (1, TERM + "fn low::signs::sign: not proved\nonly=2 proved=0\n", TERM.strip()),
+        (1, GONE + TERM + "only=2 proved=0\n", TERM.strip()),
+        (1, GONE + "fn low::signs::sign: not proved\nonly=2 proved=0\n", None),
+        (1, "fn low::signs::sign: not proved\nonly=2 proved=0\n", None),
+        (1, "fn low::signs::sign: proved\nfn low::signs::other: not proved\nonly=2 proved=1\n", None),
+        (1, NONE.replace("sign:", "sign_of:") + "only=2 proved=0\n", None),
+        (1, TERM.replace("sign/", "other/") + "only=2 proved=0\n", None),
+        (2, NONE + "only=2 proved=0\n", None),
+        (1, NONE + "error[mismatched-types]: expected u8\n", None),
+    ],
+)
+def test_a_check_of_several_tells_of_each_function_by_its_own_lines(status: int, said: str, line: str | None) -> None:
+    assert WRONG.refusal_of("signs::sign", "low", status, said) == line
 
 
 def test_a_library_counts_once_this_run_has_made_it_and_it_stands(tmp_path: Path) -> None:
