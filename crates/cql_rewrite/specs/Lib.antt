@@ -1,4 +1,2 @@
-pub mod FlatText
 pub mod Kept
 pub mod Meant
-pub mod Sums

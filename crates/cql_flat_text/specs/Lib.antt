@@ -1,0 +1,2 @@
+pub mod FlatText
+pub mod Sums
