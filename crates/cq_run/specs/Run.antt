@@ -13,7 +13,7 @@ use Rattle.cq_words.specs.Line.{line}
 use Rattle.cq_words.specs.declared.job.Job.{Job}
 use Rattle.cq_words.specs.declared.job.Job.TheVariants.{Run, Eval, Check, Explain, SelfRun, Many}
 use Rattle.cq_maker.specs.Made.{made}
-use Rattle.cql_rewrite.specs.FlatText.{items_text}
+use Rattle.cql_flat_text.specs.FlatText.{items_text}
 use Rattle.cql_syntax.specs.Flat.{flat_query}
 use Rattle.cql_syntax.specs.Trees.{QueryTree}
 use Rattle.cql_syntax.specs.declared.fault.QueryFault.{QueryFault}

@@ -1,6 +1,6 @@
 -- The text of a filter does not depend on its places.
 use Rattle.std.proofs.Common.{◌≡◌, ℕ, Bool, true, false, List, [], ◌∷◌, Option, None, Some, refl, sym, ap, ap₂, ◌∙◌}
-use Rattle.cql_rewrite.specs.FlatText.{in_parens, in_move, with_term_text, quoted, marked_text, chain_word, pair_word, square_word, sort_word, any_word, line_start, text, form_text, texts, sum_after, part_texts, body_text, written_text, items_text, sign_word}
+use Rattle.cql_flat_text.specs.FlatText.{in_parens, in_move, with_term_text, quoted, marked_text, chain_word, pair_word, square_word, sort_word, any_word, line_start, text, form_text, texts, sum_after, part_texts, body_text, written_text, items_text, sign_word}
 use Rattle.cql_syntax.specs.Trees.{FilterTree, filter_at, FormTree, designator, number, name, plain, tagged, outcome, elo, unary, direction, chain, sum_of, pair, if_, square, line, played, transform, sort, comment, any, FilterTrees, no_filters, more_filters, TermTrees, no_terms, more_terms, path, move_of, WrittenTree, left_out, written, PartTrees, no_parts, more_parts, BodyTree, atom, group}
 use Rattle.cql_syntax.specs.Unplaced.{with_places, form_with, all_with, terms_with, written_with, parts_with, body_with, unplaced, same_unplaced}
 use Rattle.cql_syntax.specs.Words.{word_text, unary_text, way_text, family_text}

@@ -1,7 +1,7 @@
 -- Where the number of a part stands in a table of numbers, by the text of the part.
 use Rattle.std.specs.Prelude.{◌≡◌, ℕ, zero, suc, ◌+◌, ◌*◌, ◌%◌, ◌<◌, ◌==◌, Bool, true, List, [], ◌∷◌, fold, length, get_or}
 use Rattle.std.specs.List.{list_any}
-use Rattle.cql_rewrite.specs.FlatText.{items_text}
+use Rattle.cql_flat_text.specs.FlatText.{items_text}
 use Rattle.cq_shared.specs.Parts.{PartTree, alone}
 use Rattle.cq_shared.specs.declared.table.Place.{Place}
 

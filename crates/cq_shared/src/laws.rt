@@ -2,7 +2,7 @@
 ghost use Rattle.std.specs.Prelude.{◌≡◌, ℕ, [], true, false};
 ghost use Rattle.std.specs.List.{list_all};
 ghost use Rattle.cq_position.specs.Search.{SearchedTree};
-ghost use Rattle.cql_rewrite.specs.FlatText.{items_text};
+ghost use Rattle.cql_flat_text.specs.FlatText.{items_text};
 ghost use Rattle.cql_syntax.specs.FlatItems.{has_family, kinds_agree, break_no_rule};
 ghost use Rattle.cql_syntax.specs.Hits.{is_hit};
 ghost use Rattle.cql_syntax.specs.Meaning.{value};
