@@ -1,10 +1,1 @@
-pub mod Outcomes
-pub mod Order
-pub mod Comparing
-pub mod OrderRows
 pub mod Answers
-pub mod Work
-pub mod Rows
-pub mod Many
-pub mod FirstMatch
-pub mod Finders

@@ -1,0 +1,17 @@
+pub mod Comparing
+pub mod Orders
+pub mod Items
+pub mod OrderRows
+pub mod Counts
+pub mod OnlyOrder
+pub mod OneWay
+pub mod Values
+pub mod Braces
+pub mod Found
+pub mod Counting
+pub mod Makings
+pub mod RowAnswers
+pub mod Takings
+pub mod Beside
+pub mod FinderAnswers
+pub mod UpToFirst

@@ -1,8 +1,0 @@
-use Rattle.std.proofs.Common.{ap, sym, ◌∙◌}
-use Rattle.cq_shards.specs.Answers.{answer_of, query_in}
-use Rattle.cq_shards.proofs.answering.answer_read.Goals as goal
-
-pub returns-in-Err : goal.returns-in-Err
-returns-in-Err c =
-    let query = query_in c.args.plan.now in
-    c.refused.ensures query ∙ ap (answer_of query c.args.index) (sym c.in-Err.is)

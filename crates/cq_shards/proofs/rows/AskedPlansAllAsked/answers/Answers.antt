@@ -1,0 +1,45 @@
+use Rattle.std.proofs.Common.{◌-◌, ap, arith, Ok, ◌∙◌}
+use Rattle.cql_syntax.specs.TreeOf.{query_tree}
+use Rattle.cq_shared.specs.Plans.{queries_of, trees_of}
+use Rattle.cq_shared.specs.Verdicts as all
+use Rattle.cq_answered.specs.Answers.{answer_of}
+use Rattle.cq_answered.proofs.RowAnswers.{one_back}
+use Rattle.cq_shards.proofs.RowAnswers.{hits_at, keys_at, tree_at, tree_count}
+use Rattle.cq_shards.proofs.rows.AskedPlansAllAsked.answers.Goals as goal
+
+pub answer_found-requires-clause-nodes : goal.answer_found-requires-clause-nodes
+answer_found-requires-clause-nodes c =
+    let queries = queries_of c.args.self.now.plan.now in
+    let query = c.query-query.result.now in
+    let some = c.loop-q-test.true in
+    let most = c.loop-q.auto.q in
+    let is = c.len-q.ensures in
+    let many = tree_count queries in
+    c.nodes.ensures ∙ hits_at (trees_of queries) c.args.game.now (all.nodes_of c.in_ok-found.found) (c.loop-q.q - 1) (query_tree query.query) (omega (arith, some, most, is, many))
+    (tree_at queries (c.loop-q.q - 1) query (omega (arith, some, most, is)) c.query-query.ensures) c.in_ok-found.ensures.nodes
+
+pub answer_found-requires-clause-keys : goal.answer_found-requires-clause-keys
+answer_found-requires-clause-keys c =
+    let queries = queries_of c.args.self.now.plan.now in
+    let query = c.query-query.result.now in
+    let some = c.loop-q-test.true in
+    let most = c.loop-q.auto.q in
+    let is = c.len-q.ensures in
+    let many = tree_count queries in
+    let found = c.in_ok-found.found in
+    keys_at c.args.game.now (trees_of queries) (all.nodes_of found) (all.keys_of found) (c.loop-q.q - 1) (query_tree query.query) c.nodes.result.now c.keys.result.now
+    c.in_ok-found.ensures.keys (omega (arith, some, most, is, many)) (tree_at queries (c.loop-q.q - 1) query (omega (arith, some, most, is)) c.query-query.ensures) c.nodes.ensures c.keys.ensures
+
+pub loop-q-preserved : goal.loop-q-preserved
+loop-q-preserved c =
+    let queries = queries_of c.args.self.now.plan.now in
+    let query = c.query-query.result.now in
+    let some = c.loop-q-test.true in
+    let most = c.loop-q.auto.q in
+    let is = c.len-q.ensures in
+    let many = tree_count queries in
+    one_back (trees_of queries) c.loop-q.q (query_tree query.query) c.args.index (Ok c.args.game.now) c.loop-q.answers.items c.push.new.self.items c.in_ok-answer.answer
+    (omega (arith, some)) (omega (arith, most, is, many)) c.loop-q.invariant
+    (c.in_ok-answer.ensures
+    ∙ ap (λ q. answer_of q c.args.index (Ok c.args.game.now)) (tree_at queries (c.loop-q.q - 1) query (omega (arith, some, most, is)) c.query-query.ensures))
+    c.in_ok-push.ensures.items
