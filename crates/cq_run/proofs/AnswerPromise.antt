@@ -7,7 +7,7 @@ use Rattle.cql_syntax.specs.Trees.{QueryTree}
 use Rattle.pgn_cut.specs.Cut.{closed}
 use Rattle.pgn_cut.specs.Joined.{game_bytes}
 use Rattle.pgn_cut.specs.declared.span.Span.{Span}
-use Rattle.cq_shards.specs.Outcomes.{Outcome}
+use Rattle.cq_answered.specs.Outcomes.{Outcome}
 use Rattle.cq_run.specs.declared.status.Status.TheVariants.{NoMemory}
 use Rattle.cq_run.specs.AllGames.{texts_of, texts_so_far}
 use Rattle.cq_run.specs.ByBatches.{HaveOutcomes}

@@ -14,10 +14,10 @@ use Rattle.cq_batches.specs.declared.state.BatchFault.{BatchFault}
 use Rattle.cq_batches.specs.declared.state.BatchFault.TheVariants.{ReadFault, ArchiveTooLong}
 use Rattle.cq_outside.specs.Faults.{Rose}
 use Rattle.cq_common.specs.declared.faults.Refusal.TheVariants.{Fault}
-use Rattle.cq_shards.specs.Answers.{AnswersBatch, answers_from, found_in, text_of}
-use Rattle.cq_shards.specs.Outcomes.{Outcome}
-use Rattle.cq_shards.specs.declared.answers.Answer.TheVariants.{Match, Miss, Refused}
-use Rattle.cq_shards.specs.declared.answers.GameAnswer.{GameAnswer}
+use Rattle.cq_answered.specs.Answers.{AnswersBatch, answers_from, found_in, text_of}
+use Rattle.cq_answered.specs.Outcomes.{Outcome}
+use Rattle.cq_answered.specs.declared.answers.Answer.TheVariants.{Match, Miss, Refused}
+use Rattle.cq_answered.specs.declared.answers.GameAnswer.{GameAnswer}
 use Rattle.cql_syntax.specs.Hits.{marked}
 use Rattle.cql_syntax.specs.Trees.{QueryTree}
 use Rattle.pgn_cut.specs.Cut.{cut}

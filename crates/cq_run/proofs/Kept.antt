@@ -8,13 +8,13 @@ use Rattle.cq_outside.specs.Flow.{Grew}
 use Rattle.cq_common.specs.declared.faults.Failed.{Failed}
 use Rattle.cq_common.specs.declared.faults.Refusal.{Refusal}
 use Rattle.cq_common.specs.declared.faults.Refusal.TheVariants.{Fault, NoMemory as IsNoMemory}
-use Rattle.cq_shards.specs.Order.{AreApart, ComesBefore, HasKeys, directions, is_match}
-use Rattle.cq_shards.specs.declared.answers.GameAnswer.{GameAnswer}
+use Rattle.cq_answered.specs.Order.{AreApart, ComesBefore, HasKeys, directions, is_match}
+use Rattle.cq_answered.specs.declared.answers.GameAnswer.{GameAnswer}
 use Rattle.cql_syntax.specs.TreeOf.{query_tree}
 use Rattle.cql_syntax.specs.Trees.{QueryTree}
 use Rattle.cql_syntax.specs.declared.typed.TypedQuery.{TypedQuery}
 use Rattle.cq_run.specs.Exports.{exports_of}
-use Rattle.cq_shards.specs.Answers.{text_of}
+use Rattle.cq_answered.specs.Answers.{text_of}
 use Rattle.cq_run.specs.Promise.{SinkView}
 use Rattle.cq_run.specs.Writing.{InOrder, WritesKept, WritesText}
 use Rattle.cq_run.proofs.Sinks.{grew_on, Took, took_count, took_on, prefix_of}

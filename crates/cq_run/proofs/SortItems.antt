@@ -1,7 +1,7 @@
 -- Items that are a `sort`.
 use Rattle.std.proofs.Common.{◌≡◌, Bool, ◌||◌, List, [], ◌∷◌, ◌++◌, refl, ap, ◌∙◌}
 use Rattle.std.specs.List.{list_any}
-use Rattle.cq_shards.specs.Order.{filter_directions, directions}
+use Rattle.cq_answered.specs.Order.{filter_directions, directions}
 use Rattle.cql_syntax.specs.TreeOf.{filter_tree, filter_trees}
 use Rattle.cql_syntax.specs.declared.tree.Filter.{Filter}
 use Rattle.cq_run.specs.Sorts.{is_some, is_sort, have_sort}

@@ -4,9 +4,9 @@ use Rattle.std.specs.Prelude.{Result, IfOk, AllPairs}
 use Rattle.std.specs.List.Sorted.{IsPermutation}
 use Rattle.cq_batches.specs.declared.batch.Batch.{Batch}
 use Rattle.cql_syntax.specs.Trees.{QueryTree}
-use Rattle.cq_shards.specs.declared.answers.GameAnswer.{GameAnswer}
-use Rattle.cq_shards.specs.Answers.{AnswersBatch, AreAnswersOf}
-use Rattle.cq_shards.specs.Order.{AreApart, IsEarlier}
+use Rattle.cq_answered.specs.declared.answers.GameAnswer.{GameAnswer}
+use Rattle.cq_answered.specs.Answers.{AnswersBatch, AreAnswersOf}
+use Rattle.cq_answered.specs.Order.{AreApart, IsEarlier}
 
 -- sorted answers stand beside their games
 abbrev pub StandBeside : Type 0

@@ -1,12 +1,12 @@
 -- What a query finds in games, and how it is written.
 use Rattle.std.specs.Prelude.{ℕ, ◌+◌, Bool, true, false, List, [], ◌∷◌, ◌++◌, length, count_by, Ok, Err, if◌then◌else◌}
 use Rattle.pgn_export.specs.Export.{export_text}
-use Rattle.cq_shards.specs.Answers.{has_match}
+use Rattle.cq_answered.specs.Answers.{has_match}
 use Rattle.cq_report.specs.Games.{fault_line, summary_line}
 use Rattle.cq_run.specs.declared.tally.Tally.{Tally}
 use Rattle.cql_syntax.specs.Hits.{marked}
 use Rattle.cql_syntax.specs.Trees.{QueryTree}
-use Rattle.cq_shards.specs.Outcomes.{Outcome}
+use Rattle.cq_answered.specs.Outcomes.{Outcome}
 
 -- a game that matches is exported with its marks, any other is not
 abbrev pub export_if : QueryTree → Outcome → List ℕ

@@ -3,7 +3,7 @@ use Rattle.std.specs.Prelude.{◌≡◌, ◌↔◌, ℕ, ◌+◌, Bool, List, ta
 use Rattle.cq_batches.specs.Laws.{Laws as BatchLaws}
 use Rattle.pgn_reader.specs.Limits.{longest}
 use Rattle.pgn_reader.specs.Verdict.{IsRead}
-use Rattle.cq_shards.specs.Outcomes.{Outcome}
+use Rattle.cq_answered.specs.Outcomes.{Outcome}
 
 -- all games have outcomes
 abbrev pub HaveOutcomes : Type 0

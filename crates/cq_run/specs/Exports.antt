@@ -5,11 +5,11 @@ use Rattle.std.specs.List.Sorted.{IsPermutation}
 use Rattle.pgn_export.specs.Export.{export_text}
 use Rattle.cql_syntax.specs.Hits.{marked, keys}
 use Rattle.cql_syntax.specs.Trees.{QueryTree}
-use Rattle.cq_shards.specs.Order.{ComesBefore, directions, values_in}
-use Rattle.cq_shards.specs.declared.answers.Answer.TheVariants.{Match}
-use Rattle.cq_shards.specs.declared.answers.GameAnswer.{GameAnswer}
-use Rattle.cq_shards.specs.Answers.{has_match, text_of}
-use Rattle.cq_shards.specs.Outcomes.{Outcome}
+use Rattle.cq_answered.specs.Order.{ComesBefore, directions, values_in}
+use Rattle.cq_answered.specs.declared.answers.Answer.TheVariants.{Match}
+use Rattle.cq_answered.specs.declared.answers.GameAnswer.{GameAnswer}
+use Rattle.cq_answered.specs.Answers.{has_match, text_of}
+use Rattle.cq_answered.specs.Outcomes.{Outcome}
 
 -- a game that matches: its number from 0, its export with its marks, and its keys
 abbrev pub match_if : QueryTree → ℕ → Outcome → List GameAnswer

@@ -4,7 +4,7 @@ use Rattle.pgn_cut.specs.declared.span.Span.{Span}
 use Rattle.pgn_cut.specs.Joined.{game_bytes}
 use Rattle.pgn_cut.specs.Cut.{cut}
 use Rattle.pgn_reader.specs.Verdict.{IsRead}
-use Rattle.cq_shards.specs.Outcomes.{Outcome}
+use Rattle.cq_answered.specs.Outcomes.{Outcome}
 
 -- the games of some spans of an archive are read as these
 abbrev pub AreRead : List ℕ → List Span → List Outcome → Type 0

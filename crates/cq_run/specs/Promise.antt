@@ -6,7 +6,7 @@ use Rattle.cq_batches.specs.Whole.{whole_spans}
 use Rattle.cq_outside.specs.Faults.{Rose}
 use Rattle.cq_outside.specs.Flow.{Grew, TakesAtMost}
 use Rattle.cq_outside.specs.Told.{Told}
-use Rattle.cq_shards.specs.Outcomes.{Outcome}
+use Rattle.cq_answered.specs.Outcomes.{Outcome}
 use Rattle.pgn_cut.specs.Cut.{closed}
 use Rattle.pgn_cut.specs.declared.span.Span.{Span}
 use Rattle.cq_run.specs.declared.status.Status.{Status}

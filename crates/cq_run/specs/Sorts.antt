@@ -1,7 +1,7 @@
 -- Queries with an item by which games are sorted.
 use Rattle.std.specs.Prelude.{Bool, true, false, List, [], ◌∷◌}
 use Rattle.cql_syntax.specs.Trees.{FilterTree, FilterTrees}
-use Rattle.cq_shards.specs.Order.{filter_directions, directions}
+use Rattle.cq_answered.specs.Order.{filter_directions, directions}
 
 -- whether there is a direction
 abbrev pub is_some : List Bool → Bool

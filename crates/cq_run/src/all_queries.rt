@@ -4,7 +4,7 @@ ghost use Rattle.std.specs.Fn.{FnReturnsAt};
 ghost use Rattle.std.specs.Thread.{IsSync};
 ghost use Rattle.cq_batches.specs.declared.batch.Batch.{Batch};
 ghost use Rattle.cq_shared.specs.Plans.{queries_of, trees_of};
-ghost use Rattle.cq_shards.specs.Many.{AreManyOf, answers_in};
+ghost use Rattle.cq_answered.specs.Many.{AreManyOf, answers_in};
 ghost use Rattle.cq_run.specs.ManyQueries.{faults_alone, texts_of_all};
 ghost use Rattle.cq_run.specs.ManyWriting.{FoundByAll};
 ghost use Rattle.cq_run.specs.Promise.{AnswerPromise, source_view, sink_view, sinks_of};

@@ -3,7 +3,7 @@ ghost use Rattle.std.specs.Prelude.{IfOk};
 ghost use Rattle.std.specs.Fn.{FnReturnsAt};
 ghost use Rattle.std.specs.Thread.{IsSync};
 ghost use Rattle.cq_batches.specs.declared.batch.Batch.{Batch};
-ghost use Rattle.cq_shards.specs.FirstMatch.{AnswersUpToFirst};
+ghost use Rattle.cq_answered.specs.FirstMatch.{AnswersUpToFirst};
 ghost use Rattle.cq_shards.specs.Answers.{query_in};
 ghost use Rattle.cq_run.specs.FirstGame.{first_texts};
 ghost use Rattle.cq_run.specs.Promise.{AnswerPromise, source_view, sink_view, sinks_of};

@@ -3,7 +3,7 @@ ghost use Rattle.std.specs.Prelude.{◌≡◌, ◌+◌, ◌≤◌, ◌^◌, List
 ghost use Rattle.std.specs.List.{flat_map};
 ghost use Rattle.cq_report.specs.Games.{summary_line as line_of};
 ghost use Rattle.cq_shared.specs.Plans.{queries_of, trees_of};
-ghost use Rattle.cq_shards.specs.Outcomes.{Outcome};
+ghost use Rattle.cq_answered.specs.Outcomes.{Outcome};
 ghost use Rattle.cq_run.specs.Exports.{exports_of};
 ghost use Rattle.cq_run.specs.ManyQueries.{output_of, outputs_from, texts_of_all};
 ghost use Rattle.cq_run.specs.ManyWriting.{AreInOrder, FoundByAll, WritesOut};

@@ -1,7 +1,7 @@
 use Rattle.std.proofs.Common.{◌+◌, ap, sym, subst, ◌∙◌}
 use Rattle.cq_run.specs.Promise.{sink_view, sinks_of}
 use Rattle.cq_run.specs.Writing.{stand_of, AnswersGame, WritesText}
-use Rattle.cq_shards.specs.declared.answers.GameAnswer.{GameAnswer}
+use Rattle.cq_answered.specs.declared.answers.GameAnswer.{GameAnswer}
 use Rattle.cq_run.specs.declared.tally.Tally.{Tally}
 use Rattle.cq_run.proofs.GameByGame.{matched}
 use Rattle.cq_run.proofs.output.write_answer.Goals as goal

@@ -1,5 +1,5 @@
 use Rattle.std.proofs.Common.{Global, Vec, map, Ok, Err, ap, ◌∙◌}
-use Rattle.cq_shards.specs.declared.answers.GameAnswer.{GameAnswer}
+use Rattle.cq_answered.specs.declared.answers.GameAnswer.{GameAnswer}
 use Rattle.cq_shared.specs.Plans.{queries_of, trees_of}
 use Rattle.cq_run.specs.ManyQueries.{texts_of_all}
 use Rattle.cq_run.specs.Promise.{sink_view, sinks_of}

@@ -3,7 +3,7 @@ use Rattle.std.proofs.Common.{◌++◌, refl, ap, sym, ◌∙◌, arith, map, su
 use Rattle.std.proofs.lemmas.List.{length-map}
 use Rattle.cq_batches.specs.Games.{games_of}
 use Rattle.cq_shared.specs.Plans.{queries_of, trees_of}
-use Rattle.cq_shards.specs.Many.{answers_in}
+use Rattle.cq_answered.specs.Many.{answers_in}
 use Rattle.cq_run.specs.ManyQueries.{faults_alone}
 use Rattle.cq_run.specs.ManyWriting.{FoundByAll}
 use Rattle.cq_run.specs.Promise.{sink_view, sinks_of}
