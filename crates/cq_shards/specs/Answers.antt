@@ -1,6 +1,6 @@
 -- The query whose answers a plan gives.
-use Rattle.cql_plan.specs.Plans.{query_of}
-use Rattle.cql_plan.specs.declared.plan.Plan.{Plan}
+use Rattle.cql_needs.specs.Plans.{query_of}
+use Rattle.cql_needs.specs.declared.plan.Plan.{Plan}
 use Rattle.cql_syntax.specs.TreeOf.{query_tree}
 use Rattle.cql_syntax.specs.Trees.{QueryTree}
 

@@ -4,7 +4,7 @@ use Rattle.std.specs.List.{list_any}
 use Rattle.std.proofs.lemmas.Bool.{cases_lt, lt-ltb, le-ltb, and_parts, and_from, or_left, or_right, ltb-true}
 use Rattle.std.proofs.lemmas.List.{take_more, take_all}
 use Rattle.cq_position.specs.Games.{Game, is_searched}
-use Rattle.cql_plan.specs.Needs.{query_passes}
+use Rattle.cql_needs.specs.Needs.{query_passes}
 use Rattle.cql_syntax.specs.Flat.{flat_query}
 use Rattle.cql_syntax.specs.Leaves.{same_flag}
 use Rattle.cql_syntax.specs.Trees.{FilterTree, QueryTree}

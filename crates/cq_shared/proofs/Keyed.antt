@@ -6,7 +6,7 @@ use Rattle.std.proofs.lemmas.Bool.{and_parts, and_from}
 use Rattle.std.proofs.lemmas.List.{drop_all, append-nil, drop_more}
 use Rattle.cq_position.specs.Search.{SearchedTree}
 use Rattle.cql_columns.specs.Classes.{form_class, filter_class}
-use Rattle.cql_plan.specs.Rows.{key_in}
+use Rattle.cql_needs.specs.Rows.{key_in}
 use Rattle.cql_syntax.specs.Hits.{all_keys, item_keys, chosen}
 use Rattle.cql_syntax.specs.Meaning.{value}
 use Rattle.cql_syntax.specs.Trees.{FilterTree, filter_at, FormTree, designator, number, name, plain, tagged, outcome, elo, unary, direction, chain, sum_of, pair, if_, square, line, played, transform, sort, comment, any, FilterTrees, no_filters, more_filters}

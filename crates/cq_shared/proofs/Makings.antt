@@ -3,7 +3,7 @@ use Rattle.std.proofs.Common.{◌≡◌, ℕ, zero, suc, ◌+◌, ◌<◌, ◌�
 use Rattle.std.specs.Prelude.{◌==◌}
 use Rattle.std.proofs.lemmas.Bool.{ne_eqb, eq-eqb, and_from, and_parts, cases_lt}
 use Rattle.std.proofs.lemmas.List.{append-nil, take_more}
-use Rattle.cql_plan.specs.Plans.{query_of}
+use Rattle.cql_needs.specs.Plans.{query_of}
 use Rattle.cql_syntax.specs.Flat.{flat_query}
 use Rattle.cql_syntax.specs.Leaves.{same_flag}
 use Rattle.cql_syntax.specs.Same.{same_filter}

@@ -9,8 +9,8 @@ use Rattle.cq_position.specs.Games.{Game, numbers, is_searched, searched}
 use Rattle.cq_position.specs.Search.{SearchedTree}
 use Rattle.cql_columns.specs.Classes.{filter_class}
 use Rattle.cql_columns.specs.Columns.{is_live}
-use Rattle.cql_plan.specs.Needs.{query_passes}
-use Rattle.cql_plan.specs.Rows.{key_in}
+use Rattle.cql_needs.specs.Needs.{query_passes}
+use Rattle.cql_needs.specs.Rows.{key_in}
 use Rattle.cql_syntax.specs.Flat.{flat_query}
 use Rattle.cql_syntax.specs.Hits.{hits, keys, all_keys, item_keys, is_hit, tree_of}
 use Rattle.cql_syntax.specs.Leaves.{same_flag}

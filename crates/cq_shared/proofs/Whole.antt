@@ -7,7 +7,7 @@ use Rattle.std.proofs.lemmas.List.Elements.{All-map}
 use Rattle.std.proofs.lemmas.List.FromFn.{length-range_with_len, get_or-range_with_len}
 use Rattle.std.proofs.lemmas.List.Kept.{AllPairs-filter}
 use Rattle.cq_position.specs.Games.{Game, numbers, is_searched, searched}
-use Rattle.cql_plan.specs.Plans.{query_of}
+use Rattle.cql_needs.specs.Plans.{query_of}
 use Rattle.cql_syntax.specs.Hits.{hits, is_hit, tree_of}
 use Rattle.cql_syntax.specs.Trees.{QueryTree}
 use Rattle.cq_shared.specs.Askers.{asked_query, AreAskers}

@@ -1,6 +1,6 @@
 -- What a plan of several queries keeps of each of them.
 use Rattle.std.specs.Prelude.{◌≡◌, ℕ, ◌<◌, ◌≤◌, true, false, List, get_or, length}
-use Rattle.cql_plan.specs.Plans.{query_of}
+use Rattle.cql_needs.specs.Plans.{query_of}
 use Rattle.cql_syntax.specs.Flat.{flat_query}
 use Rattle.cql_syntax.specs.TreeOf.{query_tree}
 use Rattle.cql_syntax.specs.Trees.{QueryTree}

@@ -1,7 +1,7 @@
 -- The nodes at which a query is asked at first: the searched nodes of a game that has what the query needs.
 use Rattle.std.specs.Prelude.{◌≡◌, ℕ, ◌<◌, ◌&&◌, nat_lt, Bool, List, get_or, length}
 use Rattle.cq_position.specs.Games.{Game, is_searched}
-use Rattle.cql_plan.specs.Needs.{query_passes}
+use Rattle.cql_needs.specs.Needs.{query_passes}
 use Rattle.cql_syntax.specs.Trees.{QueryTree}
 use Rattle.cq_shared.specs.Askers.{asked_query}
 use Rattle.cq_shared.specs.Matching.{is_left}

@@ -1,6 +1,6 @@
 -- Plans of several queries as their callers see them.
 use Rattle.std.specs.Prelude.{List, map}
-use Rattle.cql_plan.specs.Plans.{query_of}
+use Rattle.cql_needs.specs.Plans.{query_of}
 use Rattle.cql_syntax.specs.TreeOf.{query_tree}
 use Rattle.cql_syntax.specs.Trees.{QueryTree}
 use Rattle.cql_syntax.specs.declared.typed.TypedQuery.{TypedQuery}

@@ -3,7 +3,7 @@ use Rattle.std.specs.Prelude.{◌≡◌, ℕ, zero, suc, ◌<◌, ◌&&◌, Bool
 use Rattle.std.specs.List.{filter}
 use Rattle.cq_position.specs.Games.{Game, numbers}
 use Rattle.cql_columns.specs.Columns.{is_live, Where}
-use Rattle.cql_plan.specs.Rows.{key_in}
+use Rattle.cql_needs.specs.Rows.{key_in}
 use Rattle.cql_syntax.specs.Flat.{flat_query}
 use Rattle.cql_syntax.specs.Hits.{is_hit, tree_of}
 use Rattle.cql_syntax.specs.Trees.{FilterTree, filter_at, FormTree, sort, QueryTree}

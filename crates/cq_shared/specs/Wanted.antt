@@ -2,7 +2,7 @@
 use Rattle.std.specs.Prelude.{◌≡◌, ℕ, ◌+◌, ◌<◌, ◌≤◌, ◌&&◌, Bool, true, List, get_or, length}
 use Rattle.std.specs.List.{list_any, filter}
 use Rattle.cq_position.specs.Games.{Game}
-use Rattle.cql_plan.specs.Needs.{query_passes}
+use Rattle.cql_needs.specs.Needs.{query_passes}
 use Rattle.cql_syntax.specs.Trees.{QueryTree}
 use Rattle.cq_shared.specs.Matching.{cost_if, costs_if, IsWanted}
 use Rattle.cq_shared.specs.Parts.{PartTree, same_part, parts_in}

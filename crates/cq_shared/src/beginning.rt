@@ -7,7 +7,7 @@ ghost use Rattle.cq_shared.specs.Beginning.{begins, HaveBegun};
 use crate::nodes::Nodes;
 use crate::part::Asker;
 use cq_common::NoMemory;
-use cql_plan::may_hold;
+use cql_needs::may_hold;
 use cql_values::walks::is_searched;
 use pgn_tree::Game;
 use std::alloc::Global;

@@ -13,7 +13,7 @@ use crate::nodes::{Nodes, Row, Sorted};
 use crate::part::{Asker, Part};
 use crate::verdicts::{Found, Verdicts};
 use cq_common::NoMemory;
-use cql_plan::laws::games_with_a_hit_pass;
+use cql_needs::laws::games_with_a_hit_pass;
 use cql_values::walks::push_if;
 use pgn_tree::Game;
 use std::alloc::Global;

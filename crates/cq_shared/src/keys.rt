@@ -8,7 +8,7 @@ use crate::nodes::Row;
 use crate::part::{Asker, Part};
 use crate::single::reading::filter_of;
 use cq_common::NoMemory;
-use cql_plan::key_over;
+use cql_needs::key_over;
 use cql_syntax::{Filter, Form};
 use std::alloc::Global;
 

@@ -5,7 +5,7 @@ ghost use Rattle.cql_syntax.specs.TreeOf.{filters_tree};
 ghost use Rattle.cq_shared.specs.Parts.{first_of};
 
 use crate::single::Single;
-use cql_plan::Plan;
+use cql_needs::Plan;
 use cql_syntax::Filter;
 
 /// A part, its class, a guess at what it costs to ask, and the numbers of the queries that have it, each as often as the query has it.

@@ -1,12 +1,10 @@
 -- The items of a query one by one, and the nodes of a game.
-use Rattle.std.proofs.Common.{AllPairs, All, ◌≡◌, ℕ, ◌+◌, ◌<◌, Bool, true, false, ◌&&◌, List, [], ◌∷◌, ◌++◌, length, refl, sym, ap, ◌∙◌, arith, map}
+use Rattle.std.proofs.Common.{◌≡◌, ℕ, ◌+◌, Bool, true, false, ◌&&◌, List, [], ◌∷◌, ◌++◌, length, refl, sym, ap, ◌∙◌, arith, map}
 use Rattle.std.specs.Prelude.{cond, if◌then◌else◌}
 use Rattle.std.specs.List.{list_all, filter, range_with_len}
 use Rattle.std.proofs.lemmas.List.Folds.{list_all-map}
 use Rattle.std.proofs.lemmas.List.{map-id}
-use Rattle.std.proofs.lemmas.List.Kept.{AllPairs-filter}
-use Rattle.std.proofs.lemmas.List.Elements.{All-filter}
-use Rattle.std.proofs.lemmas.List.FromFn.{length-range_with_len, get_or-range_with_len, filter_of_map_range_with_len_more}
+use Rattle.std.proofs.lemmas.List.FromFn.{filter_of_map_range_with_len_more}
 use Rattle.cq_position.specs.Games.{is_searched, searched}
 use Rattle.cq_position.specs.Search.{SearchedTree}
 use Rattle.cql_syntax.specs.Hits.{is_hit, hits_in}
@@ -58,29 +56,3 @@ pub all_found : (tree : SearchedTree) (items : FilterTrees)
     → found_below (is_searched tree.variations tree.game.nodes) (is_hit tree items) (length tree.game.nodes) ≡ hits_in tree items
 unfolding searched
 all_found tree items = refl
-
-range_increases : (n : ℕ) → AllPairs (λ i j. i < j) (range_with_len 0 n)
-range_increases n = λ i j d before below.
-    let inside : j < n = omega (arith, below, length-range_with_len 0 n) in
-    omega (arith, before, get_or-range_with_len 0 n i d (omega (arith, before, inside)), get_or-range_with_len 0 n j d inside)
-
-range_is_below : (n : ℕ) → All (λ i. i < n) (range_with_len 0 n)
-range_is_below n = λ i d below.
-    let inside : i < n = omega (arith, below, length-range_with_len 0 n) in
-    omega (arith, inside, get_or-range_with_len 0 n i d inside)
-
-pub hits_increase : (tree : SearchedTree) (items : FilterTrees) → AllPairs (λ m n. m < n) (hits_in tree items)
-unfolding searched
-hits_increase tree items =
-    let numbers = range_with_len 0 (length tree.game.nodes) in
-    let kept = is_searched tree.variations tree.game.nodes in
-    AllPairs-filter (λ m n. m < n) (is_hit tree items) (filter kept numbers)
-    (AllPairs-filter (λ m n. m < n) kept numbers (range_increases (length tree.game.nodes)))
-
-pub hits_are_inside : (tree : SearchedTree) (items : FilterTrees) → All (λ n. n < length tree.game.nodes) (hits_in tree items)
-unfolding searched
-hits_are_inside tree items =
-    let numbers = range_with_len 0 (length tree.game.nodes) in
-    let kept = is_searched tree.variations tree.game.nodes in
-    All-filter (is_hit tree items) (λ n. n < length tree.game.nodes) (filter kept numbers)
-    (All-filter kept (λ n. n < length tree.game.nodes) numbers (range_is_below (length tree.game.nodes)))

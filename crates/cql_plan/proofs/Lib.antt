@@ -1,12 +1,4 @@
-pub mod Flattened
 pub mod Items
-pub mod NeedsParts
-pub mod NeedsRows
-pub mod Needed
 pub mod ItemsHeld
-pub mod MenLaw
+pub mod Matched
 pub mod RowsLaw
-pub mod Gathered
-pub mod InEach
-pub mod Sound
-pub mod Standing

@@ -1,21 +1,18 @@
 -- The hits and the keys of a query, as its column tells them.
-use Rattle.std.proofs.Common.{◌≡◌, ℕ, zero, suc, ◌+◌, ◌<◌, ◌≤◌, Bool, true, false, ◌&&◌, List, [], ◌∷◌, ◌++◌, length, map, take, drop, get_or, All, Option, Some, None, ℤ, refl, sym, ap, ap₂, ◌∙◌, subst, arith}
+use Rattle.std.proofs.Common.{◌≡◌, ℕ, zero, suc, ◌+◌, ◌<◌, Bool, true, false, ◌&&◌, List, [], ◌∷◌, ◌++◌, length, map, drop, get_or, All, Option, Some, None, ℤ, refl, sym, ap, ap₂, ◌∙◌, subst, arith}
 use Rattle.std.specs.Prelude.{fold, is_some}
-use Rattle.std.proofs.lemmas.List.{take_more, take_all, drop_all, append-nil}
 use Rattle.std.proofs.lemmas.List.FromFn.{get_or-map-range_with_len}
-use Rattle.std.proofs.lemmas.List.Sums.{fold-append}
 use Rattle.cq_position.specs.Games.{is_searched, searched}
 use Rattle.cq_position.specs.Search.{SearchedTree}
 use Rattle.cql_eval.specs.Hits.{hit_column, number_at, sort_numbers, item_numbers, AreKeysAtHits}
-use Rattle.cql_syntax.specs.Hits.{is_hit, hits_in, all_keys, key_of, item_keys, chosen}
+use Rattle.cql_syntax.specs.Hits.{is_hit, hits_in, key_of, item_keys, chosen}
 use Rattle.cql_syntax.specs.Meaning.{value}
-use Rattle.cql_syntax.specs.TreeOf.{filter_tree, filter_trees}
-use Rattle.cql_syntax.specs.Trees.{FilterTree, filter_at, sort, FilterTrees, more_filters}
-use Rattle.cql_syntax.specs.declared.tree.Filter.{Filter}
+use Rattle.cql_syntax.specs.Trees.{FilterTree, filter_at, sort, FilterTrees}
 use Rattle.cql_syntax.specs.Values.{Value, as_number, amount, of_both, holds, chosen_from}
-use Rattle.cql_plan.specs.Rows.{key_in, IsRowOf, AreRowsFrom}
-use Rattle.cql_plan.proofs.Items.{hits_are_inside}
-use Rattle.cql_plan.proofs.Needed.{hits_hit, hit_searched}
+use Rattle.cql_needs.specs.Rows.{key_in}
+use Rattle.cql_plan.specs.Rows.{IsRowOf, AreRowsFrom}
+use Rattle.cql_needs.proofs.Items.{hits_are_inside}
+use Rattle.cql_needs.proofs.Needed.{hits_hit, hit_searched}
 
 -- whether a node is a hit
 pub column_hit : (tree : SearchedTree) (items : FilterTrees) (hits : List Bool) (k : ℕ) → hits ≡ hit_column tree items → k < length tree.game.nodes
@@ -106,39 +103,6 @@ key_added tree nodes rows old new key item part at least text is are more found 
     map_snoc [] x = refl
     map_snoc (y ∷ xs) x = ap (λ l. Some y ∷ l) (map_snoc xs x)
 
--- the key of one node, and with one node more
-
-pub key_first : (least : Bool) (row : List (Option ℤ)) (nodes : List ℕ) (n d : ℕ) (key : ℤ) → 0 < length nodes → n ≡ get_or nodes 0 d → get_or row n None ≡ Some key
-    → Some key ≡ key_in least row (take 1 nodes)
-key_first least row [] n d key some is here = absurd (omega (arith, some))
-key_first least row (m ∷ []) n d key some is here = sym here ∙ ap (λ i. get_or row i None) is
-key_first least row (m ∷ k ∷ nodes) n d key some is here = sym here ∙ ap (λ i. get_or row i None) is
-
-chosen_snoc : (choose : ℤ → ℤ → ℤ) (vs : List Value) (v : Value) (a b : ℤ) → Some a ≡ chosen_from choose vs → amount v ≡ Some b → Some (choose a b) ≡ chosen_from choose (vs ++ v ∷ [])
-chosen_snoc choose [] v a b is here = cc
-chosen_snoc choose (w ∷ vs) v a b is here =
-    ap₂ (of_both (λ x y. Some (choose x y))) is (sym here) ∙ sym (fold-append (λ c u. of_both (λ x y. Some (choose x y)) c (amount u)) (amount w) vs (v ∷ []))
-
-pub key_next : (least : Bool) (row : List (Option ℤ)) (nodes : List ℕ) (k n d : ℕ) (key value later : ℤ) → k < length nodes → n ≡ get_or nodes k d → get_or row n None ≡ Some value
-    → later ≡ chosen least key value
-    → Some key ≡ key_in least row (take k nodes) → Some later ≡ key_in least row (take (k + 1) nodes)
-key_next least row nodes k n d key value later low is here more had =
-    ap Some more
-    ∙ chosen_snoc (chosen least) (map shown (take k nodes)) (shown n) key value had here
-    ∙ ap (chosen_from (chosen least)) (sym (map_snoc shown (take k nodes) n))
-    ∙ ap (λ i. key_in least row (take k nodes ++ i ∷ [])) is
-    ∙ ap (key_in least row) (sym (take_more nodes k d low))
-  where
-    shown : ℕ → Value
-    shown m = as_number (get_or row m None)
-
-    map_snoc : (f : ℕ → Value) (xs : List ℕ) (x : ℕ) → map f (xs ++ x ∷ []) ≡ map f xs ++ f x ∷ []
-    map_snoc f [] x = refl
-    map_snoc f (y ∷ xs) x = ap (λ l. f y ∷ l) (map_snoc f xs x)
-
-pub key_all : (least : Bool) (row : List (Option ℤ)) (nodes : List ℕ) (k : ℕ) (key : ℤ) → length nodes ≤ k → Some key ≡ key_in least row (take k nodes) → Some key ≡ key_in least row nodes
-key_all least row nodes k key end had = had ∙ ap (key_in least row) (take_all k nodes end)
-
 -- every hit is told as one
 pub hits_told : (tree : SearchedTree) (items : FilterTrees) (hits : List Bool) (nodes : List ℕ) → hits ≡ hit_column tree items → nodes ≡ hits_in tree items
     → All (λ n. get_or hits n false ≡ true) nodes
@@ -147,21 +111,6 @@ hits_told tree items hits nodes is are = subst (All (λ n. get_or hits n false �
     let n = get_or (hits_in tree items) i d in
     let low : n < length tree.game.nodes = hits_are_inside tree items i d below in
     column_hit tree items hits n is low ∙ ap₂ (λ a b. a && b) (hit_searched tree items i d below) (hits_hit tree items i d below))
-
--- what is left of filters
-pub filters_left : (xs : List Filter) (i : ℕ) (f : Filter) → i < length xs → f ≡ get_or xs i f → filter_trees (drop i xs) ≡ more_filters (filter_tree f) (filter_trees (drop (i + 1) xs))
-filters_left [] zero f h e = absurd (omega (arith, h))
-filters_left [] (suc i) f h e = absurd (omega (arith, h))
-filters_left (x ∷ xs) zero f h e = ap (λ (y : Filter). more_filters (filter_tree y) (filter_trees xs)) (sym e)
-filters_left (x ∷ xs) (suc i) f h e =
-    let next : suc i + 1 ≡ suc (i + 1) = omega arith in
-    filters_left xs i f (omega (arith, h)) e ∙ ap (λ j. more_filters (filter_tree f) (filter_trees (drop j (x ∷ xs)))) (sym next)
-
--- where nothing is left of the items, all keys are there
-pub keys_all : (tree : SearchedTree) (nodes : List ℕ) (xs : List Filter) (i : ℕ) (fs : FilterTrees) (ks : List (Option ℤ)) → length xs ≤ i → filter_trees xs ≡ fs
-    → ks ++ all_keys tree nodes (filter_trees (drop i xs)) ≡ all_keys tree nodes (filter_trees xs) → ks ≡ all_keys tree nodes fs
-keys_all tree nodes xs i fs ks end same had =
-    sym (append-nil ks) ∙ ap (λ ys. ks ++ all_keys tree nodes (filter_trees ys)) (sym (drop_all i xs end)) ∙ had ∙ ap (all_keys tree nodes) same
 
 -- the row of a sort item
 pub sort_row : (tree : SearchedTree) (nodes : List ℕ) (rows : List (List (Option ℤ))) (k : ℕ) (item part : FilterTree) (at : ℕ) (least : Bool) (text : List ℕ)

@@ -1,12 +1,6 @@
--- Plans and verdicts as their callers see them.
+-- Verdicts as their callers see them.
 use Rattle.std.specs.Prelude.{ℕ, ℤ, List}
-use Rattle.cql_syntax.specs.declared.typed.TypedQuery.{TypedQuery}
-use Rattle.cql_plan.specs.declared.plan.Plan.{Plan}
 use Rattle.cql_plan.specs.declared.verdict.Verdict.{Verdict}
-
--- the query that a plan was made from
-abbrev pub query_of : Plan → TypedQuery
-query_of plan = plan.query
 
 -- the numbers of the nodes at which a query hits
 abbrev pub nodes_of : Verdict → List ℕ

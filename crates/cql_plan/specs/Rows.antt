@@ -1,14 +1,8 @@
--- Keys by the rows of a query's column.
-use Rattle.std.specs.Prelude.{◌≡◌, ℕ, ◌+◌, ◌<◌, ℤ, Bool, List, [], ◌∷◌, Option, None, get_or, length, map, All}
+-- The rows of a query's column.
+use Rattle.std.specs.Prelude.{◌≡◌, ℕ, ◌+◌, ◌<◌, ℤ, List, [], ◌∷◌, Option, None, get_or, length, All}
 use Rattle.cq_position.specs.Search.{SearchedTree}
 use Rattle.cql_eval.specs.Hits.{number_at}
-use Rattle.cql_syntax.specs.Hits.{key_of}
 use Rattle.cql_syntax.specs.Trees.{FilterTree}
-use Rattle.cql_syntax.specs.Values.{as_number}
-
--- the greatest entry of a row at some nodes, or the least
-abbrev pub key_in : Bool → List (Option ℤ) → List ℕ → Option ℤ
-key_in least row nodes = key_of least (map (λ n. as_number (get_or row n None)) nodes)
 
 -- an entry for each node of a game, which at some nodes is the value of a number
 pub record IsRowOf (tree : SearchedTree) (nodes : List ℕ) (row : List (Option ℤ)) (f : FilterTree) : Type 0 where

@@ -1,22 +1,14 @@
-//! A plan, made once of a query: it turns games away that the query can't match, and finds the hits and the keys of a game.
+//! The match of one game by a plan: the hits of its query, and the keys of its sort items.
 //!
-//! `specs/Needs` has what turns a game away, `cql_syntax/specs/Hits` the hits and the keys.
+//! `cql_needs/specs/Needs` has what turns a game away, `cql_syntax/specs/Hits` the hits and the keys.
 #![tactic(auto)]
 
 mod found;
-mod joining;
-mod keyed;
-mod keys;
-pub mod laws;
-mod lifting;
-mod members;
-mod needs;
-mod plan;
+mod matching;
 mod shared;
 mod verdict;
 
-pub use joining::join;
-pub use keys::key_over;
-pub use plan::Plan;
-pub use plan::matching::{match_game, may_hold};
+pub use cql_joined::join;
+pub use cql_needs::{Plan, key_over, laws, may_hold};
+pub use matching::match_game;
 pub use verdict::Verdict;

@@ -1,7 +1,7 @@
 //! How a plan of several queries is made, and what it has.
 ghost use Rattle.std.specs.Prelude.{◌≡◌, ℕ, ◌+◌, ◌<◌, ◌≤◌, ◌==◌, ◌&&◌, ◌||◌, false, true, length, map, get_or, IfOk, OnOk};
 ghost use Rattle.std.specs.List.{list_all};
-ghost use Rattle.cql_plan.specs.Plans.{query_of};
+ghost use Rattle.cql_needs.specs.Plans.{query_of};
 ghost use Rattle.cql_syntax.specs.Flat.{flat_query};
 ghost use Rattle.cql_syntax.specs.TreeOf.{filter_tree, query_tree};
 ghost use Rattle.cq_shared.specs.Alone.{stands_alone};
@@ -17,7 +17,7 @@ use crate::part::{Asker, Listed, Part};
 use crate::plan::SharedPlan;
 use crate::table::{Place, empty_places};
 use cq_common::NoMemory;
-use cql_plan::Plan;
+use cql_needs::Plan;
 use cql_rewrite::expand;
 use cql_syntax::TypedQuery;
 use std::alloc::Global;

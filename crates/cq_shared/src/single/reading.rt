@@ -10,7 +10,7 @@ ghost use Rattle.cq_shared.specs.Singles.{part_tree, shown};
 use crate::single::Single;
 use crate::table::mixed_of;
 use cq_common::NoMemory;
-use cql_plan::join;
+use cql_joined::join;
 use cql_rewrite::{flat_text, same_unplaced};
 use cql_syntax::{Filter, Filters, FlatQuery};
 use std::alloc::Global;

@@ -1,6 +1,6 @@
 use Rattle.std.proofs.Common.{◌∙◌, ◌+◌, ◌++◌, ap, arith, drop, map, refl}
 use Rattle.std.proofs.lemmas.List.{drop_all}
-use Rattle.cql_plan.proofs.RowsLaw.{filters_left}
+use Rattle.cql_needs.proofs.Items.{filters_left}
 use Rattle.cql_syntax.specs.TreeOf.{filter_tree, filter_trees}
 use Rattle.cq_shared.specs.Parts.{item_sorts, top_sorts}
 use Rattle.cq_shared.proofs.Listing.{added_one, added_each}

@@ -1,5 +1,5 @@
 use Rattle.std.proofs.Common.{◌≡◌, ◌∙◌, ap, sym, subst, map, arith, IfOk}
-use Rattle.cql_plan.specs.Plans.{query_of}
+use Rattle.cql_needs.specs.Plans.{query_of}
 use Rattle.cql_syntax.specs.Hits.{hits}
 use Rattle.cq_shared.specs.Askers.{asked_query}
 use Rattle.cq_shared.specs.Matching.{is_before, plan_cost}

@@ -1,0 +1,4 @@
+pub mod Gathered
+pub mod InEach
+pub mod Sound
+pub mod Standing

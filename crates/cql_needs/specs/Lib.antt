@@ -1,0 +1,5 @@
+pub mod Items
+pub mod Needs
+pub mod NeedsRows
+pub mod Plans
+pub mod Rows
