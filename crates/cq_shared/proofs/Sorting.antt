@@ -1,11 +1,11 @@
 -- The rows of sort items, part by part.
-use Rattle.std.proofs.Common.{◌≡◌, ℕ, zero, suc, ◌+◌, ◌<◌, true, List, [], ◌∷◌, ◌++◌, length, take, get_or, refl, sym, ap, ◌∙◌, subst, arith}
+use Rattle.std.proofs.Common.{◌≡◌, ℕ, ◌+◌, ◌<◌, true, List, [], ◌∷◌, ◌++◌, length, take, get_or, sym, ap, ◌∙◌, subst}
 use Rattle.std.proofs.lemmas.List.{take_more}
 use Rattle.cq_position.specs.Games.{Game}
-use Rattle.cq_shared.specs.Matching.{is_left, HasRow, HaveRows}
-use Rattle.cq_shared.specs.declared.nodes.Nodes.{Nodes}
-use Rattle.cq_shared.specs.declared.nodes.Row.{Row}
-use Rattle.cq_shared.specs.declared.part.Part.{Part}
+use Rattle.cq_parts.specs.Matching.{is_left, HasRow, HaveRows}
+use Rattle.cq_parts.specs.declared.nodes.Nodes.{Nodes}
+use Rattle.cq_parts.specs.declared.nodes.Row.{Row}
+use Rattle.cq_parts.specs.declared.part.Part.{Part}
 
 module _ (game : Game) where
   row_kept : (left later : List Nodes) (p : Part) (r : Row) → ((q n : ℕ) → is_left later q n ≡ true → is_left left q n ≡ true) → HasRow game left p r.numbers.items
@@ -33,17 +33,3 @@ module _ (game : Game) where
       subst (HaveRows game later (take (k + 1) parts)) (sym more)
       (subst (λ ps. HaveRows game later ps (rs ++ r ∷ [])) (ap (λ x. take k parts ++ x ∷ []) at ∙ sym (take_more parts k p low))
       (rows_snoc later (take k parts) rs p r (rows_kept left later (take k parts) rs fewer had) is))
-
-  pub rows_count : (left : List Nodes) (ps : List Part) (rs : List Row) → HaveRows game left ps rs → length rs ≡ length ps
-  rows_count left [] [] had = refl
-  rows_count left [] (r ∷ rs) had = absurd had
-  rows_count left (p ∷ ps) [] had = absurd had
-  rows_count left (p ∷ ps) (r ∷ rs) had = ap suc (rows_count left ps rs had.1)
-
-  pub row_read : (left : List Nodes) (ps : List Part) (rs : List Row) (k : ℕ) (p : Part) (r : Row) → k < length ps → p ≡ get_or ps k p → r ≡ get_or rs k r → HaveRows game left ps rs
-      → HasRow game left p r.numbers.items
-  row_read left [] rs k p r low at here had = absurd (omega (arith, low))
-  row_read left (x ∷ ps) [] k p r low at here had = absurd had
-  row_read left (x ∷ ps) (s ∷ rs) zero p r low at here had =
-      subst (λ y. HasRow game left y r.numbers.items) (sym at) (subst (λ t. HasRow game left x t.numbers.items) (sym here) had.0)
-  row_read left (x ∷ ps) (s ∷ rs) (suc k) p r low at here had = row_read left ps rs k p r (omega (arith, low)) at here had.1

@@ -5,20 +5,21 @@ use Rattle.std.specs.List.{list_any, filter, range_with_len}
 use Rattle.std.proofs.lemmas.List.Sums.{sum_by-cons}
 use Rattle.cq_position.specs.Games.{Game, is_searched, searched}
 use Rattle.cq_position.specs.Search.{SearchedTree, nodes_in}
-use Rattle.cql_columns.specs.Classes.{form_class, filter_class}
+use Rattle.cql_columns.specs.Classes.{filter_class}
 use Rattle.cql_columns.specs.Columns.{is_live, AreAsked}
 use Rattle.cql_columns.specs.Costs.{filter_cost, filters_cost, searched_len}
 use Rattle.cql_eval.specs.Hits.{AreKeysAtHits}
 use Rattle.cql_syntax.specs.Hits.{is_hit}
 use Rattle.cql_syntax.specs.Meaning.{value}
 use Rattle.cql_syntax.specs.TreeOf.{filters_tree}
-use Rattle.cql_syntax.specs.Trees.{FilterTree, filter_at, FormTree, designator, number, name, plain, tagged, outcome, elo, unary, direction, chain, sum_of, pair, if_, square, line, played, transform, sort, comment, any, FilterTrees, no_filters, more_filters}
+use Rattle.cql_syntax.specs.Trees.{FilterTree, filter_at, FormTree, sort, FilterTrees, no_filters, more_filters}
 use Rattle.cql_syntax.specs.Values.{holds}
 use Rattle.cql_values.specs.Trees.{searched_tree}
-use Rattle.cq_shared.specs.Matching.{tree_for, holds_at, part_holds, part_cost, sort_number, IsTold, IsRowAt}
-use Rattle.cq_shared.specs.Parts.{first_of, alone, is_single}
-use Rattle.cq_shared.specs.Singles.{shown}
-use Rattle.cq_shared.specs.declared.part.Part.{Part}
+use Rattle.cq_parts.specs.Matching.{tree_for, holds_at, part_holds, part_cost, sort_number, IsTold, IsRowAt}
+use Rattle.cq_parts.specs.Parts.{first_of, alone, is_single}
+use Rattle.cq_parts.specs.Singles.{shown}
+use Rattle.cq_parts.specs.declared.part.Part.{Part}
+use Rattle.cq_parts.proofs.Keyed.{SortForm, form_sorts, sort_has}
 
 -- nodes that are asked for
 
@@ -112,45 +113,6 @@ told_joined game p live hits truths are same =
 
 pub asked_joined : (game : Game) (p : Part) (live : List Bool) → AreAsked (tree_for game p) live → AreAsked (searched_tree game p.single.joined.variations) live
 asked_joined game p live asked = subst (λ v. AreAsked (searched_tree game v) live) (sym p.single.searched) asked
-
--- sort items
-
-pub record SortForm (f : FormTree) : Type 0 where
-  pub least : Bool
-  pub title : List ℕ
-  pub part : FilterTree
-  pub is : f ≡ sort least title part
-
-pub form_sorts : (f : FormTree) → form_class f ≡ 5 → SortForm f
-unfolding form_class
-form_sorts (sort least text g) e = record { least = least; title = text; part = g; is = refl }
-form_sorts (designator d) e = absurd (omega (arith, e))
-form_sorts (number k) e = absurd (omega (arith, e))
-form_sorts (name text) e = absurd (omega (arith, e))
-form_sorts (plain word) e = absurd (omega (arith, e))
-form_sorts (tagged field text) e = absurd (omega (arith, e))
-form_sorts (outcome o) e = absurd (omega (arith, e))
-form_sorts (elo whose) e = absurd (omega (arith, e))
-form_sorts (unary u f) e = absurd (omega (arith, e))
-form_sorts (direction way m n f) e = absurd (omega (arith, e))
-form_sorts (chain c fs) e = absurd (omega (arith, e))
-form_sorts (sum_of ts) e = absurd (omega (arith, e))
-form_sorts (pair c a b) e = absurd (omega (arith, e))
-form_sorts (if_ a b c) e = absurd (omega (arith, e))
-form_sorts (square every text a b) e = absurd (omega (arith, e))
-form_sorts (line l) e = absurd (omega (arith, e))
-form_sorts (played p) e = absurd (omega (arith, e))
-form_sorts (transform t f) e = absurd (omega (arith, e))
-form_sorts (comment text) e = absurd (omega (arith, e))
-form_sorts (any kind fs) e = absurd (omega (arith, e))
-
--- a sort item holds where it has a number
-form_has : (tree : SearchedTree) (at : ℕ) (f : FormTree) (n : ℕ) → SortForm f → holds (value tree [] [] (filter_at at f) n) ≡ is_some (sort_number tree (filter_at at f) n)
-unfolding value sort_number
-form_has tree at f n s = subst (λ g. holds (value tree [] [] (filter_at at g) n) ≡ is_some (sort_number tree (filter_at at g) n)) (sym s.is) refl
-
-pub sort_has : (tree : SearchedTree) (f : FilterTree) (n : ℕ) → filter_class f ≡ 5 → holds (value tree [] [] f n) ≡ is_some (sort_number tree f n)
-sort_has tree (filter_at at f) n e = form_has tree at f n (form_sorts f e)
 
 -- the row of a sort item as the only item
 

@@ -1,17 +1,14 @@
 //! The hits of several queries in one game, and their keys.
 ghost use Rattle.std.specs.Prelude.{◌≡◌, ◌+◌, ◌<◌, ◌≤◌, length, map, All, AllPairs, IfOk};
 ghost use Rattle.cql_syntax.specs.Hits.{hits};
-ghost use Rattle.cq_shared.specs.Matching.{plan_cost};
-ghost use Rattle.cq_shared.specs.Plans.{queries_of, trees_of, plan_parts};
-ghost use Rattle.cq_shared.specs.Wanted.{asked_parts};
-ghost use Rattle.cq_shared.specs.Verdicts.{nodes_of, keys_of, HaveKeys};
+ghost use Rattle.cq_parts.specs.Matching.{plan_cost};
+ghost use Rattle.cq_parts.specs.Plans.{queries_of, trees_of, plan_parts};
+ghost use Rattle.cq_parts.specs.Wanted.{asked_parts};
+ghost use Rattle.cq_parts.specs.Verdicts.{nodes_of, keys_of, HaveKeys};
 
-use crate::beginning::began;
-use crate::found::found_all;
 use crate::matching::{left_by, sorted_by};
-use crate::plan::SharedPlan;
-use crate::verdicts::Verdicts;
 use cq_common::{NoMemory, Steps};
+use cq_parts::{SharedPlan, Verdicts, began, found_all};
 use pgn_tree::Game;
 use std::alloc::Global;
 use std::sync::ledger::Ledger;
@@ -34,8 +31,8 @@ pub fn match_all<L: Ledger>(
         + plan_cost game.now (asked_parts game.now (trees_of (queries_of plan.now)) (plan_parts (queries_of plan.now))) }
     ensures most { steps.new ≤ steps.old + plan_cost game.now (plan_parts (queries_of plan.now)) }
 {
-    let askers = plan.askers.as_slice();
-    let parts = plan.parts.as_slice();
+    let askers = plan.askers();
+    let parts = plan.each_part();
     let began = began(alloc, askers, game)?;
     let left = left_by(alloc, parts, game, began, steps)?;
     let sorted = sorted_by(alloc, parts, game, left, steps)?;

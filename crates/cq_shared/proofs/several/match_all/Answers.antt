@@ -1,103 +1,103 @@
 use Rattle.std.proofs.Common.{◌≡◌, ◌∙◌, ap, sym, subst, map, arith, IfOk}
 use Rattle.cql_needs.specs.Plans.{query_of}
 use Rattle.cql_syntax.specs.Hits.{hits}
-use Rattle.cq_shared.specs.Askers.{asked_query}
-use Rattle.cq_shared.specs.Matching.{is_before, plan_cost}
-use Rattle.cq_shared.specs.Plans.{plan_parts}
-use Rattle.cq_shared.specs.Verdicts.{nodes_of, keys_of, HaveKeys}
+use Rattle.cq_parts.specs.Askers.{asked_query}
+use Rattle.cq_parts.specs.Matching.{is_before, plan_cost}
+use Rattle.cq_parts.specs.Plans.{askers_of, each_part_of, plan_parts}
+use Rattle.cq_parts.specs.Verdicts.{nodes_of, keys_of, HaveKeys}
 use Rattle.cq_shared.proofs.After.{all_still_ready}
-use Rattle.cq_shared.proofs.Begun.{begun_ready}
-use Rattle.cq_shared.proofs.Makings.{plan_trees}
+use Rattle.cq_parts.proofs.Begun.{begun_ready}
+use Rattle.cq_parts.proofs.Makings.{plan_trees}
 use Rattle.cq_shared.proofs.Whole.{plan_lent, are_found, hits_of_all, first_cost, both_cost, all_cost, asked_cost}
 use Rattle.cq_shared.proofs.several.match_all.Goals as goal
 
 pub left_by-requires : goal.left_by-requires
 left_by-requires g c =
-    let plan = plan_lent c.args.plan.now.parts.items c.as_slice-parts.result.now c.args.plan.now.askers.items c.as_slice-askers.result.now c.as_slice-parts.ensures.value
-    c.as_slice-askers.ensures.value (record { are = c.args.plan.now.askers_are; same = c.args.plan.now.parts_are }) in
-    record { ready = begun_ready c.args.game.now c.as_slice-parts.result.now c.as_slice-askers.result.now c.in_ok-began.began.items plan.are c.in_ok-began.ensures }
+    let plan = plan_lent (each_part_of c.args.plan.now) c.each_part-parts.result.now (askers_of c.args.plan.now) c.askers-askers.result.now c.each_part-parts.ensures.value
+    c.askers-askers.ensures.value (record { are = c.askers-askers.ensures.parts; same = c.each_part-parts.ensures.different }) in
+    record { ready = begun_ready c.args.game.now c.each_part-parts.result.now c.askers-askers.result.now c.in_ok-began.began.items plan.are c.in_ok-began.ensures }
 
 pub sorted_by-requires : goal.sorted_by-requires
 sorted_by-requires g c =
-    let plan = plan_lent c.args.plan.now.parts.items c.as_slice-parts.result.now c.args.plan.now.askers.items c.as_slice-askers.result.now c.as_slice-parts.ensures.value
-    c.as_slice-askers.ensures.value (record { are = c.args.plan.now.askers_are; same = c.args.plan.now.parts_are }) in
+    let plan = plan_lent (each_part_of c.args.plan.now) c.each_part-parts.result.now (askers_of c.args.plan.now) c.askers-askers.result.now c.each_part-parts.ensures.value
+    c.askers-askers.ensures.value (record { are = c.askers-askers.ensures.parts; same = c.each_part-parts.ensures.different }) in
     record {
-      ready = all_still_ready (is_before 5) c.args.game.now c.as_slice-parts.result.now c.in_ok-began.began.items c.in_ok-left.left.items
-          (begun_ready c.args.game.now c.as_slice-parts.result.now c.as_slice-askers.result.now c.in_ok-began.began.items plan.are c.in_ok-began.ensures) c.in_ok-left.ensures.left;
+      ready = all_still_ready (is_before 5) c.args.game.now c.each_part-parts.result.now c.in_ok-began.began.items c.in_ok-left.left.items
+          (begun_ready c.args.game.now c.each_part-parts.result.now c.askers-askers.result.now c.in_ok-began.began.items plan.are c.in_ok-began.ensures) c.in_ok-left.ensures.left;
     }
 
 pub found_all-requires-clause-found : goal.found_all-requires-clause-found
 found_all-requires-clause-found g c =
-    let plan = plan_lent c.args.plan.now.parts.items c.as_slice-parts.result.now c.args.plan.now.askers.items c.as_slice-askers.result.now c.as_slice-parts.ensures.value
-    c.as_slice-askers.ensures.value (record { are = c.args.plan.now.askers_are; same = c.args.plan.now.parts_are }) in
-    are_found c.args.game.now c.as_slice-parts.result.now c.as_slice-askers.result.now c.in_ok-began.began.items c.in_ok-left.left.items c.in_ok-sorted.sorted.left.items
+    let plan = plan_lent (each_part_of c.args.plan.now) c.each_part-parts.result.now (askers_of c.args.plan.now) c.askers-askers.result.now c.each_part-parts.ensures.value
+    c.askers-askers.ensures.value (record { are = c.askers-askers.ensures.parts; same = c.each_part-parts.ensures.different }) in
+    are_found c.args.game.now c.each_part-parts.result.now c.askers-askers.result.now c.in_ok-began.began.items c.in_ok-left.left.items c.in_ok-sorted.sorted.left.items
     plan.are c.in_ok-began.ensures c.in_ok-left.ensures.left c.in_ok-sorted.ensures.left
 
 pub returns-clause-nodes : goal.returns-clause-nodes
 returns-clause-nodes g c =
-    subst (λ ns. IfOk c.found_all.result (λ v. nodes_of v ≡ ns)) (ap (map (λ a. hits (asked_query a) c.args.game.now)) c.as_slice-askers.ensures.value
-    ∙ hits_of_all c.args.game.now c.args.plan.now.askers.items) c.found_all.ensures.nodes
+    subst (λ ns. IfOk c.found_all.result (λ v. nodes_of v ≡ ns)) (ap (map (λ a. hits (asked_query a) c.args.game.now)) c.askers-askers.ensures.value
+    ∙ hits_of_all c.args.game.now (askers_of c.args.plan.now)) c.found_all.ensures.nodes
 
 pub returns-clause-keys : goal.returns-clause-keys
 returns-clause-keys g c =
-    subst (λ qs. IfOk c.found_all.result (λ v. HaveKeys c.args.game.now qs (nodes_of v) (keys_of v))) (ap (map (λ a. asked_query a)) c.as_slice-askers.ensures.value
-    ∙ sym (plan_trees c.args.plan.now.askers.items)) c.found_all.ensures.keys
+    subst (λ qs. IfOk c.found_all.result (λ v. HaveKeys c.args.game.now qs (nodes_of v) (keys_of v))) (ap (map (λ a. asked_query a)) c.askers-askers.ensures.value
+    ∙ sym (plan_trees (askers_of c.args.plan.now))) c.found_all.ensures.keys
 
 pub returns-clause-asked : goal.returns-clause-asked
 returns-clause-asked g c =
-    let plan = plan_lent c.args.plan.now.parts.items c.as_slice-parts.result.now c.args.plan.now.askers.items c.as_slice-askers.result.now c.as_slice-parts.ensures.value
-    c.as_slice-askers.ensures.value (record { are = c.args.plan.now.askers_are; same = c.args.plan.now.parts_are }) in
-    let cost = both_cost c.args.game.now c.as_slice-parts.result.now c.as_slice-askers.result.now c.in_ok-began.began.items c.in_ok-left.left.items _ _ _
+    let plan = plan_lent (each_part_of c.args.plan.now) c.each_part-parts.result.now (askers_of c.args.plan.now) c.askers-askers.result.now c.each_part-parts.ensures.value
+    c.askers-askers.ensures.value (record { are = c.askers-askers.ensures.parts; same = c.each_part-parts.ensures.different }) in
+    let cost = both_cost c.args.game.now c.each_part-parts.result.now c.askers-askers.result.now c.in_ok-began.began.items c.in_ok-left.left.items _ _ _
     plan.are c.in_ok-began.ensures plan.same c.in_ok-left.ensures.left c.left_by.ensures.cost
     c.sorted_by.ensures.cost in
-    let same = ap (asked_cost c.args.game.now) c.as_slice-askers.ensures.value in
+    let same = ap (asked_cost c.args.game.now) c.askers-askers.ensures.value in
     omega (arith, cost, same)
 
 pub returns-clause-most : goal.returns-clause-most
 returns-clause-most g c =
-    let plan = plan_lent c.args.plan.now.parts.items c.as_slice-parts.result.now c.args.plan.now.askers.items c.as_slice-askers.result.now c.as_slice-parts.ensures.value
-    c.as_slice-askers.ensures.value (record { are = c.args.plan.now.askers_are; same = c.args.plan.now.parts_are }) in
-    let cost = all_cost c.args.game.now c.as_slice-parts.result.now c.as_slice-askers.result.now _ _
-    (both_cost c.args.game.now c.as_slice-parts.result.now c.as_slice-askers.result.now c.in_ok-began.began.items c.in_ok-left.left.items _ _ _
+    let plan = plan_lent (each_part_of c.args.plan.now) c.each_part-parts.result.now (askers_of c.args.plan.now) c.askers-askers.result.now c.each_part-parts.ensures.value
+    c.askers-askers.ensures.value (record { are = c.askers-askers.ensures.parts; same = c.each_part-parts.ensures.different }) in
+    let cost = all_cost c.args.game.now c.each_part-parts.result.now c.askers-askers.result.now _ _
+    (both_cost c.args.game.now c.each_part-parts.result.now c.askers-askers.result.now c.in_ok-began.began.items c.in_ok-left.left.items _ _ _
     plan.are c.in_ok-began.ensures plan.same c.in_ok-left.ensures.left c.left_by.ensures.cost
     c.sorted_by.ensures.cost) in
-    let same = ap (λ xs. plan_cost c.args.game.now (plan_parts (map (λ a. query_of a.plan) xs))) c.as_slice-askers.ensures.value in
+    let same = ap (λ xs. plan_cost c.args.game.now (plan_parts (map (λ a. query_of a.plan) xs))) c.askers-askers.ensures.value in
     omega (arith, cost, same)
 
 pub returns-in_err-left-clause-asked : goal.returns-in_err-left-clause-asked
 returns-in_err-left-clause-asked g c =
-    let plan = plan_lent c.args.plan.now.parts.items c.as_slice-parts.result.now c.args.plan.now.askers.items c.as_slice-askers.result.now c.as_slice-parts.ensures.value
-    c.as_slice-askers.ensures.value (record { are = c.args.plan.now.askers_are; same = c.args.plan.now.parts_are }) in
-    let cost = first_cost c.args.game.now c.as_slice-parts.result.now c.as_slice-askers.result.now c.in_ok-began.began.items _ _ plan.are c.in_ok-began.ensures plan.same c.left_by.ensures.cost in
-    let same = ap (asked_cost c.args.game.now) c.as_slice-askers.ensures.value in
+    let plan = plan_lent (each_part_of c.args.plan.now) c.each_part-parts.result.now (askers_of c.args.plan.now) c.askers-askers.result.now c.each_part-parts.ensures.value
+    c.askers-askers.ensures.value (record { are = c.askers-askers.ensures.parts; same = c.each_part-parts.ensures.different }) in
+    let cost = first_cost c.args.game.now c.each_part-parts.result.now c.askers-askers.result.now c.in_ok-began.began.items _ _ plan.are c.in_ok-began.ensures plan.same c.left_by.ensures.cost in
+    let same = ap (asked_cost c.args.game.now) c.askers-askers.ensures.value in
     omega (arith, cost, same)
 
 pub returns-in_err-left-clause-most : goal.returns-in_err-left-clause-most
 returns-in_err-left-clause-most g c =
-    let plan = plan_lent c.args.plan.now.parts.items c.as_slice-parts.result.now c.args.plan.now.askers.items c.as_slice-askers.result.now c.as_slice-parts.ensures.value
-    c.as_slice-askers.ensures.value (record { are = c.args.plan.now.askers_are; same = c.args.plan.now.parts_are }) in
-    let cost = all_cost c.args.game.now c.as_slice-parts.result.now c.as_slice-askers.result.now _ _
-    (first_cost c.args.game.now c.as_slice-parts.result.now c.as_slice-askers.result.now c.in_ok-began.began.items _ _ plan.are c.in_ok-began.ensures plan.same c.left_by.ensures.cost) in
-    let same = ap (λ xs. plan_cost c.args.game.now (plan_parts (map (λ a. query_of a.plan) xs))) c.as_slice-askers.ensures.value in
+    let plan = plan_lent (each_part_of c.args.plan.now) c.each_part-parts.result.now (askers_of c.args.plan.now) c.askers-askers.result.now c.each_part-parts.ensures.value
+    c.askers-askers.ensures.value (record { are = c.askers-askers.ensures.parts; same = c.each_part-parts.ensures.different }) in
+    let cost = all_cost c.args.game.now c.each_part-parts.result.now c.askers-askers.result.now _ _
+    (first_cost c.args.game.now c.each_part-parts.result.now c.askers-askers.result.now c.in_ok-began.began.items _ _ plan.are c.in_ok-began.ensures plan.same c.left_by.ensures.cost) in
+    let same = ap (λ xs. plan_cost c.args.game.now (plan_parts (map (λ a. query_of a.plan) xs))) c.askers-askers.ensures.value in
     omega (arith, cost, same)
 
 pub returns-in_err-sorted-clause-asked : goal.returns-in_err-sorted-clause-asked
 returns-in_err-sorted-clause-asked g c =
-    let plan = plan_lent c.args.plan.now.parts.items c.as_slice-parts.result.now c.args.plan.now.askers.items c.as_slice-askers.result.now c.as_slice-parts.ensures.value
-    c.as_slice-askers.ensures.value (record { are = c.args.plan.now.askers_are; same = c.args.plan.now.parts_are }) in
-    let cost = both_cost c.args.game.now c.as_slice-parts.result.now c.as_slice-askers.result.now c.in_ok-began.began.items c.in_ok-left.left.items _ _ _
+    let plan = plan_lent (each_part_of c.args.plan.now) c.each_part-parts.result.now (askers_of c.args.plan.now) c.askers-askers.result.now c.each_part-parts.ensures.value
+    c.askers-askers.ensures.value (record { are = c.askers-askers.ensures.parts; same = c.each_part-parts.ensures.different }) in
+    let cost = both_cost c.args.game.now c.each_part-parts.result.now c.askers-askers.result.now c.in_ok-began.began.items c.in_ok-left.left.items _ _ _
     plan.are c.in_ok-began.ensures plan.same c.in_ok-left.ensures.left c.left_by.ensures.cost
     c.sorted_by.ensures.cost in
-    let same = ap (asked_cost c.args.game.now) c.as_slice-askers.ensures.value in
+    let same = ap (asked_cost c.args.game.now) c.askers-askers.ensures.value in
     omega (arith, cost, same)
 
 pub returns-in_err-sorted-clause-most : goal.returns-in_err-sorted-clause-most
 returns-in_err-sorted-clause-most g c =
-    let plan = plan_lent c.args.plan.now.parts.items c.as_slice-parts.result.now c.args.plan.now.askers.items c.as_slice-askers.result.now c.as_slice-parts.ensures.value
-    c.as_slice-askers.ensures.value (record { are = c.args.plan.now.askers_are; same = c.args.plan.now.parts_are }) in
-    let cost = all_cost c.args.game.now c.as_slice-parts.result.now c.as_slice-askers.result.now _ _
-    (both_cost c.args.game.now c.as_slice-parts.result.now c.as_slice-askers.result.now c.in_ok-began.began.items c.in_ok-left.left.items _ _ _
+    let plan = plan_lent (each_part_of c.args.plan.now) c.each_part-parts.result.now (askers_of c.args.plan.now) c.askers-askers.result.now c.each_part-parts.ensures.value
+    c.askers-askers.ensures.value (record { are = c.askers-askers.ensures.parts; same = c.each_part-parts.ensures.different }) in
+    let cost = all_cost c.args.game.now c.each_part-parts.result.now c.askers-askers.result.now _ _
+    (both_cost c.args.game.now c.each_part-parts.result.now c.askers-askers.result.now c.in_ok-began.began.items c.in_ok-left.left.items _ _ _
     plan.are c.in_ok-began.ensures plan.same c.in_ok-left.ensures.left c.left_by.ensures.cost
     c.sorted_by.ensures.cost) in
-    let same = ap (λ xs. plan_cost c.args.game.now (plan_parts (map (λ a. query_of a.plan) xs))) c.as_slice-askers.ensures.value in
+    let same = ap (λ xs. plan_cost c.args.game.now (plan_parts (map (λ a. query_of a.plan) xs))) c.askers-askers.ensures.value in
     omega (arith, cost, same)

@@ -1,0 +1,12 @@
+pub mod Alone
+pub mod Askers
+pub mod Beginning
+pub mod Known
+pub mod Matching
+pub mod Parts
+pub mod Places
+pub mod Plans
+pub mod Reading
+pub mod Singles
+pub mod Verdicts
+pub mod Wanted

@@ -1,0 +1,34 @@
+//! What is kept of a game's nodes while parts are asked.
+
+/// A set of nodes: a truth for each.
+#[derive(Drop)]
+pub struct Nodes {
+    pub there: Vec<bool>,
+}
+
+/// The numbers of a sort item, a place for each node.
+#[derive(Drop)]
+pub struct Row {
+    pub numbers: Vec<Option<i64>>,
+}
+
+/// The nodes that are left to each query after the sort items, and a row for each part.
+#[derive(Drop)]
+pub struct Sorted {
+    pub left: Vec<Nodes>,
+    pub rows: Vec<Row>,
+}
+
+/// The nodes that are left to each query after one part, and if this is a sort item, its row.
+#[derive(Drop)]
+pub struct Narrowed {
+    pub left: Vec<Nodes>,
+    pub row: Row,
+}
+
+/// Whether a part holds, and if it is a sort item, its numbers, a place for each node.
+#[derive(Drop)]
+pub struct Asked {
+    pub truths: Vec<bool>,
+    pub numbers: Vec<Option<i64>>,
+}
