@@ -1,5 +1,5 @@
 -- Columns that are filled node by node.
-use Rattle.std.proofs.Common.{◌≡◌, ℕ, zero, suc, ◌+◌, ◌<◌, ◌≤◌, ◌⊎◌, Bool, true, false, List, [], ◌∷◌, length, get_or, ◌&&◌, refl, ap, sym, subst, ◌∙◌, arith, ⊎_elim, inl, inr}
+use Rattle.std.proofs.Common.{◌≡◌, ℕ, zero, suc, ◌+◌, ◌<◌, ◌≤◌, ◌⊎◌, Bool, true, false, List, [], ◌∷◌, length, get_or, ◌&&◌, ◌||◌, refl, ap, sym, subst, ◌∙◌, arith, ⊎_elim, inl, inr}
 use Rattle.cq_position.specs.Search.{SearchedTree}
 use Rattle.std.specs.Prelude.{◌-◌, is_some, slice_set}
 use Rattle.cql_syntax.specs.Values.{amount}
@@ -106,6 +106,14 @@ put_asked live test end k items later d x inside low is new had =
 pub both_left : (a b : Bool) → (a && b) ≡ true → a ≡ true
 both_left true b e = refl
 both_left false b e = e
+
+pub or_left : (a b : Bool) → a ≡ true → (a || b) ≡ true
+or_left true b e = refl
+or_left false b e = cc
+
+pub or_right : (a b : Bool) → b ≡ true → (a || b) ≡ true
+or_right true b e = refl
+or_right false b e = e
 
 -- the nodes of a set that pass a test, and those past the end
 pub told_live : (live : List Bool) (test : ℕ → Bool) (k : ℕ) (items : List Bool) → length live ≡ k → Told (λ n. get_or live n false && test n) k items

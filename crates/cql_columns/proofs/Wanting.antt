@@ -9,7 +9,7 @@ use Rattle.cql_values.specs.Asked.{settles}
 use Rattle.cql_values.proofs.Masks.{is_in_bit, bit_is}
 use Rattle.cql_columns.specs.Asked.{AreUnsettled, AreWanted}
 use Rattle.cql_columns.specs.Columns.{is_live}
-use Rattle.cql_columns.proofs.Filling.{both_left, live_below, split_last}
+use Rattle.cql_columns.proofs.Filling.{both_left, or_left, or_right, live_below, split_last}
 
 -- those of the first k nodes
 pub record WantedTo (x : ℕ → Value) (live : List Bool) (k wanted : ℕ) : Type 0 where
@@ -27,20 +27,12 @@ max_of false false = refl
 pub in_either : (a b s : ℕ) → is_in (bit_or a b) s ≡ (is_in a s || is_in b s)
 in_either a b s = is_in_bit (bit_or a b) s (is_in a s || is_in b s) (bit_at_or a b s ∙ ap₂ max (bit_is a s) (bit_is b s) ∙ max_of (is_in a s) (is_in b s))
 
-or_first : (a b : Bool) → a ≡ true → (a || b) ≡ true
-or_first true b e = refl
-or_first false b e = cc
-
-or_second : (a b : Bool) → b ≡ true → (a || b) ≡ true
-or_second true b e = refl
-or_second false b e = e
-
 pub wanted_more : (x : ℕ → Value) (live : List Bool) (k wanted more : ℕ) → (is_live live k ≡ true → has (x k) ≡ is_in more) → WantedTo x live k wanted
     → WantedTo x live (k + 1) (bit_or wanted more)
 wanted_more x live k wanted more new had = record {
   each = λ n s h a b. in_either wanted more s ∙ ⊎_elim
-      (λ less. or_first (is_in wanted s) (is_in more s) (had.each n s less a b))
-      (λ same. or_second (is_in wanted s) (is_in more s) (sym (ap (λ t. t s) (new (subst (λ i. is_live live i ≡ true) same a))) ∙ subst (λ i. has (x i) s ≡ true) same b))
+      (λ less. or_left (is_in wanted s) (is_in more s) (had.each n s less a b))
+      (λ same. or_right (is_in wanted s) (is_in more s) (sym (ap (λ t. t s) (new (subst (λ i. is_live live i ≡ true) same a))) ∙ subst (λ i. has (x i) s ≡ true) same b))
       (split_last n k h);
 }
 

@@ -1,16 +1,5 @@
 pub mod Asked
-pub mod Attacked
-pub mod Classes
 pub mod Columns
 pub mod Costs
-pub mod Covers
-pub mod Elsewhere
-pub mod Ever
 pub mod FlatTrees
-pub mod LineAtoms
-pub mod Moved
-pub mod Pairs
-pub mod Promoting
 pub mod Scopes
-pub mod SpelledParts
-pub mod Trees

@@ -7,9 +7,9 @@ use Rattle.cql_syntax.specs.Trees.{FilterTree}
 use Rattle.cql_syntax.specs.Values.{Value, holds, has, pair_of}
 use Rattle.cql_syntax.specs.declared.leaves.Pair.{Pair}
 use Rattle.cql_columns.specs.Columns.{IsColumn, is_live, shown}
-use Rattle.cql_columns.specs.Covers.{Agree, AreCut, HasSome, IsFree, IsSoRelated, MayHave, MayHold}
 use Rattle.cql_columns.specs.declared.filter_column.FilterColumn.{FilterColumn}
-use Rattle.cql_columns.proofs.CoverLaw.{cut_as, cut_wide}
+use Rattle.cql_pruning.specs.Covers.{Agree, AreCut, HasSome, IsFree, IsSoRelated, MayHave, MayHold}
+use Rattle.cql_pruning.proofs.CoverLaw.{cut_as, cut_wide}
 
 -- it takes no steps
 pub no_steps : (before later cost : ℕ) → cost ≡ 0 → later ≤ before + cost → before ≤ later → later ≡ before

@@ -8,12 +8,12 @@ use Rattle.cql_syntax.specs.TreeOf.{played_tree}
 use Rattle.cql_syntax.specs.Values.{Value, as_truth}
 use Rattle.cql_syntax.specs.declared.tree.Played.{Played}
 use Rattle.cql_columns.specs.Columns.{shown}
-use Rattle.cql_columns.specs.Covers.{AreCut, AsksNoMore, HasSome, IsFreePart, MayHold}
-use Rattle.cql_columns.specs.Trees.{AreBeforeLive}
 use Rattle.cql_columns.specs.declared.filter_column.FilterColumn.{FilterColumn}
-use Rattle.cql_columns.proofs.CoverForms.{first_true, second_true, yes_both}
-use Rattle.cql_columns.proofs.CoverLaw.{cut_as, cut_wide}
-use Rattle.cql_columns.proofs.MoveLaw.{IsPartColumn, move_value, origin_of, goal_of, taken_of, promoted_of}
+use Rattle.cql_operators.specs.Trees.{AreBeforeLive}
+use Rattle.cql_pruning.specs.Covers.{AreCut, AsksNoMore, HasSome, IsFreePart, MayHold}
+use Rattle.cql_pruning.proofs.CoverForms.{first_true, second_true, yes_both}
+use Rattle.cql_pruning.proofs.CoverLaw.{cut_as, cut_wide}
+use Rattle.cql_pruning.proofs.MoveLaw.{IsPartColumn, move_value, origin_of, goal_of, taken_of, promoted_of}
 
 pub asks_nothing : (tree : SearchedTree) (opened outer : Names) (w : WrittenTree) (live : List Bool) → AsksNoMore tree opened outer w live None
 asks_nothing tree opened outer w live = record { each = λ n inner a agree q met. refl }

@@ -16,12 +16,12 @@ use Rattle.cql_syntax.specs.TreeOf.{filter_tree, filter_trees}
 use Rattle.cql_syntax.specs.Values.{Value, holds, amount}
 use Rattle.cql_syntax.specs.declared.tree.Filter.{Filter}
 use Rattle.cql_syntax.proofs.Lists.{filter_trees_more}
-use Rattle.cql_columns.specs.Classes.{IsLeft}
 use Rattle.cql_columns.specs.Columns.{is_live, shown, AreAsked, IsColumn, IsNarrowed, IsNumbered}
 use Rattle.cql_columns.specs.declared.filter_column.FilterColumn.{FilterColumn}
-use Rattle.cql_eval.specs.Hits.{hit_column, key_column, key_row_of, number_at, sort_numbers, item_numbers, AreKeysAtHits}
 use Rattle.cql_columns.proofs.Chains.{all_begun, all_more, take_whole}
+use Rattle.cql_eval.specs.Hits.{hit_column, key_column, key_row_of, number_at, sort_numbers, item_numbers, AreKeysAtHits}
 use Rattle.cql_columns.proofs.Filling.{live_below, any_default, both_left, part_asked}
+use Rattle.cql_pruning.specs.Classes.{IsLeft}
 
 -- the searched nodes are asked for
 module _ (tree : SearchedTree) (all : List Bool) (is : all ≡ map (is_searched tree.variations tree.game.nodes) (numbers tree.game.nodes)) where

@@ -3,6 +3,7 @@ pub mod FlatLaw
 pub mod FormLaws
 mod CoverFree
 mod CoverMoves
+mod ElsewhereCut
 mod HereLaw
 pub mod HitsLaw
 pub mod SortsLaw

@@ -7,14 +7,14 @@ use Rattle.cql_syntax.specs.Trees.{FilterTree, filter_at, FilterTrees, sort}
 use Rattle.cql_syntax.specs.TreeOf.{filter_tree, filter_trees}
 use Rattle.cql_syntax.specs.Values.{Value, amount}
 use Rattle.cql_syntax.specs.declared.tree.Filter.{Filter}
-use Rattle.cql_columns.specs.Classes.{form_class, is_of, is_before, is_so_if, are_so, cost_of, IsLeft}
 use Rattle.cql_columns.specs.Columns.{is_live, shown, AreAsked, IsColumn, IsNumbered}
 use Rattle.cql_columns.specs.Costs.{filters_cost}
 use Rattle.cql_columns.specs.declared.filter_column.FilterColumn.{FilterColumn}
-use Rattle.cql_columns.proofs.ClassLaw.{is_left_then, is_left_same, so_begun, so_more, so_whole, so_next, so_all, cost_next, cost_all}
 use Rattle.cql_columns.proofs.Filling.{both_left, part_asked}
-use Rattle.cql_eval.proofs.HitsLaw.{ItemsSoFar}
 use Rattle.cql_columns.proofs.Keeping.{written}
+use Rattle.cql_pruning.specs.Classes.{form_class, is_of, is_before, is_so_if, are_so, cost_of, IsLeft}
+use Rattle.cql_eval.proofs.HitsLaw.{ItemsSoFar}
+use Rattle.cql_pruning.proofs.ClassLaw.{is_left_then, is_left_same, so_begun, so_more, so_whole, so_next, so_all, cost_next, cost_all}
 
 and_true : (b : Bool) → b ≡ (b && true)
 and_true true = refl

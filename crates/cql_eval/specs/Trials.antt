@@ -5,9 +5,9 @@ use Rattle.cql_syntax.specs.Meaning.{Names}
 use Rattle.cql_syntax.specs.TreeOf.{written_tree}
 use Rattle.cql_syntax.specs.Values.{Value}
 use Rattle.cql_syntax.specs.declared.tree.Played.{Played, out-Played}
-use Rattle.cql_columns.specs.Covers.{AreCut, AsksNoMore, MayHold, MayHave}
-use Rattle.cql_columns.specs.Trees.{AreBeforeLive}
-use Rattle.cql_columns.specs.declared.moves.PartColumns.{PartColumns}
+use Rattle.cql_operators.specs.Trees.{AreBeforeLive}
+use Rattle.cql_pruning.specs.Covers.{AreCut, AsksNoMore, MayHold, MayHave}
+use Rattle.cql_pruning.specs.declared.moves.PartColumns.{PartColumns}
 use Rattle.cql_eval.specs.declared.evaluate.trial.Trial.{Trial}
 
 -- of the sets of squares some are left, among them all with which values may hold

@@ -31,11 +31,12 @@ use columns::{
 };
 use cq_common::{NoMemory, Steps};
 use cql_columns::binding::Binding;
-use cql_columns::elsewhere::{looked_at, looks_elsewhere};
 use cql_columns::filter_column::FilterColumn;
-use cql_columns::nodes::{any_live, part_of};
-use cql_columns::order::CLASSES;
+use cql_columns::nodes::any_live;
 use cql_columns::scope::Scope;
+use cql_operators::elsewhere::{looked_at, looks_elsewhere};
+use cql_operators::narrow::part_of;
+use cql_pruning::order::CLASSES;
 use cql_syntax::{Chain, Filter, Filters, Form, Kind, Unary};
 use cql_values::headers::{has_text, is_result, rating};
 use cql_values::numbers::counted;

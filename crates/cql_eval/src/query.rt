@@ -8,22 +8,23 @@ ghost use Rattle.cql_syntax.specs.Meaning.{value};
 ghost use Rattle.cql_syntax.specs.TreeOf.{filter_tree, filters_tree};
 ghost use Rattle.cql_syntax.specs.Values.{holds, amount};
 ghost use Rattle.cql_values.specs.Trees.{searched_tree};
-ghost use Rattle.cql_columns.specs.Classes.{is_of, is_so_if, cost_if, IsLeft};
 ghost use Rattle.cql_columns.specs.Columns.{AreAsked, is_live, shown};
 ghost use Rattle.cql_columns.specs.Costs.{filter_cost, filters_cost, searched_len};
 ghost use Rattle.cql_columns.specs.FlatTrees.{IsFlat};
-ghost use Rattle.cql_eval.specs.Hits.{hits_of, keys_of, hit_column, key_columns, key_row_of, item_numbers, AreKeysAtHits};
 ghost use Rattle.cql_columns.specs.Scopes.{tree_in};
+ghost use Rattle.cql_eval.specs.Hits.{hits_of, keys_of, hit_column, key_columns, key_row_of, item_numbers, AreKeysAtHits};
+ghost use Rattle.cql_pruning.specs.Classes.{is_of, is_so_if, cost_if, IsLeft};
 
 use crate::column::Column;
 use crate::evaluate::{evaluate, left_by};
 use cq_common::{NoMemory, Steps};
-use cql_columns::combine::numbered;
 use cql_columns::filter_column::FilterColumn;
-use cql_columns::narrow::keep_numbered;
-use cql_columns::nodes::{narrowed, same, searched_nodes, tick_nodes};
-use cql_columns::order::SORTS;
+use cql_columns::nodes::same;
 use cql_columns::scope::Scope;
+use cql_operators::combine::numbered;
+use cql_operators::narrow::{keep_numbered, narrowed};
+use cql_operators::nodes::{searched_nodes, tick_nodes};
+use cql_pruning::order::SORTS;
 use cql_syntax::{Filter, FlatQuery, Form};
 use cql_values::names::Names;
 use pgn_tree::Game;
@@ -151,7 +152,7 @@ fn columns_of<L: Ledger>(
 
 // Takes the nodes out of a set at which a sort item has no value, and adds its values at the nodes of the set. Nothing is done for another
 // item.
-#[tactic(auto, unfolding(cql_syntax::specs::Meaning::value, cql_columns::specs::Costs::filter_cost, cql_columns::specs::FlatTrees::unflat, cql_columns::specs::Classes::form_class))]
+#[tactic(auto, unfolding(cql_syntax::specs::Meaning::value, cql_columns::specs::Costs::filter_cost, cql_columns::specs::FlatTrees::unflat, cql_pruning::specs::Classes::form_class))]
 fn sort_by<L: Ledger>(
     alloc: Global,
     item: &Filter,

@@ -5,22 +5,23 @@ ghost use Rattle.cql_syntax.specs.Meaning as meaning;
 ghost use Rattle.cql_syntax.specs.Values as spec;
 ghost use Rattle.cql_values.specs.Asked.{of_value};
 ghost use Rattle.cql_columns.specs.Columns.{AreAsked, IsColumn, is_live, shown, all_shown, terms_shown};
-ghost use Rattle.cql_columns.specs.Elsewhere.{asks_elsewhere, AreLookedAt};
-ghost use Rattle.cql_columns.specs.Moved.{is_as_asked};
 ghost use Rattle.cql_columns.specs.Scopes.{tree_in};
+ghost use Rattle.cql_operators.specs.Elsewhere.{asks_elsewhere, AreLookedAt};
+ghost use Rattle.cql_pruning.specs.Moved.{is_as_asked};
 
 use cq_common::NoMemory;
 use cq_geometry::Compass;
-use cql_columns::combine::{
+use cql_columns::filter_column::FilterColumn;
+use cql_columns::leaves::standing_sets;
+use cql_columns::scope::Scope;
+use cql_operators::combine::{
     any_values, chain_values, chosen, negated, numbered, pair_column, reached_values, sum_values,
     unary_values,
 };
-use cql_columns::elsewhere::found_from;
-use cql_columns::filter_column::FilterColumn;
-use cql_columns::leaves::{standing_sets, word_values};
-use cql_columns::moves::{PartColumns, moves_met};
-use cql_columns::nodes::narrowed;
-use cql_columns::scope::Scope;
+use cql_operators::elsewhere::found_from;
+use cql_operators::narrow::narrowed;
+use cql_operators::words::word_values;
+use cql_pruning::moves::{PartColumns, moves_met};
 use cql_syntax::{Chain, Designator, Kind, Pair, Plain, Unary};
 use std::alloc::Global;
 

@@ -4,16 +4,16 @@ ghost use Rattle.cq_position.specs.Games.{IsTree};
 ghost use Rattle.cql_syntax.specs.TreeOf.{filter_tree, filters_tree};
 ghost use Rattle.cql_syntax.specs.Values as spec;
 ghost use Rattle.cql_columns.specs.Columns.{AreAsked};
-ghost use Rattle.cql_columns.specs.Covers.{AreAdded, MayHold};
 ghost use Rattle.cql_columns.specs.FlatTrees.{IsFlat, AreFlat};
 ghost use Rattle.cql_columns.specs.Scopes.{tree_in, value_with, values_with};
+ghost use Rattle.cql_pruning.specs.Covers.{AreAdded, MayHold};
 ghost use Rattle.cql_eval.specs.Trials.{LeavesHolding};
 
 use super::covers::cover;
 use super::trial::Trial;
 use cq_common::{NoMemory, Steps};
-use cql_columns::covers::{add_sets, cut, same_sets};
 use cql_columns::filter_column::{FilterColumn, blank_sets};
+use cql_pruning::covers::{add_sets, cut, same_sets};
 use cql_syntax::{Filter, Filters};
 use std::alloc::Global;
 use std::sync::ledger::Ledger;

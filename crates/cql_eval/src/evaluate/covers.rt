@@ -6,9 +6,9 @@ ghost use Rattle.cql_syntax.specs.TreeOf.{filter_tree, filters_tree};
 ghost use Rattle.cql_syntax.specs.Values as spec;
 ghost use Rattle.cql_syntax.specs.declared.leaves.Pair.TheVariants.{Attacks, AttackedBy};
 ghost use Rattle.cql_columns.specs.Columns.{AreAsked};
-ghost use Rattle.cql_columns.specs.Covers.{IsFree};
 ghost use Rattle.cql_columns.specs.FlatTrees.{IsFlat, AreFlat};
 ghost use Rattle.cql_columns.specs.Scopes.{tree_in, value_with, values_with};
+ghost use Rattle.cql_pruning.specs.Covers.{IsFree};
 ghost use Rattle.cql_eval.specs.Trials.{LeavesHolding, LeavesHaving};
 
 use super::cover_moves::cover_played;
@@ -17,13 +17,13 @@ use super::cover_squares::cover_square;
 use super::evaluate;
 use super::trial::Trial;
 use cq_common::{NoMemory, Steps};
-use cql_columns::covers::{
+use cql_columns::filter_column::FilterColumn;
+use cql_operators::elsewhere::{brought_back, looked_at, looks_elsewhere};
+use cql_pruning::covers::{
     any_left, any_squares, cut, cut_related, cut_where_fails, everywhere, with_squares,
 };
-use cql_columns::elsewhere::{brought_back, looked_at, looks_elsewhere};
-use cql_columns::filter_column::FilterColumn;
-use cql_columns::free::{is_all, is_attack, is_free, is_intersection, is_or, is_own, turned};
-use cql_columns::order::{SORTS, is_of_class};
+use cql_pruning::free::{is_all, is_attack, is_free, is_intersection, is_or, is_own, turned};
+use cql_pruning::order::{SORTS, is_of_class};
 use cql_syntax::{Filter, Filters, Form, Pair, Unary};
 use std::alloc::Global;
 use std::sync::ledger::Ledger;

@@ -9,22 +9,24 @@ ghost use Rattle.cql_columns.specs.Costs.{filter_cost, line_cost, parts_cost, bo
 ghost use Rattle.cql_columns.specs.FlatTrees.{IsFlat, IsFlatLine, AreFlatParts, IsFlatBody};
 ghost use Rattle.cql_lines.specs.Tables.{atoms_of, nodes_of};
 ghost use Rattle.cq_common.specs.Spelling.{one};
-ghost use Rattle.cql_columns.specs.LineAtoms as spec;
-ghost use Rattle.cql_columns.specs.LineAtoms.{HasRoom, IsFilledIn};
 ghost use Rattle.cql_columns.specs.Scopes.{tree_in, value_in, parts_in, body_in};
-ghost use Rattle.cql_columns.specs.SpelledParts as spelled;
-ghost use Rattle.cql_columns.specs.SpelledParts.{AreTabled, IsLive, IsNever, LeadsOn, EndsHere};
+ghost use Rattle.cql_operators.specs.LineAtoms as spec;
+ghost use Rattle.cql_operators.specs.LineAtoms.{HasRoom, IsFilledIn};
+ghost use Rattle.cql_operators.specs.SpelledParts as spelled;
+ghost use Rattle.cql_operators.specs.SpelledParts.{AreTabled, IsLive, IsNever, LeadsOn, EndsHere};
 ghost use Rattle.cql_syntax.specs.TabledLines.{IsAsked};
 ghost use Rattle.cq_position.specs.Search.{IsStep};
 
 use super::evaluate;
 use cq_common::{NoMemory, Steps};
 use cql_columns::filter_column::FilterColumn;
-use cql_columns::nodes::{all_nodes, any_live, part_of, same};
-use cql_columns::patterns::{empty_table, parts_pattern, put_nodes, shape_of, wide_numbers};
+use cql_columns::nodes::{any_live, same};
 use cql_columns::scope::Scope;
-use cql_columns::tree::{onward, reached};
 use cql_lines::{AtomTable, Automaton, line_values};
+use cql_operators::narrow::part_of;
+use cql_operators::nodes::all_nodes;
+use cql_operators::patterns::{empty_table, parts_pattern, put_nodes, shape_of, wide_numbers};
+use cql_operators::tree::{onward, reached};
 use cql_syntax::{Body, Constituent, Constituents, Filter, Line, Mark};
 use std::alloc::Global;
 use std::sync::ledger::Ledger;
@@ -48,7 +50,7 @@ struct Row<L: Ledger> {
 /// The greatest length of a path from each node that a line's pattern spells. Its atoms are asked for where they may begin on a path, one
 /// after the other, and the automaton of its pattern then answers all nodes at once. Where the row isn't met at the end, no path is spelled.
 #[cycle(evaluate)]
-#[tactic(auto, using(cql_columns::proofs::SpelledAlike::all_tabled, cql_columns::proofs::SpelledAlike::all_never))]
+#[tactic(auto, using(cql_operators::proofs::SpelledAlike::all_tabled, cql_operators::proofs::SpelledAlike::all_never))]
 pub(super) fn line_column<L: Ledger>(
     alloc: Global,
     line: &Line,
@@ -117,7 +119,7 @@ fn spelled_column<L: Ledger>(
 }
 
 // Whether a flat line has flat parts with few atoms: it always does.
-#[tactic(auto, using(cql_columns::proofs::LinesLaw::line_parts_flat, cql_columns::proofs::LinesLaw::line_few))]
+#[tactic(auto, using(cql_operators::proofs::LinesLaw::line_parts_flat, cql_operators::proofs::LinesLaw::line_few))]
 fn has_flat_parts(line: &Line) -> bool
     requires { IsFlatLine (line_tree line.now) }
     ensures value { result ≡ true }

@@ -4,19 +4,19 @@ use Rattle.cql_syntax.specs.TreeOf.{filter_tree, filter_trees, filters_tree, ter
 use Rattle.cql_syntax.specs.Values.{holds, all_hold, intersection_of}
 use Rattle.cql_columns.specs.Scopes.{tree_in}
 use Rattle.cql_columns.specs.Asked.{AreWanted}
-use Rattle.cql_columns.specs.Classes.{is_of, is_before, are_so, cost_of, IsLeft}
 use Rattle.cql_columns.specs.Columns.{AreAsked, Where, shown, all_shown, terms_shown}
 use Rattle.cql_columns.specs.Costs.{filter_cost, filters_cost, terms_cost, parts_cost, body_atoms, searched_len}
-use Rattle.cql_columns.specs.Covers.{AreCut, MayHave, MayHold}
-use Rattle.cql_columns.specs.Ever.{AreEver}
 use Rattle.cql_columns.specs.FlatTrees.{IsFlat, IsFlatBody}
-use Rattle.cql_columns.specs.LineAtoms.{HasRoom}
+use Rattle.cql_operators.proofs.SquareTurns.{LeftOf, unsettled_by}
+use Rattle.cql_operators.specs.LineAtoms.{HasRoom}
+use Rattle.cql_operators.proofs.LineTables.{TableSoFar}
+use Rattle.cql_pruning.specs.Classes.{is_of, is_before, are_so, cost_of, IsLeft}
 use Rattle.cql_syntax.specs.declared.tree.Constituent.{Constituent}
 use Rattle.cql_syntax.specs.declared.tree.Filter.{Filter}
 use Rattle.cql_syntax.specs.declared.tree.Term.{Term}
-use Rattle.cql_columns.proofs.CoverSome.{AddedFor}
-use Rattle.cql_columns.proofs.Chains.{LeftOf, unsettled_by}
-use Rattle.cql_columns.proofs.LineTables.{TableSoFar}
+use Rattle.cql_pruning.specs.Covers.{AreCut, MayHave, MayHold}
+use Rattle.cql_pruning.specs.Ever.{AreEver}
+use Rattle.cql_pruning.proofs.CoverSome.{AddedFor}
 use Rattle.cql_eval.proofs.evaluate.+evaluate.Given as goal
 
 abbrev pub invariant-chains::left_by-loop-class : goal.invariant-chains::left_by-loop-class

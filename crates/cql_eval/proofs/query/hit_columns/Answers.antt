@@ -2,8 +2,8 @@ use Rattle.std.proofs.Common.{sym, subst}
 use Rattle.cql_syntax.specs.Hits.{is_hit}
 use Rattle.cql_syntax.specs.TreeOf.{filters_tree}
 use Rattle.cql_values.specs.Trees.{searched_tree}
-use Rattle.cql_columns.specs.Classes.{IsLeft}
 use Rattle.cql_columns.specs.Columns.{AreAsked}
+use Rattle.cql_pruning.specs.Classes.{IsLeft}
 use Rattle.cql_eval.specs.Hits.{hits_of}
 use Rattle.cql_eval.proofs.HitsLaw.{all_asked, hits_whole}
 use Rattle.cql_eval.proofs.query.hit_columns.Goals as goal

@@ -3,18 +3,18 @@ use Rattle.std.proofs.Common.{◌+◌, ◌∙◌, sym, subst, arith, rules, refl
 use Rattle.cql_syntax.specs.TreeOf.{filter_tree, filters_tree, filters_in, terms_tree}
 use Rattle.cql_syntax.proofs.Lists.{filters_tree_in}
 use Rattle.cql_columns.specs.Scopes.{tree_in, values_in}
-use Rattle.cql_columns.proofs.ClassLaw.{left_taken, left_told, left_passed, cost_taken, is_left_begun, is_left_then, is_left_same, so_begun, so_more, so_whole, so_none, so_all, so_no, class_left, class_end, truth_left, class_cost_more, class_cost_within, cost_next, cost_later, cost_all}
-use Rattle.cql_columns.proofs.ClassSets.{so_other}
-use Rattle.cql_columns.specs.Classes.{is_of, is_before, is_so_if, are_so, AreAmong, IsLeft}
 use Rattle.cql_columns.specs.Columns.{AreAsked}
 use Rattle.cql_columns.specs.Costs.{searched_len}
-use Rattle.cql_columns.specs.Ever.{AreEver}
 use Rattle.cql_columns.proofs.Costing.{cost_more, cost_within, terms_cost_more, terms_cost_within}
-use Rattle.cql_columns.proofs.EverLaw.{ever_begun, ever_fewer, ever_later, left_unasked}
-use Rattle.cql_columns.proofs.Gathering.{columns_begun, columns_more, columns_all, terms_begun, terms_more, terms_all}
+use Rattle.cql_operators.proofs.Gathering.{columns_begun, columns_more, columns_all, terms_begun, terms_more, terms_all}
+use Rattle.cql_pruning.proofs.ClassLaw.{left_taken, left_told, left_passed, cost_taken, is_left_begun, is_left_then, is_left_same, so_begun, so_more, so_whole, so_none, so_all, so_no, class_left, class_end, truth_left, class_cost_more, class_cost_within, cost_next, cost_later, cost_all}
+use Rattle.cql_pruning.proofs.ClassSets.{so_other}
+use Rattle.cql_pruning.specs.Classes.{is_of, is_before, is_so_if, are_so, AreAmong, IsLeft}
+use Rattle.cql_pruning.specs.Ever.{AreEver}
+use Rattle.cql_pruning.proofs.EverLaw.{ever_begun, ever_fewer, ever_later, left_unasked}
 use Rattle.cql_eval.proofs.FlatLaw.{filter_flat, term_flat}
 use Rattle.cql_eval.proofs.FormLaws.{IfOk_then, chain_all, some_unless}
-use Rattle.cql_columns.proofs.ToldLaw.{told_there}
+use Rattle.cql_pruning.proofs.ToldLaw.{told_there}
 use Rattle.cql_eval.proofs.evaluate.+evaluate.Goals as goal
 
 pub chain_column-returns-in_ok-left-in-And-clause-value : goal.chain_column-returns-in_ok-left-in-And-clause-value

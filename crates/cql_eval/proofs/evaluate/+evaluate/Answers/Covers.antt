@@ -11,17 +11,17 @@ use Rattle.cql_columns.specs.Scopes.{tree_in}
 use Rattle.cql_eval.proofs.FlatLaw.{filter_flat}
 use Rattle.cql_eval.proofs.FormLaws.{IfOk_then, chain_form}
 use Rattle.cql_syntax.specs.Trees.{pair}
-use Rattle.cql_columns.specs.Covers.{AreCut, AreJoined, HasSome, MayHave, MayHold}
-use Rattle.cql_columns.specs.Trees.{AreBeforeLive}
-use Rattle.cql_columns.proofs.CoverSome.{AddedFor, added_all, added_by, added_more, added_none, or_cut, some_cut}
-use Rattle.cql_columns.proofs.PairLaw.{paired_cut}
 use Rattle.cql_columns.specs.Costs.{searched_len}
+use Rattle.cql_operators.specs.Trees.{AreBeforeLive}
+use Rattle.cql_operators.specs.Elsewhere.{AreLookedAt, AreBroughtBack}
+use Rattle.cql_pruning.specs.Covers.{AreCut, AreJoined, HasSome, MayHave, MayHold}
+use Rattle.cql_pruning.proofs.CoverSome.{AddedFor, added_all, added_by, added_more, added_none, or_cut, some_cut}
 use Rattle.cql_eval.proofs.CoverFree.{free_cut, free_set_cut, no_steps, related_cut}
 use Rattle.cql_eval.proofs.CoverMoves.{asks_free, free_parts_cut}
-use Rattle.cql_columns.proofs.CoverLaw.{cut_same, cut_then}
-use Rattle.cql_columns.specs.Elsewhere.{AreLookedAt, AreBroughtBack}
-use Rattle.cql_columns.proofs.ElsewhereLaw.{elsewhere_cut}
-use Rattle.cql_columns.proofs.CoverForms.{unary_cut, written_sets, inner_cut, turned_cut, move_cut, played_cut, pair_cut, one_of_sets, one_of_all, common_cut, all_cut, square_cut, square_same, own_cut}
+use Rattle.cql_pruning.proofs.PairLaw.{paired_cut}
+use Rattle.cql_pruning.proofs.CoverLaw.{cut_same, cut_then}
+use Rattle.cql_eval.proofs.ElsewhereCut.{elsewhere_cut}
+use Rattle.cql_pruning.proofs.CoverForms.{unary_cut, written_sets, inner_cut, turned_cut, move_cut, played_cut, pair_cut, one_of_sets, one_of_all, common_cut, all_cut, square_cut, square_same, own_cut}
 use Rattle.cql_eval.proofs.evaluate.+evaluate.Goals as goal
 
 pub covers::cover-returns-then-is_own-clause-cut : goal.covers::cover-returns-then-is_own-clause-cut

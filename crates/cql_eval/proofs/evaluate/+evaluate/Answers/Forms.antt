@@ -9,13 +9,13 @@ use Rattle.cql_syntax.specs.Values.{amount, as_number, as_truth, holds, square_o
 use Rattle.cql_columns.specs.Scopes.{tree_in, value_in, values_in}
 use Rattle.cql_values.proofs.Evaluated.{word_here}
 use Rattle.cql_columns.specs.Columns.{AreTruths, IsColumn, is_live, is_so, shown}
-use Rattle.cql_columns.proofs.Chains.{unary_form, square_form, if_form}
-use Rattle.cql_columns.proofs.Lives.{none_live}
+use Rattle.cql_columns.specs.Costs.{filter_cost, searched_len}
+use Rattle.cql_operators.proofs.SquareTurns.{unary_form, square_form, if_form}
 use Rattle.cql_eval.proofs.FlatLaw.{no_family}
 use Rattle.cql_eval.proofs.HitsLaw.{sort_form}
-use Rattle.cql_columns.specs.Elsewhere.{asks_elsewhere, AreLookedAt}
+use Rattle.cql_operators.proofs.Lives.{none_live}
 use Rattle.cql_eval.proofs.FormLaws.{IfOk_then, number_form, elo_form, comment_form, pair_form, parts_form, designator_form, plain_form, direction_form, chain_form, sum_form, line_form, played_form, sorted_form, any_form, if_where, part_form, if_parts, within, within_first, within_both}
-use Rattle.cql_columns.specs.Costs.{filter_cost, searched_len}
+use Rattle.cql_operators.specs.Elsewhere.{asks_elsewhere, AreLookedAt}
 use Rattle.cql_eval.proofs.evaluate.+evaluate.Goals as goal
 
 pub unary_column-returns-then-looks_elsewhere-clause-value : goal.unary_column-returns-then-looks_elsewhere-clause-value

@@ -5,14 +5,14 @@ use Rattle.std.proofs.lemmas.Option.{IfSome_then}
 use Rattle.cql_syntax.specs.TreeOf.{filter_tree, form_tree, filters_tree, played_tree}
 use Rattle.cql_syntax.specs.Trees.{filter_at, more_filters, no_filters}
 use Rattle.cql_columns.specs.Columns.{shown}
-use Rattle.cql_columns.specs.Moved.{AsksGoal}
 use Rattle.cql_columns.specs.Scopes.{tree_in}
-use Rattle.cql_columns.specs.Promoting.{ArePromoting}
-use Rattle.cql_columns.proofs.AttackLaw.{only_one}
 use Rattle.cql_columns.specs.FlatTrees.{unflat}
+use Rattle.cql_pruning.specs.Moved.{AsksGoal}
+use Rattle.cql_pruning.specs.Promoting.{ArePromoting}
+use Rattle.cql_pruning.proofs.AttackLaw.{only_one}
 use Rattle.cql_eval.proofs.FlatLaw.{filter_flat, form_flat}
 use Rattle.cql_eval.proofs.FormLaws.{IfOk_then}
-use Rattle.cql_columns.proofs.MovedLaw.{goal_alone, goal_chain, goal_form, goal_met_is}
+use Rattle.cql_pruning.proofs.MovedLaw.{goal_alone, goal_chain, goal_form, goal_met_is}
 use Rattle.cql_eval.proofs.evaluate.+evaluate.Goals as goal
 
 pub goals::goal_truths-returns-in-Played-clause-value : goal.goals::goal_truths-returns-in-Played-clause-value

@@ -7,14 +7,14 @@ use Rattle.cql_syntax.specs.TreeOf.{filter_tree, parts_tree, body_tree}
 use Rattle.cql_syntax.specs.Trees.{atom}
 use Rattle.cql_columns.specs.Scopes.{tree_in, value_in, body_in}
 use Rattle.cql_columns.specs.Costs.{filter_cost, body_cost, body_atoms, searched_len}
-use Rattle.cql_columns.specs.LineAtoms.{AreAllAsked, body_numbered}
-use Rattle.cql_columns.specs.SpelledParts.{IsLive, EndsHere}
-use Rattle.cql_columns.proofs.SpelledAlike.{all_never, wide_leads_at, wide_ends_at, group_leads_at, leads_at, ends_at, onward_at, not_met, group_ends}
 use Rattle.cql_columns.proofs.Filling.{live_below}
-use Rattle.cql_columns.proofs.LineTables.{table_begun, table_more, table_all, ends_all, filled_all, at_all, atom_tabled, atom_leads, atom_form, leads_form, ends_form, group_tabled, group_never, never_form, atom_never, not_some}
-use Rattle.cql_columns.proofs.LinesLaw.{held_put, no_line, parts_cost_more, parts_cost_within, atoms_within}
-use Rattle.cql_columns.proofs.LineAtoms.{part_flat}
-use Rattle.cql_columns.proofs.LineTables.{part_room}
+use Rattle.cql_operators.specs.LineAtoms.{AreAllAsked, body_numbered}
+use Rattle.cql_operators.specs.SpelledParts.{IsLive, EndsHere}
+use Rattle.cql_operators.proofs.SpelledAlike.{all_never, wide_leads_at, wide_ends_at, group_leads_at, leads_at, ends_at, onward_at, not_met, group_ends}
+use Rattle.cql_operators.proofs.LineTables.{table_begun, table_more, table_all, ends_all, filled_all, at_all, atom_tabled, atom_leads, atom_form, leads_form, ends_form, group_tabled, group_never, never_form, atom_never, not_some}
+use Rattle.cql_operators.proofs.LinesLaw.{held_put, no_line, parts_cost_more, parts_cost_within, atoms_within}
+use Rattle.cql_operators.proofs.LineAtoms.{part_flat}
+use Rattle.cql_operators.proofs.LineTables.{part_room}
 use Rattle.cql_eval.proofs.FormLaws.{IfOk_then, within}
 use Rattle.cql_eval.proofs.evaluate.+evaluate.Goals as goal
 

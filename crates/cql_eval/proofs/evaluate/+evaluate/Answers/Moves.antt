@@ -3,12 +3,12 @@ use Rattle.std.proofs.Common.{◌&&◌, ◌∙◌, arith, option_map, refl, sym,
 use Rattle.cql_syntax.specs.Meaning.{value, before}
 use Rattle.cql_columns.specs.Scopes.{tree_in}
 use Rattle.cql_columns.specs.Columns.{is_live, shown}
-use Rattle.cql_columns.specs.Promoting.{ArePromoting}
-use Rattle.cql_columns.specs.Moved.{is_as_asked}
-use Rattle.cql_columns.specs.Trees.{AreBeforeLive}
 use Rattle.cql_columns.specs.Costs.{searched_len}
+use Rattle.cql_operators.specs.Trees.{AreBeforeLive}
+use Rattle.cql_pruning.specs.Promoting.{ArePromoting}
+use Rattle.cql_pruning.specs.Moved.{is_as_asked}
 use Rattle.cql_eval.proofs.FormLaws.{IfOk_then, within}
-use Rattle.cql_columns.proofs.MoveLaw.{met_is, move_is, move_costs, part_is, no_part_is, part_costs}
+use Rattle.cql_pruning.proofs.MoveLaw.{met_is, move_is, move_costs, part_is, no_part_is, part_costs}
 use Rattle.cql_eval.proofs.evaluate.+evaluate.Goals as goal
 
 pub played::played_column-returns-clause-value : goal.played::played_column-returns-clause-value

@@ -8,14 +8,14 @@ use Rattle.cql_columns.specs.Scopes.{tree_in}
 use Rattle.cql_columns.specs.Columns.{IsColumn, shown}
 use Rattle.std.proofs.Math.Path.{fun_ext}
 use Rattle.cql_columns.specs.Columns.{AreTruths}
-use Rattle.cql_columns.proofs.AttackLaw.{attack_is}
-use Rattle.cql_columns.proofs.Chains.{left_begun, square_more, square_end, turn_all, turn_stop}
 use Rattle.cql_columns.specs.Costs.{filter_cost, searched_len}
 use Rattle.cql_columns.proofs.Costing.{square_cost}
 use Rattle.cql_columns.proofs.Wanting.{wanted_same, wanted_kept, turn_skip}
 use Rattle.cql_columns.specs.declared.filter_column.FilterColumn.TheVariants.{Sets}
-use Rattle.cql_columns.specs.Covers.{AreCut, AreWorthTrying, MayHold}
-use Rattle.cql_columns.proofs.CoverForms.{tried_same, worth_trying, written_sets}
+use Rattle.cql_operators.proofs.SquareTurns.{left_begun, square_more, square_end, turn_all, turn_stop}
+use Rattle.cql_pruning.proofs.AttackLaw.{attack_is}
+use Rattle.cql_pruning.specs.Covers.{AreCut, AreWorthTrying, MayHold}
+use Rattle.cql_pruning.proofs.CoverForms.{tried_same, worth_trying, written_sets}
 use Rattle.cql_eval.proofs.FormLaws.{IfOk_then}
 use Rattle.cql_eval.proofs.evaluate.+evaluate.Goals as goal
 

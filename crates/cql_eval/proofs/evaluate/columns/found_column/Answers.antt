@@ -1,6 +1,6 @@
 use Rattle.std.proofs.Common.{refl}
 use Rattle.cql_columns.specs.Scopes.{tree_in}
-use Rattle.cql_columns.proofs.FoundLaw.{elsewhere_is}
+use Rattle.cql_operators.proofs.FoundLaw.{elsewhere_is}
 use Rattle.cql_eval.proofs.evaluate.columns.found_column.Goals as goal
 
 pub returns : goal.returns

@@ -5,9 +5,9 @@ use Rattle.cql_syntax.specs.TreeOf.{parts_tree}
 use Rattle.cql_syntax.specs.declared.tree.Line.{out-Line}
 use Rattle.cql_columns.specs.Scopes.{tree_in}
 use Rattle.cql_columns.specs.Costs.{searched_len}
-use Rattle.cql_columns.specs.LineAtoms.{spot_at}
-use Rattle.cql_columns.proofs.LineAtoms.{few_atoms, few_places, atoms_below}
-use Rattle.cql_columns.proofs.LinesLaw.{line_flat, numbers_are, atoms_within, looks_within}
+use Rattle.cql_operators.specs.LineAtoms.{spot_at}
+use Rattle.cql_operators.proofs.LineAtoms.{few_atoms, few_places, atoms_below}
+use Rattle.cql_operators.proofs.LinesLaw.{line_flat, numbers_are, atoms_within, looks_within}
 use Rattle.cql_lines.specs.PatternTrees.{pattern_tree}
 use Rattle.cql_lines.specs.Tables.{atoms_of}
 use Rattle.cql_lines.specs.Trees.{spots_of}

@@ -1,6 +1,0 @@
-use Rattle.std.specs.Prelude.{take}
-use Rattle.cql_columns.specs.Classes.{AreAmong}
-use Rattle.cql_columns.proofs.order.classes_of.Given as goal
-
-abbrev pub invariant-loop-filter : goal.invariant-loop-filter
-invariant-loop-filter l = AreAmong l.classes (take l.filter-index l.filters)

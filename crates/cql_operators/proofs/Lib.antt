@@ -1,0 +1,15 @@
+pub mod ElsewhereLaw
+pub mod FoundLaw
+pub mod Gathering
+pub mod LineAtoms
+pub mod LineTables
+pub mod LinesLaw
+pub mod Lives
+pub mod Lowering
+pub mod Parents
+pub mod Raising
+pub mod SpelledAlike
+pub mod SquareTurns
+pub mod Ticks
+pub mod UnaryLaws
+pub mod Widening

@@ -1,0 +1,4 @@
+pub mod Elsewhere
+pub mod LineAtoms
+pub mod SpelledParts
+pub mod Trees

@@ -1,0 +1,130 @@
+//! What is left of a set of nodes while squares are tried one by one.
+ghost use Rattle.std.specs.Prelude.{◌≡◌, ℕ, ◌<◌, ◌&&◌, length, get_or, true, false, not, IfOk, if◌then◌else◌};
+ghost use Rattle.cq_symmetry.specs.Images.{is_in};
+ghost use Rattle.cql_syntax.specs.Values as spec;
+ghost use Rattle.cql_values.specs.Shown.{meant};
+ghost use Rattle.cql_columns.specs.Asked.{AreHaving, AreLeftOpen, AreWanted};
+ghost use Rattle.cql_values.specs.declared.value.Value.TheVariants.{Set};
+ghost use Rattle.cql_columns.specs.Columns.{shown, AreKept};
+
+use cq_common::NoMemory;
+use cq_geometry::Square;
+use cql_columns::filter_column::{FilterColumn, set_at, truth_at};
+use cql_columns::nodes::same;
+use cql_columns::spans::{end_of, first_live};
+use cql_values::sets::has_square;
+use cql_values::value::Value;
+use std::alloc::Global;
+
+/// Squares among which are those that a column has at the nodes of a set.
+pub fn wanted_squares(live: &[bool], squares: &FilterColumn) -> u64
+    ensures { AreWanted (shown squares.now) live.now result }
+{
+    let mut wanted = 0;
+    for n in 0..live.len() {
+        wanted |= wanted_at(live[n], squares, n);
+    }
+    wanted
+}
+
+fn wanted_at(asked: bool, squares: &FilterColumn, n: usize) -> u64
+    ensures { asked ≡ true → spec.has (shown squares.now n) ≡ is_in result }
+{
+    if asked { squares.at(n).squares() } else { 0 }
+}
+
+/// The nodes of a set at which this square is of the column's.
+pub fn having(
+    alloc: Global,
+    left: &[bool],
+    squares: &FilterColumn,
+    square: Square,
+) -> Result<Vec<bool>, NoMemory>
+    ensures { IfOk result (λ there. AreHaving (shown squares.now) square left.now there.items) }
+{
+    let mut there = same(alloc, left)?;
+    keep_having(&mut there, squares, square);
+    Ok(there)
+}
+
+fn keep_having(there: &mut [bool], squares: &FilterColumn, square: Square)
+    ensures { AreKept (λ n. spec.has (shown squares.now n) square) there.old there.new }
+{
+    match squares {
+        FilterColumn::Sets(sets) => keep_by_sets(there, sets, square),
+        _ => keep_by_values(there, squares, square),
+    }
+}
+
+fn keep_by_sets(there: &mut [bool], sets: &[u64], square: Square)
+    ensures { AreKept (λ n. spec.has (meant (Set (get_or sets.now n 0))) square) there.old there.new }
+{
+    for n in 0..there.len() {
+        there[n] = has_in_sets(there[n], sets, square, n);
+    }
+}
+
+fn has_in_sets(asked: bool, sets: &[u64], square: Square, n: usize) -> bool
+    ensures { result ≡ (asked && spec.has (meant (Set (get_or sets.now n 0))) square) }
+{
+    asked && has_one(Value::Set(set_at(sets, n)), square)
+}
+
+fn keep_by_values(there: &mut [bool], squares: &FilterColumn, square: Square)
+    ensures { AreKept (λ n. spec.has (shown squares.now n) square) there.old there.new }
+{
+    for n in 0..there.len() {
+        there[n] = has_there(there[n], squares, square, n);
+    }
+}
+
+fn has_there(asked: bool, squares: &FilterColumn, square: Square, n: usize) -> bool
+    ensures { result ≡ (asked && spec.has (shown squares.now n) square) }
+{
+    asked && has_one(squares.at(n), square)
+}
+
+fn has_one(value: Value, square: Square) -> bool
+    ensures { result ≡ spec.has (meant value) square }
+{
+    has_square(value.squares(), square)
+}
+
+/// The nodes of a set that are not settled by what a column has at some of them.
+pub fn unsettled(every: bool, left: Vec<bool>, there: &[bool], column: &FilterColumn) -> Vec<bool>
+    requires { length there.now ≡ length left.items }
+    ensures { AreLeftOpen every (λ n. spec.holds (shown column.now n)) left.items there.now result.items }
+{
+    let mut later = left;
+    settle(every, &mut later, there, column);
+    later
+}
+
+fn settle(every: bool, left: &mut [bool], there: &[bool], column: &FilterColumn)
+    requires { length there.now ≡ length left.old }
+    ensures { AreLeftOpen every (λ n. spec.holds (shown column.now n)) left.old there.now left.new }
+{
+    for n in first_live(there)..end_of(there) {
+        left[n] = keeps(every, left[n], truth_at(there, n), column, n);
+    }
+}
+
+fn keeps(every: bool, asked: bool, there: bool, column: &FilterColumn, n: usize) -> bool
+    ensures { result ≡ (asked && not (there
+        && (if every then not (spec.holds (shown column.now n)) else spec.holds (shown column.now n)))) }
+{
+    asked && !(there && column.at(n).holds() != every)
+}
+
+/// Of every square where no square settled it, of some where one did.
+pub fn decided(alloc: Global, every: bool, left: Vec<bool>) -> Result<Vec<bool>, NoMemory>
+    ensures { IfOk result (λ truths. (n : ℕ) → n < length left.items
+        → get_or truths.items n false ≡ (if get_or left.items n false then every else not every)) }
+{
+    let mut truths = Vec::with_capacity(alloc, left.len())?;
+    for n in 0..left.len() {
+        let truth = left[n] == every;
+        truths.push(truth)?;
+    }
+    Ok(truths)
+}

@@ -1,0 +1,12 @@
+pub mod AttackLaw
+pub mod ClassLaw
+pub mod ClassSets
+pub mod CoverForms
+pub mod CoverLaw
+pub mod CoverSome
+pub mod EverLaw
+pub mod FreeLaw
+pub mod MoveLaw
+pub mod MovedLaw
+pub mod PairLaw
+pub mod ToldLaw

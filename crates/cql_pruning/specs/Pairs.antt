@@ -1,0 +1,11 @@
+-- Squares of two names that are tried together, as the private functions give it.
+use Rattle.std.specs.Prelude.{ℕ, List}
+use Rattle.cql_syntax.specs.Meaning.{Names}
+use Rattle.cql_syntax.specs.Values.{Value}
+use Rattle.cql_columns.specs.Columns.{shown}
+use Rattle.cql_pruning.specs.Covers.{AreCut, MayPair}
+use Rattle.cql_pruning.specs.declared.pairs.PairTrial.{PairTrial}
+
+-- of the sets of squares some are left, among them all squares of the one name with which values may hold
+abbrev pub LeavesPaired : PairTrial → (Names → ℕ → Value) → List ℕ → List ℕ → Type 0
+LeavesPaired p v old new = AreCut p.live.now (MayPair p.name.now p.other.now (shown p.column.now) v) old new

@@ -1,0 +1,67 @@
+//! Filters that ask of some square whether a man on it attacks one of a designator.
+ghost use Rattle.std.specs.Prelude.{◌≡◌, true, false, IfSome};
+ghost use Rattle.cql_syntax.specs.TreeOf.{filter_tree, filter_trees};
+ghost use Rattle.cql_pruning.specs.Attacked.{AsksAttack, IsOnly, IsItsName, IsDesignated};
+
+use cql_syntax::{Chain, Designator, Filter, Form, Pair};
+
+/// Whether nothing else is asked than that a man on the square that is bound to a name attacks one of a designator's squares.
+pub fn is_attack_alone(name: &[u8], asked: &Filter) -> bool {
+    attacked_part(false, name, asked).is_some()
+}
+
+/// The designator, where it is asked of some square whether a man on it attacks one of the designator's squares.
+pub fn attacked_part<'a>(every: bool, name: &[u8], asked: &'a Filter) -> Option<&'a Designator>
+    ensures some { IfSome result (λ d. every ≡ false) }
+    ensures each { IfSome result (λ d. AsksAttack name.now d.now (filter_tree asked.now)) }
+{
+    if every {
+        return None;
+    }
+    match &asked.form {
+        Form::Chain(Chain::All, parts) => attacked_in_one(name, parts.as_slice()),
+        _ => attacked_by_pair(name, asked),
+    }
+}
+
+fn attacked_in_one<'a>(name: &[u8], parts: &'a [Filter]) -> Option<&'a Designator>
+    ensures { IfSome result (λ d. IsOnly (AsksAttack name.now d.now) (filter_trees parts.now)) }
+{
+    if parts.len() == 1 {
+        attacked_by_pair(name, &parts[0])
+    } else {
+        None
+    }
+}
+
+fn attacked_by_pair<'a>(name: &[u8], asked: &'a Filter) -> Option<&'a Designator>
+    ensures { IfSome result (λ d. AsksAttack name.now d.now (filter_tree asked.now)) }
+{
+    match &asked.form {
+        Form::Pair(Pair::Attacks, first, second) => designated_if(is_its_name(name, first), second),
+        _ => None,
+    }
+}
+
+/// Whether a filter is a name.
+pub fn is_its_name(name: &[u8], filter: &Filter) -> bool
+    ensures { result ≡ true → IsItsName name.now (filter_tree filter.now) }
+{
+    match &filter.form {
+        Form::Name(text) => name == text.as_slice(),
+        _ => false,
+    }
+}
+
+fn designated_if(wanted: bool, filter: &Filter) -> Option<&Designator>
+    ensures wanted { IfSome result (λ d. wanted ≡ true) }
+    ensures each { IfSome result (λ d. IsDesignated d.now (filter_tree filter.now)) }
+{
+    if !wanted {
+        return None;
+    }
+    match &filter.form {
+        Form::Squares(d) => Some(d),
+        _ => None,
+    }
+}

@@ -1,0 +1,269 @@
+//! Filters that hold nowhere in a game, since men that they ask for never stand on a square that they name.
+ghost use Rattle.std.specs.Prelude.{◌≡◌, Bool, List, [], false, true, get_or, IfOk, OnOk};
+ghost use Rattle.cq_position.specs.Search.{SearchedTree};
+ghost use Rattle.cql_syntax.specs.Meaning.{Names, values};
+ghost use Rattle.cql_syntax.specs.TreeOf.{filter_tree, filters_tree};
+ghost use Rattle.cql_syntax.specs.Values.{all_hold, holds};
+ghost use Rattle.cql_values.specs.Shown.{meant};
+ghost use Rattle.cql_values.specs.declared.value.Value.TheVariants.{Set};
+ghost use Rattle.cql_columns.specs.Asked.{AreWanted};
+ghost use Rattle.cql_columns.specs.Columns.{AreAsked, Where};
+ghost use Rattle.cql_columns.specs.Scopes.{tree_in};
+ghost use Rattle.cql_pruning.specs.Ever.{AreEver, HoldsNowhere, IsEver, StandsNowhere, anywhere};
+
+use crate::free::is_all;
+use cq_common::NoMemory;
+use cq_symmetry::SquarePart;
+use cql_columns::filter_column::set_at;
+use cql_columns::leaves::standing_sets;
+use cql_columns::scope::Scope;
+use cql_syntax::{Designator, Filter, Filters, Form};
+use std::alloc::Global;
+
+/// Where some men stand at the nodes that are asked for.
+#[derive(Drop)]
+pub struct Ever {
+    /// Bit k is man k.
+    pub men: u16,
+    /// Squares among which are all on which they stand at one of the nodes.
+    squares: u64,
+    /// Their squares at each node.
+    pub sets: Vec<u64>,
+}
+
+/// How filters are asked.
+#[derive(Clone, Copy)]
+pub struct Asking<'a> {
+    /// Whether each must hold, or each must not.
+    pub want: bool,
+    /// Where men stand that they ask for, as far as that is known.
+    pub evers: &'a [Ever],
+    /// Of which classes there are filters: bit k is class k.
+    pub classes: u32,
+}
+
+// Of so many sets of men at most it is asked where they stand.
+const MOST_SETS_OF_MEN: usize = 8;
+
+// From so many filters on it pays to look where the men stand that they ask for.
+const MANY_FILTERS: usize = 8;
+
+// The men of at most so many filters are looked at: the others mostly ask for the same ones.
+const LOOKED_AT: usize = 16;
+
+/// Where the men stand that designators of some filters ask for, or of their parts, as far as a few of the filters name them. Nothing is
+/// told of few filters, and of such as must hold.
+pub fn evers_of(
+    alloc: Global,
+    want: bool,
+    filters: &Filters,
+    scope: &Scope,
+    live: &[bool],
+) -> Result<Vec<Ever>, NoMemory>
+    requires asked { AreAsked (tree_in scope.now) live.now }
+    ensures { IfOk result (λ evers. AreEver (tree_in scope.now) live.now evers.items) }
+{
+    let mut evers = Vec::new(alloc);
+    if want || filters.len() < MANY_FILTERS {
+        return Ok(evers);
+    }
+    add_some(alloc, filters.as_slice(), scope, live, &mut evers)?;
+    Ok(evers)
+}
+
+// Of some of the filters, evenly from the first to the last.
+fn add_some(
+    alloc: Global,
+    filters: &[Filter],
+    scope: &Scope,
+    live: &[bool],
+    evers: &mut Vec<Ever>,
+) -> Result<(), NoMemory>
+    requires asked { AreAsked (tree_in scope.now) live.now }
+    requires evers { AreEver (tree_in scope.now) live.now evers.old.items }
+    ensures { OnOk result (AreEver (tree_in scope.now) live.now evers.new.items) }
+{
+    let step = filters.len() / LOOKED_AT + 1;
+    for turn in 0..LOOKED_AT {
+        add_at(
+            alloc,
+            filters,
+            turn.saturating_mul(step),
+            scope,
+            live,
+            evers,
+        )?;
+    }
+    Ok(())
+}
+
+// Of the filter with a number, if there is one.
+fn add_at(
+    alloc: Global,
+    filters: &[Filter],
+    number: usize,
+    scope: &Scope,
+    live: &[bool],
+    evers: &mut Vec<Ever>,
+) -> Result<(), NoMemory>
+    requires asked { AreAsked (tree_in scope.now) live.now }
+    requires evers { AreEver (tree_in scope.now) live.now evers.old.items }
+    ensures { OnOk result (AreEver (tree_in scope.now) live.now evers.new.items) }
+{
+    match filters.get(number) {
+        Some(filter) => add_filter(alloc, filter, scope, live, evers),
+        None => Ok(()),
+    }
+}
+
+#[cycle(add_filters)]
+fn add_filters(
+    alloc: Global,
+    filters: &Filters,
+    scope: &Scope,
+    live: &[bool],
+    evers: &mut Vec<Ever>,
+) -> Result<(), NoMemory>
+    requires asked { AreAsked (tree_in scope.now) live.now }
+    requires evers { AreEver (tree_in scope.now) live.now evers.old.items }
+    ensures { OnOk result (AreEver (tree_in scope.now) live.now evers.new.items) }
+{
+    for filter in filters.as_slice() {
+        add_filter(alloc, filter, scope, live, evers)?;
+    }
+    Ok(())
+}
+
+#[cycle(add_filters)]
+fn add_filter(
+    alloc: Global,
+    filter: &Filter,
+    scope: &Scope,
+    live: &[bool],
+    evers: &mut Vec<Ever>,
+) -> Result<(), NoMemory>
+    requires asked { AreAsked (tree_in scope.now) live.now }
+    requires evers { AreEver (tree_in scope.now) live.now evers.old.items }
+    ensures { OnOk result (AreEver (tree_in scope.now) live.now evers.new.items) }
+{
+    match &filter.form {
+        Form::Squares(d) => add_men(alloc, d.men, scope, live, evers),
+        Form::Chain(chain, parts) if is_all(*chain) => {
+            add_filters(alloc, parts, scope, live, evers)
+        }
+        _ => Ok(()),
+    }
+}
+
+fn add_men(
+    alloc: Global,
+    men: u16,
+    scope: &Scope,
+    live: &[bool],
+    evers: &mut Vec<Ever>,
+) -> Result<(), NoMemory>
+    requires asked { AreAsked (tree_in scope.now) live.now }
+    requires evers { AreEver (tree_in scope.now) live.now evers.old.items }
+    ensures { OnOk result (AreEver (tree_in scope.now) live.now evers.new.items) }
+{
+    if evers.len() >= MOST_SETS_OF_MEN || is_known(evers, men) {
+        return Ok(());
+    }
+    let ever = ever_of(alloc, men, scope, live)?;
+    evers.push(ever)?;
+    Ok(())
+}
+
+fn is_known(evers: &[Ever], men: u16) -> bool {
+    evers.iter().any(|ever| ever.men == men)
+}
+
+// Where these men stand.
+fn ever_of(alloc: Global, men: u16, scope: &Scope, live: &[bool]) -> Result<Ever, NoMemory>
+    requires asked { AreAsked (tree_in scope.now) live.now }
+    ensures { IfOk result (IsEver (tree_in scope.now) live.now) }
+{
+    let everywhere = on_any_square(men);
+    let sets = standing_sets(alloc, &everywhere, scope, live)?;
+    let squares = squares_in(live, &sets);
+    Ok(Ever { men, squares, sets })
+}
+
+// Squares among which are those of the sets at the nodes that are asked for.
+fn squares_in(live: &[bool], sets: &[u64]) -> u64
+    ensures { AreWanted (λ n. meant (Set (get_or sets.now n 0))) live.now result }
+{
+    let mut squares = 0;
+    for n in 0..live.len() {
+        squares |= set_at(sets, n);
+    }
+    squares
+}
+
+fn on_any_square(men: u16) -> Designator
+    ensures { result ≡ anywhere men }
+{
+    Designator {
+        men,
+        part: SquarePart {
+            squares: u64::MAX,
+            whole_ranks: false,
+            whole_files: false,
+        },
+    }
+}
+
+/// Whether filters must not hold, and this one holds nowhere.
+pub fn fails_anyway(asking: &Asking, filter: &Filter) -> bool
+    ensures want { result ≡ true → asking.now.want ≡ false }
+    ensures nowhere { result ≡ true → (tree : SearchedTree) (live : List Bool) (e : Names) → AreEver tree live asking.now.evers.now
+        → HoldsNowhere tree live e (filter_tree filter.now) }
+{
+    !asking.want && holds_nowhere(asking.evers, filter)
+}
+
+// True only where a filter holds at none of the nodes that are asked for. Forms other than designators, and braces of such, give false.
+#[cycle(holds_nowhere)]
+#[tactic(auto, unfolding(cql_syntax::specs::Meaning::value, cql_syntax::specs::Contexts::designator_image))]
+fn holds_nowhere(evers: &[Ever], filter: &Filter) -> bool
+    ensures { result ≡ true → (tree : SearchedTree) (live : List Bool) (e : Names) → AreEver tree live evers.now
+        → HoldsNowhere tree live e (filter_tree filter.now) }
+{
+    match &filter.form {
+        Form::Squares(d) => stands_nowhere(evers, d),
+        Form::Chain(chain, parts) => is_all(*chain) && one_nowhere(evers, parts),
+        _ => false,
+    }
+}
+
+// Whether one of some filters holds nowhere, so that they hold nowhere together.
+#[cycle(holds_nowhere)]
+fn one_nowhere(evers: &[Ever], parts: &Filters) -> bool
+    ensures { result ≡ true → (tree : SearchedTree) (live : List Bool) (e : Names) → AreEver tree live evers.now
+        → Where live (λ n. holds (all_hold (values tree [] e (filters_tree parts.now) n)) ≡ false) }
+{
+    for part in parts.as_slice() {
+        if holds_nowhere(evers, part) {
+            return true;
+        }
+    }
+    false
+}
+
+fn stands_nowhere(evers: &[Ever], d: &Designator) -> bool
+    ensures { result ≡ true → (tree : SearchedTree) (live : List Bool) → AreEver tree live evers.now → StandsNowhere tree live d.now }
+{
+    for ever in evers {
+        if is_without(ever, d) {
+            return true;
+        }
+    }
+    false
+}
+
+// Whether it is told where just these men stand, and none of the squares is among those.
+fn is_without(ever: &Ever, d: &Designator) -> bool
+    ensures { result ≡ true → (tree : SearchedTree) (live : List Bool) → IsEver tree live ever.now → StandsNowhere tree live d.now }
+{
+    ever.men == d.men && ever.squares & d.part.squares == 0
+}

@@ -1,0 +1,129 @@
+//! Whether the moves to nodes are as columns ask.
+ghost use Rattle.std.specs.Prelude.{◌≡◌, ℕ, ◌<◌, ◌&&◌, length, get_or, false, option_map, Option, IfOk};
+ghost use Rattle.cq_position.specs.Games.{IsTree, node_at};
+ghost use Rattle.cql_values.specs.Shown.{meant};
+ghost use Rattle.cql_columns.specs.Columns.{AreAsked, AreKept, is_live, shown};
+ghost use Rattle.cql_columns.specs.Scopes.{tree_in};
+ghost use Rattle.cql_pruning.specs.Moved.{is_as_asked};
+ghost use Rattle.cql_pruning.specs.Promoting.{ArePromoting, is_promotion};
+
+use cq_common::NoMemory;
+use cq_position::Promotion;
+use cql_columns::filter_column::{FilterColumn, blank_truths};
+use cql_columns::nodes::same;
+use cql_columns::scope::Scope;
+use cql_columns::spans::{asked_end, first_asked};
+use cql_values::led::{before, led_to, meets_all};
+use cql_values::value::Value;
+use pgn_tree::Game;
+use std::alloc::Global;
+
+/// The nodes of a set or, where promotions alone are wanted, those of them to which one led.
+pub fn promoting(
+    alloc: Global,
+    scope: &Scope,
+    wanted: bool,
+    live: &[bool],
+) -> Result<Vec<bool>, NoMemory>
+    requires asked { AreAsked (tree_in scope.now) live.now }
+    ensures { IfOk result (λ some. ArePromoting (tree_in scope.now) wanted live.now some.items) }
+{
+    let mut some = same(alloc, live)?;
+    if wanted {
+        keep_promotions(&mut some, scope.game);
+    }
+    Ok(some)
+}
+
+// Leaves those nodes of a set to which a promotion led.
+fn keep_promotions(left: &mut [bool], game: &Game)
+    requires { length left.old ≡ length game.now.nodes }
+    ensures { AreKept (λ n. is_promotion (node_at game.now.nodes n).led_by) left.old left.new }
+{
+    for n in first_asked(left, game.len())..asked_end(left, game.len()) {
+        left[n as usize] = is_promoted(left[n as usize], game, n);
+    }
+}
+
+fn is_promoted(asked: bool, game: &Game, n: u32) -> bool
+    requires { n < length game.now.nodes }
+    ensures { result ≡ (asked && is_promotion (node_at game.now.nodes n).led_by) }
+{
+    if !asked {
+        return false;
+    }
+    match game.move_to(n) {
+        Some(m) => m.promotion != Promotion::None,
+        None => false,
+    }
+}
+
+/// The columns of the parts of a move, its goal aside: None of a part of which nothing is asked.
+#[derive(Drop)]
+pub struct PartColumns {
+    pub origin: Option<FilterColumn>,
+    pub taken: Option<FilterColumn>,
+    pub promoted: Option<FilterColumn>,
+}
+
+/// Whether a node is of a set, and the move to it is as columns ask in each part that is written.
+pub fn moves_met(
+    alloc: Global,
+    scope: &Scope,
+    parts: &PartColumns,
+    goal: &Option<FilterColumn>,
+    live: &[bool],
+) -> Result<Vec<bool>, NoMemory>
+    requires tree { IsTree scope.now.game.now.nodes }
+    requires asked { AreAsked (tree_in scope.now) live.now }
+    ensures { IfOk result (λ truths. (n : ℕ) → get_or truths.items n false
+        ≡ (is_live live.now n && is_as_asked (tree_in scope.now) parts.now (option_map (λ c. shown c n) goal.now) n)) }
+{
+    let mut truths = blank_truths(alloc, scope.game.len() as usize)?;
+    for n in 0..scope.game.len() {
+        truths[n as usize] = is_met(live[n as usize], scope, parts, goal, n);
+    }
+    Ok(truths)
+}
+
+fn is_met(
+    asked: bool,
+    scope: &Scope,
+    parts: &PartColumns,
+    goal: &Option<FilterColumn>,
+    n: u32,
+) -> bool
+    requires tree { IsTree scope.now.game.now.nodes }
+    requires node { n < length scope.now.game.now.nodes }
+    ensures { result ≡ (asked && is_as_asked (tree_in scope.now) parts.now (option_map (λ c. shown c n) goal.now) n) }
+{
+    if !asked {
+        return false;
+    }
+    let goal = written_at(goal, n as usize);
+    meets_parts(scope, parts, goal, n)
+}
+
+/// Whether the move to a node is as the columns of its parts ask, and its goal is met. Where it came from and what it took is asked at the
+/// node before.
+pub fn meets_parts(scope: &Scope, parts: &PartColumns, goal: Option<Value>, n: u32) -> bool
+    requires tree { IsTree scope.now.game.now.nodes }
+    requires node { n < length scope.now.game.now.nodes }
+    ensures { result ≡ is_as_asked (tree_in scope.now) parts.now (option_map meant goal) n }
+{
+    let before = before(scope.game, scope.variations, n) as usize;
+    let origin = written_at(&parts.origin, before);
+    let taken = written_at(&parts.taken, before);
+    let promoted = written_at(&parts.promoted, n as usize);
+    meets_all(led_to(scope.game, n), origin, goal, taken, promoted)
+}
+
+// The value of a part that is written.
+fn written_at(column: &Option<FilterColumn>, n: usize) -> Option<Value>
+    ensures { option_map meant result ≡ option_map (λ c. shown c n) column.now }
+{
+    match column {
+        Some(column) => Some(column.at(n)),
+        None => None,
+    }
+}

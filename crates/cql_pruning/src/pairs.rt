@@ -1,0 +1,161 @@
+//! Squares that attack the square of another name, or are attacked from there, where a set is known to have the other square.
+ghost use Rattle.std.specs.Prelude.{◌≡◌, ◌⊎◌, ℕ, ◌∷◌, [], length, true, false};
+ghost use Rattle.std.specs.Str.{bytes_eq};
+ghost use Rattle.cql_syntax.specs.Meaning as meaning;
+ghost use Rattle.cql_syntax.specs.TreeOf.{filter_tree, filters_tree};
+ghost use Rattle.cql_syntax.specs.Values as spec;
+ghost use Rattle.cq_position.specs.Games.{node_at};
+ghost use Rattle.cql_columns.specs.Columns.{AreAsked};
+ghost use Rattle.cql_columns.specs.Scopes.{tree_in, value_with, values_with};
+ghost use Rattle.cql_pruning.specs.Covers.{IsOwn};
+ghost use Rattle.cql_pruning.specs.Pairs.{LeavesPaired};
+
+use crate::covers::cut_related;
+use crate::free::{is_all, is_attack, is_own, turned};
+use cql_columns::filter_column::FilterColumn;
+use cql_columns::scope::Scope;
+use cql_syntax::{Chain, Filter, Filters, Form, Pair};
+
+/// Where squares of a name are tried beside those of another, which are among a column's.
+#[derive(Clone, Copy)]
+pub struct PairTrial<'a> {
+    pub scope: &'a Scope<'a>,
+    /// The nodes at which it is asked.
+    pub live: &'a [bool],
+    pub name: &'a [u8],
+    pub other: &'a [u8],
+    pub column: &'a FilterColumn,
+}
+
+/// Whether somewhere in what must hold the squares of two names are asked of each other.
+#[cycle(asks_pair)]
+pub fn asks_pair(name: &[u8], other: &[u8], asked: &Filter) -> bool {
+    match &asked.form {
+        Form::Chain(chain, parts) => is_all(*chain) && some_pair(name, other, parts),
+        Form::Square(_, _, _, part) => asks_pair(name, other, part),
+        Form::Pair(pair, first, second) => {
+            is_attack(*pair)
+                && (are_own(name, first, other, second) || are_own(other, first, name, second))
+        }
+        _ => false,
+    }
+}
+
+#[cycle(asks_pair)]
+fn some_pair(name: &[u8], other: &[u8], parts: &Filters) -> bool {
+    for part in parts.as_slice() {
+        if asks_pair(name, other, part) {
+            return true;
+        }
+    }
+    false
+}
+
+/// Leaves those squares of a name with which what is asked may hold, where the square of another name is among a column's.
+#[cycle(cut_paired)]
+#[tactic(auto, unfolding(cql_syntax::specs::Meaning::value))]
+pub fn cut_paired(sets: &mut [u64], paired: &PairTrial, asked: &Filter)
+    requires asked { AreAsked (tree_in paired.now.scope.now) paired.now.live.now }
+    requires count { length sets.old ≡ length paired.now.live.now }
+    ensures cut { LeavesPaired paired.now
+        (value_with paired.now.scope.now (filter_tree asked.now)) sets.old sets.new }
+    ensures len { length sets.new ≡ length sets.old }
+{
+    match &asked.form {
+        Form::Chain(chain, parts) => {
+            cut_chain(sets, paired, *chain, parts);
+        }
+        Form::Square(every, third, _, part) => {
+            let third = third.as_slice();
+            cut_third(sets, paired, *every, third, part);
+        }
+        Form::Pair(pair, first, second) => {
+            cut_pair(sets, paired, *pair, first, second);
+        }
+        _ => {}
+    }
+}
+
+// Of the filters of a chain: of those that must all hold.
+#[cycle(cut_paired)]
+fn cut_chain(sets: &mut [u64], paired: &PairTrial, chain: Chain, parts: &Filters)
+    requires asked { AreAsked (tree_in paired.now.scope.now) paired.now.live.now }
+    requires count { length sets.old ≡ length paired.now.live.now }
+    ensures cut { LeavesPaired paired.now
+        (λ e n. spec.chain_of chain (values_with paired.now.scope.now (filters_tree parts.now) e n)) sets.old sets.new }
+    ensures len { length sets.new ≡ length sets.old }
+{
+    if !is_all(chain) {
+        return;
+    }
+    cut_each(sets, paired, parts);
+}
+
+// Of filters that must all hold.
+#[cycle(cut_paired)]
+fn cut_each(sets: &mut [u64], paired: &PairTrial, parts: &Filters)
+    requires asked { AreAsked (tree_in paired.now.scope.now) paired.now.live.now }
+    requires count { length sets.old ≡ length paired.now.live.now }
+    ensures cut { LeavesPaired paired.now
+        (λ e n. spec.all_hold (values_with paired.now.scope.now (filters_tree parts.now) e n)) sets.old sets.new }
+    ensures len { length sets.new ≡ length sets.old }
+{
+    for part in parts.as_slice() {
+        cut_paired(sets, paired, part);
+    }
+}
+
+// Of what is asked of some square under a third name, whatever that square is.
+#[cycle(cut_paired)]
+fn cut_third(sets: &mut [u64], paired: &PairTrial, every: bool, third: &[u8], part: &Filter)
+    requires asked { AreAsked (tree_in paired.now.scope.now) paired.now.live.now }
+    requires count { length sets.old ≡ length paired.now.live.now }
+    ensures cut { (x : meaning.Names → ℕ → spec.Value) → LeavesPaired paired.now
+        (λ e n. spec.square_of every (x e n)
+        (λ s. spec.holds (value_with paired.now.scope.now (filter_tree part.now) ((third.now, s) ∷ e) n))) sets.old sets.new }
+    ensures len { length sets.new ≡ length sets.old }
+{
+    if !is_third(every, third, paired.name, paired.other) {
+        return;
+    }
+    cut_paired(sets, paired, part);
+}
+
+// Of two sets, one of which has no square but that of the one name, and the other none but that of the other name.
+fn cut_pair(sets: &mut [u64], paired: &PairTrial, pair: Pair, first: &Filter, second: &Filter)
+    requires asked { AreAsked (tree_in paired.now.scope.now) paired.now.live.now }
+    requires count { length sets.old ≡ length paired.now.live.now }
+    ensures cut { LeavesPaired paired.now
+        (λ e n. spec.pair_of (node_at paired.now.scope.now.game.now.nodes n).position.men pair
+        (value_with paired.now.scope.now (filter_tree first.now) e n)
+        (value_with paired.now.scope.now (filter_tree second.now) e n)) sets.old sets.new }
+    ensures len { length sets.new ≡ length sets.old }
+{
+    if !is_attack(pair) {
+        return;
+    }
+    if are_own(paired.name, first, paired.other, second) {
+        cut_related(sets, paired.live, paired.scope, pair, paired.column);
+        return;
+    }
+    if are_own(paired.other, first, paired.name, second) {
+        cut_related(sets, paired.live, paired.scope, turned(pair), paired.column);
+    }
+}
+
+// Whether a filter gives no square but that of a name, and another none but that of another name.
+fn are_own(name: &[u8], first: &Filter, other: &[u8], second: &Filter) -> bool
+    ensures first { result ≡ true → IsOwn name.now (λ tree e n. meaning.value tree [] e (filter_tree first.now) n) }
+    ensures second { result ≡ true → IsOwn other.now (λ tree e n. meaning.value tree [] e (filter_tree second.now) n) }
+{
+    is_own(name, first) && is_own(other, second)
+}
+
+// Whether some square is asked for, under a name that differs from two others.
+fn is_third(every: bool, third: &[u8], name: &[u8], other: &[u8]) -> bool
+    ensures some { result ≡ true → every ≡ false }
+    ensures first { result ≡ true → bytes_eq third.now name.now ≡ false }
+    ensures second { result ≡ true → bytes_eq third.now other.now ≡ false }
+{
+    !every && third != name && third != other
+}
