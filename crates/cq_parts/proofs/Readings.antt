@@ -7,7 +7,6 @@ use Rattle.std.proofs.lemmas.List.{map-id}
 use Rattle.std.proofs.lemmas.List.FromFn.{length-range_with_len, get_or-range_with_len, filter_of_map_range_with_len_more}
 use Rattle.cq_position.specs.Games.{Game, numbers, is_searched, searched}
 use Rattle.cq_position.specs.Search.{SearchedTree}
-use Rattle.cql_columns.specs.Classes.{filter_class}
 use Rattle.cql_columns.specs.Columns.{is_live}
 use Rattle.cql_needs.specs.Needs.{query_passes}
 use Rattle.cql_needs.specs.Rows.{key_in}

@@ -13,7 +13,7 @@ use crate::single::Single;
 use crate::single::reading::{filter_of, place, same_single, single_of};
 use crate::table::{Place, put};
 use cq_common::NoMemory;
-use cql_columns::order::class_of;
+use cql_pruning::order::class_of;
 use cql_syntax::Filter;
 use std::alloc::Global;
 

@@ -7,7 +7,7 @@ ghost use Rattle.cq_parts.specs.Matching.{tree_for, is_left, is_asked_by, IsRead
 use crate::nodes::Nodes;
 use crate::part::Part;
 use cq_common::NoMemory;
-use cql_columns::narrow::keep_true;
+use cql_operators::narrow::keep_true;
 use pgn_tree::Game;
 use std::alloc::Global;
 

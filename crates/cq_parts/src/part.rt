@@ -1,6 +1,6 @@
 //! A part of queries, and what a query knows of its own parts.
 ghost use Rattle.std.specs.Prelude.{◌≡◌};
-ghost use Rattle.cql_columns.specs.Classes.{filter_class};
+ghost use Rattle.cql_pruning.specs.Classes.{filter_class};
 ghost use Rattle.cql_syntax.specs.TreeOf.{filters_tree};
 ghost use Rattle.cq_parts.specs.Parts.{first_of};
 

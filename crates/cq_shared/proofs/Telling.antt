@@ -8,6 +8,7 @@ use Rattle.cq_position.specs.Search.{SearchedTree, nodes_in}
 use Rattle.cql_columns.specs.Classes.{filter_class}
 use Rattle.cql_columns.specs.Columns.{is_live, AreAsked}
 use Rattle.cql_columns.specs.Costs.{filter_cost, filters_cost, searched_len}
+use Rattle.cql_pruning.specs.Classes.{form_class, filter_class}
 use Rattle.cql_eval.specs.Hits.{AreKeysAtHits}
 use Rattle.cql_syntax.specs.Hits.{is_hit}
 use Rattle.cql_syntax.specs.Meaning.{value}

@@ -11,6 +11,7 @@ use cq_common::{NoMemory, Steps};
 use cq_parts::{Asked, Part};
 use cql_columns::order::SORTS;
 use cql_eval::{Column, hit_columns_at};
+use cql_pruning::order::SORTS;
 use pgn_tree::Game;
 use std::alloc::Global;
 use std::sync::ledger::Ledger;
