@@ -5,10 +5,9 @@ use Rattle.std.specs.List.{list_any, filter, range_with_len}
 use Rattle.std.proofs.lemmas.List.Sums.{sum_by-cons}
 use Rattle.cq_position.specs.Games.{Game, is_searched, searched}
 use Rattle.cq_position.specs.Search.{SearchedTree, nodes_in}
-use Rattle.cql_columns.specs.Classes.{filter_class}
 use Rattle.cql_columns.specs.Columns.{is_live, AreAsked}
 use Rattle.cql_columns.specs.Costs.{filter_cost, filters_cost, searched_len}
-use Rattle.cql_pruning.specs.Classes.{form_class, filter_class}
+use Rattle.cql_pruning.specs.Classes.{filter_class}
 use Rattle.cql_eval.specs.Hits.{AreKeysAtHits}
 use Rattle.cql_syntax.specs.Hits.{is_hit}
 use Rattle.cql_syntax.specs.Meaning.{value}

@@ -9,7 +9,6 @@ ghost use Rattle.cq_parts.specs.Singles.{shown};
 
 use cq_common::{NoMemory, Steps};
 use cq_parts::{Asked, Part};
-use cql_columns::order::SORTS;
 use cql_eval::{Column, hit_columns_at};
 use cql_pruning::order::SORTS;
 use pgn_tree::Game;

@@ -7,7 +7,7 @@ ghost use Rattle.cq_parts.specs.Wanted.{TakesAtMost, TakeAtMost};
 use crate::asking::asked_at;
 use cq_common::{NoMemory, Steps};
 use cq_parts::{Narrowed, Nodes, Part, Row, Sorted, narrowed, wanted_nodes};
-use cql_columns::order::SORTS;
+use cql_pruning::order::SORTS;
 use pgn_tree::Game;
 use std::alloc::Global;
 use std::sync::ledger::Ledger;
