@@ -1,16 +1,12 @@
 //! What `answer` leaves in a source behind a first match, and what `answer_many` writes.
 ghost use Rattle.std.specs.Prelude.{◌≡◌, ◌≤◌, length, false, IfOk};
-ghost use Rattle.cql_syntax.specs.TreeFaults.{has_any};
-ghost use Rattle.cql_syntax.specs.TreeOf.{query_tree};
 
+use cq_answers::{answer, answer_many};
 use cq_common::{Bytes, NoMemory, Refusal};
 use cq_outside::{MemSource, OpenGate, SureSink, read_up_to};
-use cq_run::{Status, answer, answer_many};
+use cq_queries::{Status, read_query};
 use cq_words::Settings;
-use cql_kinds::check;
-use cql_lexer::query_tokens;
-use cql_parser::{parse, spelled_queries_have_no_any, tokens_of_a_text_are_ended};
-use cql_syntax::{Query, QueryFault, TypedQuery};
+use cql_syntax::{QueryFault, TypedQuery};
 use std::alloc::Global;
 use std::test::Fail;
 use std::thread::Threads;
@@ -23,21 +19,6 @@ const EXPORT: &[u8] =
     [Result \"*\"]\n\n1. d4 {CQL} *\n\n";
 
 const REPORT: &[u8] = b"games 1 matched 1 refused 0\n";
-
-// The query that a text is, before its kinds are looked at.
-fn parsed(alloc: Global, text: &[u8]) -> Result<Query, Refusal<QueryFault>>
-    ensures { IfOk result (λ query. has_any (query_tree query) ≡ false) }
-{
-    tokens_of_a_text_are_ended();
-    spelled_queries_have_no_any();
-    let tokens = query_tokens(alloc, text)?;
-    parse(alloc, tokens.as_slice())
-}
-
-// The query that a text is.
-fn read_query(alloc: Global, text: &[u8]) -> Result<TypedQuery, Refusal<QueryFault>> {
-    check(&parsed(alloc, text)?)
-}
 
 // How a query is answered up to its first match. The contract of this call is a large one.
 fn answered<R: Threads + Sync>(

@@ -7,7 +7,7 @@ use Rattle.std.proofs.lemmas.List.{take_all}
 use Rattle.std.specs.Io.KnownBytes.{Consumes, IsAtEnd}
 use Rattle.cq_outside.specs.Faults.{Rose}
 use Rattle.std.specs.Option.{option_map}
-use Rattle.cq_outside.specs.Told.{Told, Opens, bytes_of}
+use Rattle.cq_outside.specs.Told.{bytes_of}
 use Rattle.cq_common.specs.declared.faults.Refusal.{Refusal}
 use Rattle.cq_common.specs.declared.faults.Refusal.TheVariants.{Fault}
 use Rattle.clap.specs.Takes.{takes}
@@ -20,24 +20,26 @@ use Rattle.cq_words.specs.declared.job.Job.TheVariants.{Run, Eval, Check, Explai
 use Rattle.cq_words.specs.declared.job.Settings.{Settings}
 use Rattle.cq_words.specs.declared.job.WordsRefused.{WordsRefused as RefusedWords}
 use Rattle.cql_syntax.specs.Trees.{QueryTree}
-use Rattle.cq_run.specs.declared.queries.FileRefusal.{FileRefusal}
-use Rattle.cq_run.specs.declared.queries.FileRefusal.TheVariants.{Faulty, Unopened, Unread, OutOfMemory}
-use Rattle.cq_run.specs.declared.status.Status.{Status}
-use Rattle.cq_run.specs.declared.status.Status.TheVariants.{Done, DoneWithRefusals, QueryRefused, WordsRefused, OpenFault, ReadFault, WriteFault, NoMemory, ArchiveTooLong}
+use Rattle.cq_queries.specs.declared.queries.FileRefusal.{FileRefusal}
+use Rattle.cq_queries.specs.declared.queries.FileRefusal.TheVariants.{Faulty, Unopened, Unread, OutOfMemory}
+use Rattle.cq_queries.specs.declared.status.Status.{Status}
+use Rattle.cq_queries.specs.declared.status.Status.TheVariants.{Done, DoneWithRefusals, QueryRefused, WordsRefused, OpenFault, ReadFault, WriteFault, NoMemory, ArchiveTooLong}
 use Rattle.cq_report.specs.Queries.{query_line}
-use Rattle.cq_run.specs.Promise.{SourceView, DeskView, Sinks, Wanted, SaysOfAnswer, IsOneOf, IsUnwritten}
-use Rattle.cq_run.specs.FirstGame.{wanted}
-use Rattle.cq_run.specs.ManyQueries.{texts_of_all}
-use Rattle.cq_run.specs.Run.{Call, from_desk, IsUnmoved, with_open, Opened, FailsToOpen, TakesQuery, LacksMemory, no_memory_to_read, Reading, a_query, some_queries}
-use Rattle.cq_run.specs.Run.{WritesUsage, RefusesQuery, AcceptsQuery, WritesFlat, AnswersFile, archive_answered, archive_unopened, archive_out_of_memory}
+use Rattle.cq_queries.specs.Views.{DeskView, Sinks, IsUnwritten}
+use Rattle.cq_answers.specs.Promise.{Wanted, SaysOfAnswer, IsOneOf}
+use Rattle.cq_answers.specs.FirstGame.{wanted}
+use Rattle.cq_answers.specs.ManyQueries.{texts_of_all}
+use Rattle.cq_run.specs.Run.{Call, from_desk, IsUnmoved}
+use Rattle.cq_queries.specs.Files.{with_open, TakesQuery, Reading, a_query, some_queries}
+use Rattle.cq_run.specs.Run.{WritesUsage, AnswersFile, archive_answered, archive_unopened, archive_out_of_memory}
+use Rattle.cq_queries.specs.Lines.{RefusesQuery, AcceptsQuery, WritesFlat}
 use Rattle.cq_run.specs.Run.{OverText, text_accepted, text_refused, text_out_of_memory, OverFile, file_accepted, file_refused, file_unopened, file_unread, file_out_of_memory}
 use Rattle.cq_run.specs.Run.{SaysAccepted, Explains, RunsMade, DoesJob, job_done, words_refused, words_out_of_memory, Asks, IsInFile, HasText, HasQueriesText}
 use Rattle.cq_run.specs.Run.{NothingRose, IsShort, IsWithin, IsWithinForAll, good_answers, Promise}
-use Rattle.cq_run.specs.SelfRun.{WritesTotals, WritesMade, totals_written, made_out_of_memory}
-use Rattle.cq_run.specs.declared.totals.Totals.{Totals}
-use Rattle.cq_run.specs.QueryReading.{RefusesFile, TakesText, TellsWhy, call_of}
-use Rattle.cq_run.proofs.OneOutcome.{SpellOne, SpellNone, one_query, no_fault}
-use Rattle.cq_run.proofs.QueryFiles.{no_many_fault, same_queries}
+use Rattle.cq_answers.specs.SelfRun.{WritesTotals, WritesMade, totals_written, made_out_of_memory}
+use Rattle.cq_answers.specs.declared.totals.Totals.{Totals}
+use Rattle.cq_queries.specs.QueryReading.{RefusesFile, TellsWhy}
+use Rattle.cq_run.specs.Run.{call_of}
 use Rattle.cq_run.proofs.RunFaults.{job_faults, takes_counts, unmoved_faults, usage_faults}
 
 -- words that ask a job are not refused
@@ -368,26 +370,50 @@ asked_done : (words : List (List ℕ)) (status : Status) (call : Call) (job othe
 asked_done words status call job other value taken does asks =
     subst (λ j. DoesJob j status call) (same_job other job (asks_answered words (Ok job) value taken (Some other) asks)) does
 
-pub job_promised : SpellOne → SpellNone → (words : List (List ℕ)) (status : Status) (call : Call) (job : Job) → Answers (asked words) (Ok job)
+-- a text is accepted or has a fault, and not both
+abbrev pub IsDecided : {Q F : Type 0} → Reading Q F → List ℕ → Type 0
+IsDecided {Q} {F} reading text =
+    (((found : Q) × reading.Is text found) × ((fault : F) → reading.Has text fault → ⊥))
+    ⊎ (((fault : F) × reading.Has text fault) × ((found : Q) → reading.Is text found → ⊥))
+
+-- the laws of what a file is asked for: each text is decided, and is accepted as one thing at most
+pub record HasOneOutcome {Q F : Type 0} (reading : Reading Q F) : Type 0 where
+  pub one : (text : List ℕ) (found other : Q) → reading.Is text found → reading.Is text other → found ≡ other
+  pub decided : (text : List ℕ) → IsDecided reading text
+
+not_of_both : {Q F : Type 0} (reading : Reading Q F) (text : List ℕ) (found : Q) (fault : F) → IsDecided reading text → reading.Is text found
+    → reading.Has text fault → ⊥
+not_of_both reading text found fault (inl accepted) is has = accepted.1 fault has
+not_of_both reading text found fault (inr refused) is has = refused.1 found is
+
+not_both : {Q F : Type 0} (reading : Reading Q F) → HasOneOutcome reading → (text : List ℕ) (found : Q) (fault : F) → reading.Is text found
+    → reading.Has text fault → ⊥
+not_both reading laws text found fault is has = not_of_both reading text found fault (laws.decided text) is has
+
+only_one : {Q F : Type 0} (reading : Reading Q F) → HasOneOutcome reading → (text : List ℕ) (found : Q) → reading.Is text found → Only reading text found
+only_one reading laws text found is = record {
+  one = λ other also. laws.one text other found also is;
+  none = λ fault has. not_both reading laws text found fault is has;
+}
+
+pub job_promised : HasOneOutcome a_query → HasOneOutcome some_queries → (words : List (List ℕ)) (status : Status) (call : Call) (job : Job) → Answers (asked words) (Ok job)
     → (takes line words ≡ true → Answers (job_in (matches_of line words)) (Ok job)) → DoesJob job status call → Promise words status call
-job_promised one never words status call job value taken does = record {
+job_promised query_laws file_laws words status call job value taken does = record {
   does = job_done job value does;
   faults = job_faults job status call does;
   words_never_refused = λ other asks e. job_not_words job status call does e;
   words_always_refused = λ asks. absurd (let e = asks_answered words (Ok job) value taken None asks in cc);
   query_always_refused = λ other text fault asks has faulty.
-      job_refused_always other text status call has (λ query is. no_fault one never text query fault is faulty)
+      job_refused_always other text status call has (λ query is. not_both a_query query_laws text query fault is faulty)
       (asked_done words status call job other value taken does asks);
   complete = λ other text query asks has is short none.
-      job_complete other text query status call has
-      (record { one = λ q found. one_query one text q query found is; none = λ fault faulty. no_fault one never text query fault is faulty }) short none
+      job_complete other text query status call has (only_one a_query query_laws text query is) short none
       (asked_done words status call job other value taken does asks);
   queries_always_refused = λ other text fault asks has faulty.
-      queries_refused_always other text status call has (λ queries are. no_many_fault one never text queries fault faulty are)
+      queries_refused_always other text status call has (λ queries are. not_both some_queries file_laws text queries fault are faulty)
       (asked_done words status call job other value taken does asks);
   queries_complete = λ other text queries asks has are short none.
-      all_complete other text queries status call has
-      (record { one = λ qs found. same_queries one text qs queries found are; none = λ fault faulty. no_many_fault one never text queries fault faulty are }) short none
+      all_complete other text queries status call has (only_one some_queries file_laws text queries are) short none
       (asked_done words status call job other value taken does asks);
 }
 
@@ -440,57 +466,6 @@ memory_refusal_promised words desk sinks same =
       queries_always_refused = λ job text fault asks has faulty. inr (inr (inl refl));
       queries_complete = λ job text queries asks has are short none. memory_is_good job;
     }
-
--- what opening a file did
-
-opened_told : (name : List ℕ) (before after : Option Told) (left : Option (List ℕ)) → Opens before after name left → after ≡ option_map (with_open name) before
-opened_told name None after left opens = opens
-opened_told name (Some told) after left opens = opens.0
-
-opened_bytes : (name : List ℕ) (before after : Option Told) (left : Option (List ℕ)) → Opens before after name left → (t : Told) → before ≡ Some t → left ≡ Some (bytes_of t.files name)
-opened_bytes name None after left opens t e = cc
-opened_bytes name (Some told) after left opens t e =
-    let same : told ≡ t = cc in
-    opens.1 ∙ ap (λ (x : Told). Some (bytes_of x.files name)) same
-
-pub opened_of : (name : List ℕ) (desk mid after : DeskView) → Opens desk.told mid.told name mid.file.left → mid.file.faults ≡ desk.file.faults → mid.open_faults ≡ desk.open_faults
-    → after.told ≡ mid.told → after.open_faults ≡ mid.open_faults → Opened name desk after mid.file
-opened_of name desk mid after opens reads counts told later = record {
-  told = told ∙ opened_told name desk.told mid.told mid.file.left opens;
-  bytes = opened_bytes name desk.told mid.told mid.file.left opens;
-  faults = reads;
-  opens = later ∙ counts;
-}
-
-same_source : (l m : Option (List ℕ)) (f g : ℕ) → l ≡ m → f ≡ g → ◌≡◌ {A = SourceView} (record { left = l; faults = f }) (record { left = m; faults = g })
-same_source l m f g e h = cc
-
-pub unopened_of : (desk after : DeskView) → Rose desk.open_faults after.open_faults → after.told ≡ desk.told → after.file.left ≡ desk.file.left
-    → after.file.faults ≡ desk.file.faults → FailsToOpen desk after
-unopened_of desk after rose told left reads = record { rose = rose; told = told; file = same_source after.file.left desk.file.left after.file.faults desk.file.faults left reads }
-
-same_desk : (t u : Option Told) (x y : SourceView) (o p : ℕ) → t ≡ u → x ≡ y → o ≡ p
-    → ◌≡◌ {A = DeskView} (record { told = t; file = x; open_faults = o }) (record { told = u; file = y; open_faults = p })
-same_desk t u x y o p e h i = cc
-
-pub unmoved_of : (desk after : DeskView) → after.open_faults ≡ desk.open_faults → after.told ≡ desk.told → after.file.left ≡ desk.file.left
-    → after.file.faults ≡ desk.file.faults → after ≡ desk
-unmoved_of desk after opens told left reads =
-    same_desk after.told desk.told after.file desk.file after.open_faults desk.open_faults told
-    (same_source after.file.left desk.file.left after.file.faults desk.file.faults left reads) opens
-
--- no memory for what was taken of a file
-pub no_memory_after : (most : ℕ) (name : List ℕ) (desk after : DeskView) (text : List ℕ) → TakesQuery most name desk after text → LacksMemory most name desk after
-no_memory_after most name desk after text taken =
-    no_memory_to_read taken.file taken.opened (record { bytes = text; takes = taken.takes; few = taken.few }) taken.faults
-
--- a file of which nothing is taken is refused
-pub untaken : {Q F : Type 0} (reading : Reading Q F) (name : List ℕ) (desk after : DeskView) (why : FileRefusal F) → TakesText reading.most name desk after (Err why)
-    → RefusesFile reading name desk after why
-untaken reading name desk after (Faulty fault) taken = absurd taken
-untaken reading name desk after Unopened taken = taken
-untaken reading name desk after Unread taken = taken
-untaken reading name desk after OutOfMemory taken = taken
 
 -- what was said of a file that is not answered
 pub told_why : {Q F : Type 0} (reading : Reading Q F) (name : List ℕ) (Accepted : Q → Status → Call → Type 0) (why : FileRefusal F) (status : Status)

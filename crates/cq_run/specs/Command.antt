@@ -1,9 +1,9 @@
 -- How the program ends.
 use Rattle.std.specs.Prelude.{◌≡◌, ℕ, List}
 use Rattle.cq_run.specs.Run.{Call, IsUnmoved, Promise}
-use Rattle.cq_run.specs.Status.{exit_code}
-use Rattle.cq_run.specs.declared.status.Status.{Status}
-use Rattle.cq_run.specs.declared.status.Status.TheVariants.{NoMemory}
+use Rattle.cq_queries.specs.Status.{exit_code}
+use Rattle.cq_queries.specs.declared.status.Status.{Status}
+use Rattle.cq_queries.specs.declared.status.Status.TheVariants.{NoMemory}
 
 -- the exit status is that of the status by which these words were answered
 pub record EndsWords (words : List (List ℕ)) (code : ℕ) (call : Call) : Type 0 where

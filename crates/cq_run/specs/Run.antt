@@ -1,11 +1,8 @@
 -- What `run` promises: what it does for its words, what out and err have taken then, and when each answer comes.
-use Rattle.std.specs.Prelude.{◌≡◌, ◌⊎◌, ℕ, ◌+◌, ◌≤◌, ◌<◌, true, List, [], ◌∷◌, ◌++◌, length, take, Option, None, Some, codes}
-use Rattle.std.specs.Option.{option_map}
-use Rattle.std.specs.Io.KnownBytes.{Consumes, IsAtEnd}
+use Rattle.std.specs.Prelude.{◌≡◌, ◌⊎◌, ℕ, ◌+◌, ◌≤◌, ◌<◌, true, List, [], ◌∷◌, length, take, Option, None, Some, codes}
 use Rattle.clap.specs.Takes.{takes}
 use Rattle.clap.specs.Simple.{matches_of}
 use Rattle.cq_outside.specs.Faults.{Rose}
-use Rattle.cq_outside.specs.Flow.{TakesAtMost}
 use Rattle.cq_outside.specs.Told.{Told, bytes_of}
 use Rattle.cql_syntax.specs.Limits.{most_bytes}
 use Rattle.cq_words.specs.Jobs.{asked, job_in}
@@ -13,28 +10,32 @@ use Rattle.cq_words.specs.Line.{line}
 use Rattle.cq_words.specs.declared.job.Job.{Job}
 use Rattle.cq_words.specs.declared.job.Job.TheVariants.{Run, Eval, Check, Explain, SelfRun, Many}
 use Rattle.cq_maker.specs.Made.{made}
-use Rattle.cql_flat_text.specs.FlatText.{items_text}
-use Rattle.cql_syntax.specs.Flat.{flat_query}
 use Rattle.cql_syntax.specs.Trees.{QueryTree}
 use Rattle.cql_syntax.specs.declared.fault.QueryFault.{QueryFault}
 use Rattle.cq_report.specs.Queries.{query_line}
-use Rattle.cq_run.specs.declared.status.Status.{Status}
-use Rattle.cq_run.specs.declared.status.Status.TheVariants.{Done, DoneWithRefusals, QueryRefused, WordsRefused}
-use Rattle.cq_run.specs.declared.status.Status.TheVariants.{OpenFault, ReadFault, WriteFault, NoMemory}
-use Rattle.cq_run.specs.declared.query_files.ManyFault.{ManyFault}
-use Rattle.cq_run.specs.Queries.{IsQuery, IsQueryFault}
-use Rattle.cq_run.specs.QueryFiles.{HoldsQueries, IsManyFault, many_line, most_in_file}
-use Rattle.cq_run.specs.ManyQueries.{texts_of_all}
-use Rattle.cq_run.specs.SelfRun.{WritesMade}
-use Rattle.cq_run.specs.FirstGame.{wanted}
-use Rattle.cq_run.specs.Promise.{SourceView, DeskView, Sinks, Texts, Writes, WritesPrefix, IsUnwritten, NoWriteFailed}
-use Rattle.cq_run.specs.Promise.{OutFailed, ErrFailed, SinkFailed, IsOneOf, AnswerPromise, Suffices, Wanted}
+use Rattle.cq_queries.specs.declared.status.Status.{Status}
+use Rattle.cq_queries.specs.declared.status.Status.TheVariants.{Done, DoneWithRefusals, QueryRefused, WordsRefused}
+use Rattle.cq_queries.specs.declared.status.Status.TheVariants.{OpenFault, ReadFault, WriteFault, NoMemory}
+use Rattle.cq_queries.specs.declared.query_files.ManyFault.{ManyFault}
+use Rattle.cq_queries.specs.Queries.{IsQuery, IsQueryFault}
+use Rattle.cq_queries.specs.QueryFiles.{HoldsQueries, IsManyFault, most_in_file}
+use Rattle.cq_queries.specs.Files.{Opened, FailsToOpen, TakesQuery, FailsToRead, LacksMemory, Reading, a_query, some_queries}
+use Rattle.cq_queries.specs.Lines.{text_for_err, RefusesQuery, AcceptsQuery, WritesFlat}
+use Rattle.cq_answers.specs.ManyQueries.{texts_of_all}
+use Rattle.cq_answers.specs.SelfRun.{WritesMade}
+use Rattle.cq_answers.specs.FirstGame.{wanted}
+use Rattle.cq_queries.specs.Views.{SourceView, DeskView, Sinks, Writes, WritesPrefix, IsUnwritten, NoWriteFailed}
+use Rattle.cq_queries.specs.Views.{ErrFailed, SinkFailed}
+use Rattle.cq_answers.specs.Promise.{IsOneOf, AnswerPromise, Suffices, Wanted}
 
 -- what a call of `run` was lent, as it began and as it ended
 pub record Call : Type 0 where
   pub desk : DeskView
   pub desk_after : DeskView
   pub sinks : Sinks
+
+abbrev pub call_of : DeskView → DeskView → Sinks → Call
+call_of desk after sinks = record { desk = desk; desk_after = after; sinks = sinks }
 
 -- the rest of a call, from a desk in between on
 abbrev pub from_desk : DeskView → Call → Call
@@ -45,69 +46,7 @@ pub record IsUnmoved (call : Call) : Type 0 where
   pub desk : call.desk_after ≡ call.desk
   pub sinks : IsUnwritten call.sinks
 
--- ---- files
-
--- a desk on which one more name was opened
-abbrev pub with_open : List ℕ → Told → Told
-with_open name told = record { files = told.files; opened = told.opened ++ name ∷ [] }
-
--- As far as the desk tells, this name was opened, once, and no other was. The file that was opened, before it was read.
-pub record Opened (name : List ℕ) (desk after : DeskView) (file : SourceView) : Type 0 where
-  pub told : after.told ≡ option_map (with_open name) desk.told
-  pub bytes : (told : Told) → desk.told ≡ Some told → file.left ≡ Some (bytes_of told.files name)
-  pub faults : file.faults ≡ desk.file.faults
-  pub opens : after.open_faults ≡ desk.open_faults
-
--- a file could not be opened: the count of failed opens rose, and nothing else changed
-pub record FailsToOpen (desk after : DeskView) : Type 0 where
-  pub rose : Rose desk.open_faults after.open_faults
-  pub told : after.told ≡ desk.told
-  pub file : after.file ≡ desk.file
-
--- The file of a query, or of several, was opened, and these bytes of it were taken: all, or one more than the limit.
-pub record TakesQuery (most : ℕ) (name : List ℕ) (desk after : DeskView) (text : List ℕ) : Type 0 where
-  pub file : SourceView
-  pub opened : Opened name desk after file
-  pub takes : Consumes file.left after.file.left text
-  pub few : length text ≤ most + 1
-  pub whole : length text ≤ most → IsAtEnd after.file.left
-  pub faults : after.file.faults ≡ file.faults
-
--- such a file was opened, and could not be read: its count rose
-pub record FailsToRead (most : ℕ) (name : List ℕ) (desk after : DeskView) : Type 0 where
-  pub file : SourceView
-  pub opened : Opened name desk after file
-  pub few : TakesAtMost most file.left after.file.left
-  pub rose : Rose file.faults after.file.faults
-
--- no memory to open such a file, or to read it
-pub data LacksMemory (most : ℕ) (name : List ℕ) (desk after : DeskView) : Type 0 where
-  no_memory_to_open : after ≡ desk → LacksMemory most name desk after
-  no_memory_to_read : (file : SourceView) → Opened name desk after file → TakesAtMost (most + 1) file.left after.file.left
-      → after.file.faults ≡ file.faults → LacksMemory most name desk after
-
--- What a file is asked for, one query or several: how many bytes of it count, what its text is where it is accepted, with which faults it
--- is refused, and the line that tells of one.
-pub record Reading (Accepted Fault : Type 0) : Type 1 where
-  pub most : ℕ
-  pub Is : List ℕ → Accepted → Type 0
-  pub Has : List ℕ → Fault → Type 0
-  pub line : Fault → List ℕ
-
-abbrev pub a_query : Reading QueryTree QueryFault
-a_query = record { most = most_bytes; Is = IsQuery; Has = IsQueryFault; line = query_line }
-
-abbrev pub some_queries : Reading (List QueryTree) ManyFault
-some_queries = record { most = most_in_file; Is = HoldsQueries; Has = IsManyFault; line = many_line }
-
--- ---- lines
-
--- the texts of a call that writes to one sink alone
-abbrev pub text_for_err : List ℕ → Texts
-text_for_err text = record { out = []; err = text }
-
-abbrev pub text_for_out : List ℕ → Texts
-text_for_out text = record { out = text; err = [] }
+-- ---- words that are refused
 
 -- the line that answers words that are refused
 abbrev pub usage_line : List ℕ
@@ -118,32 +57,6 @@ abbrev pub WritesUsage : Status → Sinks → Type 0
 WritesUsage WordsRefused sinks = Writes sinks (text_for_err usage_line) × NoWriteFailed sinks
 WritesUsage WriteFault sinks = WritesPrefix sinks (text_for_err usage_line) × ErrFailed sinks
 WritesUsage _ sinks = ⊥
-
--- a query, or a file of queries, is refused: this line is written
-abbrev pub RefusesQuery : List ℕ → Status → Sinks → Type 0
-RefusesQuery text QueryRefused sinks = Writes sinks (text_for_err text) × NoWriteFailed sinks
-RefusesQuery text WriteFault sinks = WritesPrefix sinks (text_for_err text) × ErrFailed sinks
-RefusesQuery text NoMemory sinks = IsUnwritten sinks
-RefusesQuery text _ sinks = ⊥
-
--- a query that is accepted: `ok` is written
-abbrev pub accepted_text : List ℕ
-accepted_text = codes "ok\n"
-
-abbrev pub AcceptsQuery : Status → Sinks → Type 0
-AcceptsQuery Done sinks = Writes sinks (text_for_out accepted_text) × NoWriteFailed sinks
-AcceptsQuery WriteFault sinks = WritesPrefix sinks (text_for_out accepted_text) × OutFailed sinks
-AcceptsQuery _ sinks = ⊥
-
--- a query that is explained: its flat items are written, each on its line
-unfoldable pub flat_lines : QueryTree → List ℕ
-flat_lines query = items_text (flat_query query).items ++ codes "\n"
-
-abbrev pub WritesFlat : QueryTree → Status → Sinks → Type 0
-WritesFlat query Done sinks = Writes sinks (text_for_out (flat_lines query)) × NoWriteFailed sinks
-WritesFlat query WriteFault sinks = WritesPrefix sinks (text_for_out (flat_lines query)) × OutFailed sinks
-WritesFlat query NoMemory sinks = IsUnwritten sinks
-WritesFlat query _ sinks = ⊥
 
 -- ---- jobs
 

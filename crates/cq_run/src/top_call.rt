@@ -3,26 +3,27 @@ ghost use Rattle.std.specs.Prelude.{map, length, ◌≤◌};
 ghost use Rattle.std.specs.String.{string_bytes};
 ghost use Rattle.cq_words.specs.Jobs.{IsInRange};
 ghost use Rattle.cq_words.specs.declared.job.Job.TheVariants as jobs;
-ghost use Rattle.cq_shared.specs.Plans.{trees_of};
+ghost use Rattle.cq_queries.specs.QueryReading.{trees_of};
 ghost use Rattle.cql_syntax.specs.TreeOf.{query_tree};
-ghost use Rattle.cq_run.specs.FirstGame.{wanted};
-ghost use Rattle.cq_run.specs.ManyQueries.{texts_of_all};
-ghost use Rattle.cq_run.specs.QueryReading.{call_of};
-ghost use Rattle.cq_run.specs.Promise.{SinkView, desk_view, sink_view, sinks_of};
-ghost use Rattle.cq_run.specs.Run.{Promise, AnswersFile, OverFile, SaysAccepted, Explains, DoesJob, WritesUsage, a_query};
+ghost use Rattle.cq_answers.specs.FirstGame.{wanted};
+ghost use Rattle.cq_answers.specs.ManyQueries.{texts_of_all};
+ghost use Rattle.cq_run.specs.Run.{call_of, Promise, AnswersFile, OverFile, SaysAccepted, Explains, DoesJob, WritesUsage};
+ghost use Rattle.cq_queries.specs.Views.{SinkView, desk_view, sink_view, sinks_of};
+ghost use Rattle.cq_queries.specs.Files.{a_query};
 
-use crate::all_queries::answer_many_with;
-use crate::archives::answer_with;
-use crate::crew::Crew;
-use crate::flat_form::explain;
-use crate::queries::{accept_query, query_in_file, read_query, refuse_query, report_refusal};
-use crate::query_files::{queries_in_file, report_queries_refusal};
 use crate::selfrun::answer_text_over_made;
-use crate::status::Status;
+use cq_answers::{Crew, answer_many_with, answer_with};
 use cq_common::{OpenFault, Refusal};
 use cq_outside::{Desk, Gate, Sink, write_all_of};
+use cq_queries::laws::{
+    every_file_of_queries_is_accepted_or_has_a_fault, every_text_is_a_query_or_has_a_fault,
+    files_of_queries_have_one_outcome, texts_have_one_outcome,
+};
+use cq_queries::{
+    Status, accept_query, drop_queries, drop_query, explain, queries_in_file, query_in_file,
+    read_query, refuse_query, report_queries_refusal, report_refusal,
+};
 use cq_words::{Job, read_words};
-use cql_parser::{faulty_tokens_spell_no_query, tokens_spell_at_most_one_query};
 use cql_syntax::TypedQuery;
 use std::alloc::Global;
 use std::thread::Threads;
@@ -84,8 +85,10 @@ pub fn run<R: Threads + Sync, D: Desk, O: Sink, E: Sink, G: Gate + Sync>(
         (sinks_of (sink_view O.taken O.faults out.old) (sink_view O.taken O.faults out.new)
         (sink_view E.taken E.faults err.old) (sink_view E.taken E.faults err.new))) }
 {
-    faulty_tokens_spell_no_query();
-    tokens_spell_at_most_one_query();
+    every_text_is_a_query_or_has_a_fault();
+    texts_have_one_outcome();
+    every_file_of_queries_is_accepted_or_has_a_fault();
+    files_of_queries_have_one_outcome();
     match read_words(alloc, words) {
         Ok(job) => {
             let status = do_job(rt, alloc, &job, desk, out, err, gate);
@@ -177,7 +180,7 @@ fn answer_query_file<R: Threads + Sync, D: Desk, O: Sink, E: Sink, G: Gate + Syn
     match query_in_file(crew.alloc, name, desk) {
         Ok(query) => {
             let status = answer_file(crew, &query, archive, desk, out, err);
-            drop(query);
+            drop_query(query);
             status
         }
         Err(why) => report_refusal(crew.alloc, &why, err),
@@ -204,7 +207,7 @@ fn answer_text<R: Threads + Sync, D: Desk, O: Sink, E: Sink, G: Gate + Sync>(
         Err(Refusal::NoMemory) => return Status::NoMemory,
     };
     let status = answer_file(crew, &query, archive, desk, out, err);
-    drop(query);
+    drop_query(query);
     status
 }
 
@@ -244,7 +247,11 @@ fn answer_queries_file<R: Threads + Sync, D: Desk, O: Sink, E: Sink, G: Gate + S
         (sink_view E.taken E.faults err.old) (sink_view E.taken E.faults err.new))) }
 {
     match queries_in_file(crew.alloc, name, desk) {
-        Ok(queries) => { answer_file_by_all(crew, queries.as_slice(), archive, desk, out, err) }
+        Ok(queries) => {
+            let status = answer_file_by_all(crew, queries.as_slice(), archive, desk, out, err);
+            drop_queries(queries);
+            status
+        }
         Err(why) => report_queries_refusal(crew.alloc, &why, err),
     }
 }
@@ -285,7 +292,10 @@ fn check_file<D: Desk, O: Sink, E: Sink>(
         (sink_view E.taken E.faults err.old) (sink_view E.taken E.faults err.new))) }
 {
     match query_in_file(alloc, name, desk) {
-        Ok(_) => accept_query(out),
+        Ok(query) => {
+            drop_query(query);
+            accept_query(out)
+        }
         Err(why) => report_refusal(alloc, &why, err),
     }
 }
@@ -304,7 +314,11 @@ fn explain_file<D: Desk, O: Sink, E: Sink>(
         (sink_view E.taken E.faults err.old) (sink_view E.taken E.faults err.new))) }
 {
     match query_in_file(alloc, name, desk) {
-        Ok(query) => explain(alloc, &query, out),
+        Ok(query) => {
+            let status = explain(alloc, &query, out);
+            drop_query(query);
+            status
+        }
         Err(why) => report_refusal(alloc, &why, err),
     }
 }

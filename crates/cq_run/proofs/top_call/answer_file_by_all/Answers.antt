@@ -1,6 +1,6 @@
-use Rattle.cq_run.specs.Promise.{desk_view}
+use Rattle.cq_queries.specs.Views.{desk_view}
 use Rattle.cq_run.specs.Run.{archive_answered}
-use Rattle.cq_run.proofs.RunPromise.{opened_of}
+use Rattle.cq_queries.proofs.Opening.{opened_of}
 use Rattle.cq_run.proofs.top_call.answer_file_by_all.Goals as goal
 
 pub returns-in-Ok : goal.returns-in-Ok

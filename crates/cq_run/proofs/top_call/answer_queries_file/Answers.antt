@@ -1,17 +1,17 @@
 use Rattle.std.proofs.Common.{List, subst}
 use Rattle.cql_syntax.specs.Trees.{QueryTree}
 use Rattle.cql_syntax.specs.declared.typed.TypedQuery.{TypedQuery}
-use Rattle.cq_shared.specs.Plans.{trees_of}
-use Rattle.cq_run.specs.ManyQueries.{texts_of_all}
-use Rattle.cq_run.specs.Promise.{desk_view, sink_view, sinks_of}
-use Rattle.cq_run.specs.QueryReading.{call_of}
-use Rattle.cq_run.specs.Run.{AnswersFile, some_queries}
-use Rattle.cq_run.proofs.PiecesRead.{held_few}
+use Rattle.cq_queries.specs.QueryReading.{trees_of}
+use Rattle.cq_answers.specs.ManyQueries.{texts_of_all}
+use Rattle.cq_queries.specs.Views.{desk_view, sink_view, sinks_of}
+use Rattle.cq_run.specs.Run.{call_of, AnswersFile}
+use Rattle.cq_queries.specs.Files.{some_queries}
+use Rattle.cq_queries.proofs.PiecesRead.{held_few}
 use Rattle.cq_run.proofs.RunPromise.{file_answered, told_why}
 use Rattle.cq_run.proofs.top_call.answer_queries_file.Goals as goal
 
-pub answer_file_by_all-requires-clause-few : goal.answer_file_by_all-requires-clause-few
-answer_file_by_all-requires-clause-few g c lives within =
+pub answer_file_by_all-status-requires-clause-few : goal.answer_file_by_all-status-requires-clause-few
+answer_file_by_all-status-requires-clause-few g c lives within =
     held_few c.in-Ok.ensures.0 c.in-Ok.queries.items c.as_slice.result.now c.as_slice.ensures.value c.in-Ok.ensures.2
 
 pub returns-in-Ok : goal.returns-in-Ok
@@ -19,11 +19,11 @@ returns-in-Ok g c =
     let view = desk_view g.D.Desk.told g.D.Source.left g.D.Source.faults g.D.Desk.open_faults in
     let out = sink_view g.O.Sink.taken g.O.Sink.faults in
     let err = sink_view g.E.Sink.taken g.E.Sink.faults in
-    let sinks = sinks_of (out c.args.out.now) (out c.answer_file_by_all.new.out) (err c.args.err.now) (err c.answer_file_by_all.new.err) in
+    let sinks = sinks_of (out c.args.out.now) (out c.answer_file_by_all-status.new.out) (err c.args.err.now) (err c.answer_file_by_all-status.new.err) in
     file_answered some_queries c.args.name.now (λ (asks : List QueryTree). AnswersFile c.args.archive.now c.args.crew.now.settings.limit (texts_of_all asks))
-    (trees_of c.in-Ok.queries.items) c.answer_file_by_all.result (view c.args.desk.now) (view c.queries_in_file.new.desk) (view c.answer_file_by_all.new.desk) sinks c.in-Ok.ensures
-    (subst (λ (qs : List TypedQuery). AnswersFile c.args.archive.now c.args.crew.now.settings.limit (texts_of_all (trees_of qs)) c.answer_file_by_all.result
-    (call_of (view c.queries_in_file.new.desk) (view c.answer_file_by_all.new.desk) sinks)) c.as_slice.ensures.value c.answer_file_by_all.ensures)
+    (trees_of c.in-Ok.queries.items) c.answer_file_by_all-status.result (view c.args.desk.now) (view c.queries_in_file.new.desk) (view c.answer_file_by_all-status.new.desk) sinks c.in-Ok.ensures
+    (subst (λ (qs : List TypedQuery). AnswersFile c.args.archive.now c.args.crew.now.settings.limit (texts_of_all (trees_of qs)) c.answer_file_by_all-status.result
+    (call_of (view c.queries_in_file.new.desk) (view c.answer_file_by_all-status.new.desk) sinks)) c.as_slice.ensures.value c.answer_file_by_all-status.ensures)
 
 pub returns-in-Err : goal.returns-in-Err
 returns-in-Err g c =

@@ -1,8 +1,9 @@
 use Rattle.cql_syntax.specs.TreeOf.{query_tree}
 use Rattle.cql_syntax.specs.Trees.{QueryTree}
-use Rattle.cq_run.specs.FirstGame.{wanted}
-use Rattle.cq_run.specs.Promise.{desk_view, sink_view, sinks_of}
-use Rattle.cq_run.specs.Run.{AnswersFile, a_query}
+use Rattle.cq_answers.specs.FirstGame.{wanted}
+use Rattle.cq_queries.specs.Views.{desk_view, sink_view, sinks_of}
+use Rattle.cq_run.specs.Run.{AnswersFile}
+use Rattle.cq_queries.specs.Files.{a_query}
 use Rattle.cq_run.proofs.RunPromise.{file_answered, told_why}
 use Rattle.cq_run.proofs.top_call.answer_query_file.Goals as goal
 

@@ -1,11 +1,13 @@
 use Rattle.std.proofs.Common.{Err, ap, ◌∙◌, refl}
-use Rattle.cq_run.specs.Promise.{sink_view, desk_view}
+use Rattle.cq_queries.specs.Views.{sink_view, desk_view}
 use Rattle.cq_run.proofs.RunPromise.{job_promised, refusal_promised, memory_refusal_promised}
 use Rattle.cq_run.proofs.top_call.run.Goals as goal
 
 pub returns-in-Ok : goal.returns-in-Ok
 returns-in-Ok g c =
-    job_promised c.tokens_spell_at_most_one_query.ensures c.faulty_tokens_spell_no_query.ensures _ c.do_job-status.result _ c.in-Ok.job c.in-Ok.ensures.value c.in-Ok.ensures.taken c.do_job-status.ensures
+    job_promised (record { one = c.texts_have_one_outcome.ensures.query; decided = c.every_text_is_a_query_or_has_a_fault.ensures })
+    (record { one = c.files_of_queries_have_one_outcome.ensures.queries; decided = c.every_file_of_queries_is_accepted_or_has_a_fault.ensures })
+    _ c.do_job-status.result _ c.in-Ok.job c.in-Ok.ensures.value c.in-Ok.ensures.taken c.do_job-status.ensures
 
 pub returns-in-Err-Fault : goal.returns-in-Err-Fault
 returns-in-Err-Fault g c =

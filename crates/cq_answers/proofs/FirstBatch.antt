@@ -1,0 +1,141 @@
+-- Taking a batch, up to the first match.
+use Rattle.std.proofs.Common.{◌≡◌, ◌+◌, ◌^◌, ◌≤◌, ◌<◌, false, ◌++◌, length, ap, sym, ◌∙◌, arith, subst, inl, inr, List}
+use Rattle.std.specs.Prelude.{count_by}
+use Rattle.std.proofs.lemmas.List.Sums.{count_by-le-length}
+use Rattle.cq_batches.specs.Games.{games_of, number_of}
+use Rattle.cq_batches.specs.Kept.{KeptGames}
+use Rattle.cq_batches.specs.declared.batch.Batch.{Batch}
+use Rattle.cql_syntax.specs.Trees.{QueryTree}
+use Rattle.cq_shards.specs.Answers.{answers_from}
+use Rattle.cq_shards.specs.FirstMatch.{AnswersUpToFirst}
+use Rattle.cq_shards.specs.Outcomes.{Outcome}
+use Rattle.cq_shards.specs.declared.answers.GameAnswer.{GameAnswer}
+use Rattle.cq_queries.specs.declared.status.Status.{Status}
+use Rattle.cq_queries.specs.declared.status.Status.TheVariants.{NoMemory}
+use Rattle.cq_answers.specs.Answer.{is_match, is_refused}
+use Rattle.cq_answers.specs.AllGames.{texts_so_far}
+use Rattle.cq_answers.specs.ByBatches.{Laws}
+use Rattle.cq_answers.specs.FirstGame.{some_match, up_to_first}
+use Rattle.cq_queries.specs.Views.{SinkView, Sinks, WritesPrefix}
+use Rattle.cq_answers.specs.Takers.{FirstStopped, FoundNone, Reading, StopsIn, Taken}
+use Rattle.cq_answers.specs.Writing.{FoundSoFar, Stand, WritesSummary}
+use Rattle.cq_answers.proofs.FirstGames.{UpTo, all_up, none_counted, some_counted, some_of_first, up_few, up_on, up_to}
+use Rattle.cq_answers.proofs.FirstTexts.{first_written}
+use Rattle.cq_answers.proofs.GameByGame.{answers_count, as_prefix, prefix_grows}
+use Rattle.cq_answers.proofs.Given.{Rest, count_read, kept_read_on, rest_of}
+use Rattle.cq_queries.proofs.Sinks.{with_err}
+
+-- the answers of the batch up to its first match
+abbrev pub BatchUpTo : QueryTree → Batch → List GameAnswer → Type 0
+BatchUpTo query batch answers = UpTo query (number_of batch) (games_of batch) answers
+
+pub batch_up_to : Laws → (query : QueryTree) (batch : Batch) (answers : List GameAnswer) → AnswersUpToFirst query batch answers → BatchUpTo query batch answers
+batch_up_to laws query batch answers are = up_to laws.have query (number_of batch) (games_of batch) answers are
+
+-- the games taken before, none of which matches
+abbrev pub NoneIn : QueryTree → Sinks → Stand → KeptGames → Type 0
+NoneIn query sinks stand games = Reading games (FoundNone query sinks stand)
+
+-- by what is asked now, which is what was asked
+pub none_now : (was now : QueryTree) (sinks : Sinks) (stand : Stand) (games : KeptGames) → Taken was now games (FoundNone was sinks stand) → NoneIn now sinks stand games
+none_now was now sinks stand games taken = subst (λ q. NoneIn q sinks stand games) (sym taken.same) taken.reading
+
+-- a tally counts no more than the games
+pub first_within : (query : QueryTree) (sinks : Sinks) (stand : Stand) (games : KeptGames) → NoneIn query sinks stand games
+    → (stand.tally.matched ≤ stand.tally.games) × (stand.tally.refused ≤ stand.tally.games)
+first_within query sinks stand games at = (
+  subst (λ (s : Stand). s.tally.matched ≤ s.tally.games) (sym at.holds.found.is) (count_by-le-length (is_match query) at.outcomes),
+  subst (λ (s : Stand). s.tally.refused ≤ s.tally.games) (sym at.holds.found.is) (count_by-le-length is_refused at.outcomes),
+)
+
+pub first_few : (query : QueryTree) (sinks : Sinks) (stand : Stand) (games : KeptGames) (batch : Batch) (answers : List GameAnswer) → NoneIn query sinks stand games
+    → number_of batch ≡ length games → BatchUpTo query batch answers → stand.tally.games + length answers < 2 ^ 62
+first_few query sinks stand games batch answers at index answered =
+    let tally : stand.tally.games ≡ length at.outcomes = ap (λ (t : Stand). t.tally.games) at.holds.found.is in
+    let before = count_read games at.outcomes at.are_read in
+    let count : length answers ≡ length (up_to_first query answered.outcomes) =
+    ap length answered.are ∙ answers_count query (number_of batch) (up_to_first query answered.outcomes) in
+    let fewer = up_few query answered.outcomes in
+    let read = count_read (games_of batch) answered.outcomes answered.are_read in
+    let most = batch.numbers in
+    omega (arith, tally, before, count, fewer, read, most, index)
+
+pub first_answers : (query : QueryTree) (sinks : Sinks) (stand : Stand) (games : KeptGames) (batch : Batch) (answers : List GameAnswer) → (at : NoneIn query sinks stand games)
+    → number_of batch ≡ length games → (answered : BatchUpTo query batch answers) → answers ≡ answers_from query (length at.outcomes) (up_to_first query answered.outcomes)
+first_answers query sinks stand games batch answers at index answered =
+    answered.are ∙ ap (λ n. answers_from query n (up_to_first query answered.outcomes)) (index ∙ count_read games at.outcomes at.are_read)
+
+before_in : (query : QueryTree) (sinks : Sinks) (stand : Stand) (games : KeptGames) → NoneIn query sinks stand games → Reading games (λ rs. some_match query rs ≡ false)
+before_in query sinks stand games at = record { outcomes = at.outcomes; are_read = at.are_read; holds = at.holds.none }
+
+none_prefix : (query : QueryTree) (rs more : List Outcome) (sinks : Sinks) (stand : Stand) → FoundNone query sinks stand rs
+    → WritesPrefix sinks (texts_so_far false query (up_to_first query (rs ++ more)))
+none_prefix query rs more sinks stand so =
+    let up : rs ++ up_to_first query more ≡ up_to_first query (rs ++ more) = sym (up_on query rs more so.none) in
+    subst (λ l. WritesPrefix sinks (texts_so_far false query l)) up
+    (prefix_grows false query rs (up_to_first query more) sinks (as_prefix sinks (texts_so_far false query rs) so.found.writes))
+
+-- no memory for its answers
+pub first_wants : Laws → (query : QueryTree) (sinks : Sinks) (stand : Stand) (games : KeptGames) (batch : Batch) → NoneIn query sinks stand games
+    → FirstStopped query sinks NoMemory games (games_of batch)
+first_wants laws query sinks stand games batch at =
+    let rest : Rest (games_of batch) = rest_of laws.have (games_of batch) in record {
+      before = before_in query sinks stand games at;
+      after = record {
+        outcomes = at.outcomes ++ rest.outcomes;
+        are_read = kept_read_on games (games_of batch) at.outcomes rest.outcomes at.are_read rest.are_read;
+        holds = inl (none_prefix query at.outcomes rest.outcomes sinks stand at.holds, at.holds.found.unfailed);
+      };
+    }
+
+-- a write failed, or no memory was found for it
+pub first_halts : (status : Status) (query : QueryTree) (sinks new : Sinks) (stand : Stand) (games : KeptGames) (batch : Batch) (answers : List GameAnswer)
+    → (at : NoneIn query sinks stand games) → (answered : BatchUpTo query batch answers)
+    → StopsIn (texts_so_far false query (at.outcomes ++ up_to_first query answered.outcomes)) new status → FirstStopped query new status games (games_of batch)
+first_halts status query sinks new stand games batch answers at answered stops = record {
+  before = before_in query sinks stand games at;
+  after = record {
+    outcomes = at.outcomes ++ answered.outcomes;
+    are_read = kept_read_on games (games_of batch) at.outcomes answered.outcomes at.are_read answered.are_read;
+    holds = inl (subst (λ l. StopsIn (texts_so_far false query l) new status) (sym (up_on query at.outcomes answered.outcomes at.holds.none)) stops);
+  };
+}
+
+found_with : (query : QueryTree) (before outs : List Outcome) (sinks : Sinks) (stand : Stand) → some_match query before ≡ false
+    → FoundSoFar false query (before ++ up_to_first query outs) sinks stand → FoundSoFar false query (up_to_first query (before ++ outs)) sinks stand
+found_with query before outs sinks stand none found = subst (λ l. FoundSoFar false query l sinks stand) (sym (up_on query before outs none)) found
+
+-- the batch has a match, and the last line is written
+pub first_matches : (status : Status) (query : QueryTree) (sinks new : Sinks) (stand after : Stand) (err : SinkView) (games : KeptGames) (batch : Batch) (answers : List GameAnswer)
+    → (at : NoneIn query sinks stand games) → (answered : BatchUpTo query batch answers)
+    → FoundSoFar false query (at.outcomes ++ up_to_first query answered.outcomes) new after
+    → 0 < after.tally.matched → WritesSummary after.tally new.err_after err status → FirstStopped query (with_err new err) status games (games_of batch)
+first_matches status query sinks new stand after err games batch answers at answered found some writes =
+    let all = at.outcomes ++ answered.outcomes in
+    let first = found_with query at.outcomes answered.outcomes new after at.holds.none found in
+    let count : after.tally.matched ≡ count_by (is_match query) (up_to_first query all) = ap (λ (s : Stand). s.tally.matched) first.is in record {
+      before = before_in query sinks stand games at;
+      after = record {
+        outcomes = all;
+        are_read = kept_read_on games (games_of batch) at.outcomes answered.outcomes at.are_read answered.are_read;
+        holds = inr (record {
+          some = sym (some_of_first query all) ∙ some_counted query (up_to_first query all) (omega (arith, some, count));
+          writes = first_written status query all new err after.tally after.kept first writes;
+        });
+      };
+    }
+
+-- or none
+pub first_on : (query : QueryTree) (sinks new : Sinks) (stand after : Stand) (games : KeptGames) (batch : Batch) (answers : List GameAnswer)
+    → (at : NoneIn query sinks stand games) → (answered : BatchUpTo query batch answers)
+    → FoundSoFar false query (at.outcomes ++ up_to_first query answered.outcomes) new after → after.tally.matched ≤ 0 → NoneIn query new after (games ++ games_of batch)
+first_on query sinks new stand after games batch answers at answered found none_matched =
+    let all = at.outcomes ++ answered.outcomes in
+    let first = found_with query at.outcomes answered.outcomes new after at.holds.none found in
+    let count : after.tally.matched ≡ count_by (is_match query) (up_to_first query all) = ap (λ (s : Stand). s.tally.matched) first.is in
+    let none : some_match query all ≡ false =
+    sym (some_of_first query all) ∙ none_counted query (up_to_first query all) (omega (arith, count, none_matched)) in record {
+      outcomes = all;
+      are_read = kept_read_on games (games_of batch) at.outcomes answered.outcomes at.are_read answered.are_read;
+      holds = record { none = none; found = subst (λ l. FoundSoFar false query l new after) (all_up query all none) first };
+    }

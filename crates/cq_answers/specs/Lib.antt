@@ -1,0 +1,14 @@
+pub mod Refused
+pub mod Outcomes
+pub mod Answer
+pub mod Sorts
+pub mod Exports
+pub mod ByBatches
+pub mod Promise
+pub mod AllGames
+pub mod FirstGame
+pub mod ManyQueries
+pub mod Writing
+pub mod ManyWriting
+pub mod Takers
+pub mod SelfRun
