@@ -8,7 +8,7 @@ use Rattle.cq_batches.specs.declared.state.BatchFault.TheVariants.{ReadFault as 
 use Rattle.cq_outside.specs.Flow.{TakesAtMost}
 use Rattle.cq_common.specs.declared.faults.Refusal.{Refusal}
 use Rattle.cq_common.specs.declared.faults.Refusal.TheVariants.{Fault, NoMemory as IsNoMemory}
-use Rattle.cq_shards.specs.Outcomes.{Outcome, AreKeptRead}
+use Rattle.cq_answered.specs.Outcomes.{Outcome, AreKeptRead}
 use Rattle.cq_queries.specs.declared.status.Status.{Status}
 use Rattle.cq_queries.specs.declared.status.Status.TheVariants.{Done, DoneWithRefusals, QueryRefused, WordsRefused, OpenFault, ReadFault, WriteFault, NoMemory, ArchiveTooLong}
 use Rattle.cq_answers.specs.ByBatches.{Laws}

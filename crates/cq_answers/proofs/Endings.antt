@@ -4,7 +4,7 @@ use Rattle.cq_batches.specs.Rounds.{AreFirst, Reads, ReadsAll}
 use Rattle.cq_batches.specs.Whole.{cut_games, whole, whole_spans}
 use Rattle.cq_outside.specs.Faults.{Rose}
 use Rattle.pgn_cut.specs.Cut.{cut, closed}
-use Rattle.cq_shards.specs.Outcomes.{Outcome, AreKeptRead}
+use Rattle.cq_answered.specs.Outcomes.{Outcome, AreKeptRead}
 use Rattle.cq_queries.specs.declared.status.Status.{Status}
 use Rattle.cq_queries.specs.declared.status.Status.TheVariants.{Done, DoneWithRefusals, QueryRefused, WordsRefused, OpenFault, ReadFault, WriteFault, NoMemory, ArchiveTooLong}
 use Rattle.cq_answers.specs.ByBatches.{Laws}

@@ -10,18 +10,18 @@ use Rattle.std.proofs.lemmas.List.Kept.{AllPairs-cons}
 use Rattle.pgn_export.specs.Export.{export_text}
 use Rattle.cq_position.specs.Games.{Game}
 use Rattle.cq_answers.specs.Sorts.{is_some, have_sort}
-use Rattle.cq_shards.proofs.Counts.{key_count}
-use Rattle.cq_shards.proofs.Values.{all_kept}
-use Rattle.cq_shards.specs.Order.{AreApart, ComesBefore, IsEarlier, directions, is_match as is_match_kept, keys_in, values_in}
-use Rattle.cq_shards.specs.declared.answers.Answer.TheVariants.{Match}
-use Rattle.cq_shards.specs.declared.answers.GameAnswer.{GameAnswer}
+use Rattle.cq_answered.proofs.Counts.{key_count}
+use Rattle.cq_answered.proofs.Values.{all_kept}
+use Rattle.cq_answered.specs.Order.{AreApart, ComesBefore, IsEarlier, directions, is_match as is_match_kept, keys_in, values_in}
+use Rattle.cq_answered.specs.declared.answers.Answer.TheVariants.{Match}
+use Rattle.cq_answered.specs.declared.answers.GameAnswer.{GameAnswer}
 use Rattle.cql_syntax.specs.Hits.{marked, keys, hits}
 use Rattle.cql_syntax.specs.Trees.{FilterTrees, QueryTree}
-use Rattle.cq_shards.specs.Answers.{has_match}
+use Rattle.cq_answered.specs.Answers.{has_match}
 use Rattle.cq_answers.specs.Answer.{export_if}
 use Rattle.cq_answers.specs.Exports.{AreExports, exports_of, match_if, matches_from}
-use Rattle.cq_shards.specs.Answers.{text_of}
-use Rattle.cq_shards.specs.Outcomes.{Outcome}
+use Rattle.cq_answered.specs.Answers.{text_of}
+use Rattle.cq_answered.specs.Outcomes.{Outcome}
 use Rattle.cq_answers.specs.Writing.{InOrder}
 use Rattle.cq_answers.specs.AllGames.{written}
 

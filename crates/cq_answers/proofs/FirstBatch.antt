@@ -6,10 +6,10 @@ use Rattle.cq_batches.specs.Games.{games_of, number_of}
 use Rattle.cq_batches.specs.Kept.{KeptGames}
 use Rattle.cq_batches.specs.declared.batch.Batch.{Batch}
 use Rattle.cql_syntax.specs.Trees.{QueryTree}
-use Rattle.cq_shards.specs.Answers.{answers_from}
-use Rattle.cq_shards.specs.FirstMatch.{AnswersUpToFirst}
-use Rattle.cq_shards.specs.Outcomes.{Outcome}
-use Rattle.cq_shards.specs.declared.answers.GameAnswer.{GameAnswer}
+use Rattle.cq_answered.specs.Answers.{answers_from}
+use Rattle.cq_answered.specs.FirstMatch.{AnswersUpToFirst}
+use Rattle.cq_answered.specs.Outcomes.{Outcome}
+use Rattle.cq_answered.specs.declared.answers.GameAnswer.{GameAnswer}
 use Rattle.cq_queries.specs.declared.status.Status.{Status}
 use Rattle.cq_queries.specs.declared.status.Status.TheVariants.{NoMemory}
 use Rattle.cq_answers.specs.Answer.{is_match, is_refused}

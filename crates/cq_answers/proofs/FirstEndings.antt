@@ -11,7 +11,7 @@ use Rattle.cq_outside.specs.Faults.{Rose}
 use Rattle.cq_outside.specs.Flow.{Grew}
 use Rattle.cql_syntax.specs.Trees.{QueryTree}
 use Rattle.pgn_cut.specs.Cut.{cut}
-use Rattle.cq_shards.specs.Outcomes.{Outcome, AreKeptRead}
+use Rattle.cq_answered.specs.Outcomes.{Outcome, AreKeptRead}
 use Rattle.cq_queries.specs.declared.status.Status.{Status}
 use Rattle.cq_queries.specs.declared.status.Status.TheVariants.{Done, DoneWithRefusals, QueryRefused, WordsRefused, OpenFault, ReadFault, WriteFault, NoMemory, ArchiveTooLong}
 use Rattle.cq_answers.specs.Answer.{export_if, fault_lines}

@@ -9,12 +9,12 @@ use Rattle.cq_position.specs.Games.{Game}
 use Rattle.pgn_export.specs.Export.{export_text}
 use Rattle.cql_syntax.specs.Hits.{keys, marked}
 use Rattle.cql_syntax.specs.Trees.{QueryTree}
-use Rattle.cq_shards.specs.Answers.{answer_of, answers_from, has_match}
-use Rattle.cq_shards.specs.FirstMatch.{AreUpToFirst}
-use Rattle.cq_shards.specs.Order.{is_found, is_match as is_match_kept, values_in}
-use Rattle.cq_shards.specs.Outcomes.{AreKeptRead, Outcome}
-use Rattle.cq_shards.specs.declared.answers.Answer.TheVariants.{Miss, Match}
-use Rattle.cq_shards.specs.declared.answers.GameAnswer.{GameAnswer}
+use Rattle.cq_answered.specs.Answers.{answer_of, answers_from, has_match}
+use Rattle.cq_answered.specs.FirstMatch.{AreUpToFirst}
+use Rattle.cq_answered.specs.Order.{is_found, is_match as is_match_kept, values_in}
+use Rattle.cq_answered.specs.Outcomes.{AreKeptRead, Outcome}
+use Rattle.cq_answered.specs.declared.answers.Answer.TheVariants.{Miss, Match}
+use Rattle.cq_answered.specs.declared.answers.GameAnswer.{GameAnswer}
 use Rattle.cq_answers.specs.Answer.{export_if, is_match, tally_of, report_of}
 use Rattle.cq_answers.specs.ByBatches.{HaveOutcomes}
 use Rattle.cq_answers.specs.FirstGame.{AreFirst, first_export, first_texts_of, some_match, up_to_first}

@@ -11,8 +11,8 @@ use Rattle.cq_outside.specs.Flow.{Grew}
 use Rattle.cql_syntax.specs.Trees.{QueryTree}
 use Rattle.pgn_cut.specs.Joined.{game_bytes}
 use Rattle.pgn_cut.specs.declared.span.Span.{Span}
-use Rattle.cq_shards.specs.Outcomes.{Outcome, AreKeptRead}
-use Rattle.cq_shards.specs.declared.answers.GameAnswer.{GameAnswer}
+use Rattle.cq_answered.specs.Outcomes.{Outcome, AreKeptRead}
+use Rattle.cq_answered.specs.declared.answers.GameAnswer.{GameAnswer}
 use Rattle.cq_answers.specs.Answer.{export_if, fault_lines, summary_of, tally_of}
 use Rattle.cq_answers.specs.AllGames.{texts_so_far}
 use Rattle.cq_answers.specs.ByBatches.{HaveOneOutcome, Laws}

@@ -13,20 +13,20 @@ use Rattle.cq_position.specs.Games.{Game}
 use Rattle.pgn_export.specs.Export.{export_text}
 use Rattle.pgn_reader.specs.declared.fault.GameFault.{GameFault}
 use Rattle.cq_answers.specs.Sorts.{have_sort}
-use Rattle.cq_shards.specs.declared.answers.Answer.TheVariants.{Refused, Miss, Match}
-use Rattle.cq_shards.specs.declared.answers.GameAnswer.{GameAnswer}
+use Rattle.cq_answered.specs.declared.answers.Answer.TheVariants.{Refused, Miss, Match}
+use Rattle.cq_answered.specs.declared.answers.GameAnswer.{GameAnswer}
 use Rattle.cq_queries.specs.declared.status.Status.{Status}
 use Rattle.cq_queries.specs.declared.status.Status.TheVariants.{Done, DoneWithRefusals, QueryRefused, WordsRefused, OpenFault, ReadFault, WriteFault, NoMemory, ArchiveTooLong}
 use Rattle.cq_answers.specs.declared.tally.Tally.{Tally}
 use Rattle.cq_answers.specs.AllGames.{AreAnswers, texts_of, texts_so_far, written}
-use Rattle.cq_shards.specs.Answers.{found_in, answer_of, answers_from}
-use Rattle.cq_shards.specs.Outcomes.{Outcome}
+use Rattle.cq_answered.specs.Answers.{found_in, answer_of, answers_from}
+use Rattle.cq_answered.specs.Outcomes.{Outcome}
 use Rattle.cql_syntax.specs.Hits.{marked, keys}
 use Rattle.cql_syntax.specs.Trees.{QueryTree}
-use Rattle.cq_shards.specs.Answers.{has_match}
+use Rattle.cq_answered.specs.Answers.{has_match}
 use Rattle.cq_answers.specs.Answer.{tally_of, report_of, export_if, fault_if, fault_lines, is_match, is_refused, summary_of}
 use Rattle.cq_answers.specs.Exports.{AreExports, exports_of, match_if, matches_from}
-use Rattle.cq_shards.specs.Order.{values_in}
+use Rattle.cq_answered.specs.Order.{values_in}
 use Rattle.cq_queries.specs.Views.{SinkView, Sinks, Texts, Writes, WritesPrefix, IsUnwritten, NoWriteFailed, OneSinkFailed, sinks_of}
 use Rattle.cq_answers.specs.Promise.{Wanted, WritesAll, WritesPart, Unfinished}
 use Rattle.cq_answers.specs.Writing.{WritesText, WritesKept, InOrder, AnswersGame, FoundSoFar, WritesAnswer, WritesLast, Stand, stand_of, onward, tallied, kept_if, kept_from, texts_of_game}

@@ -9,7 +9,7 @@ use Rattle.pgn_cut.specs.Cut.{closed}
 use Rattle.pgn_cut.specs.Joined.{game_bytes}
 use Rattle.pgn_cut.specs.declared.span.Span.{Span}
 use Rattle.pgn_reader.specs.Verdict.{IsRead}
-use Rattle.cq_shards.specs.Outcomes.{Outcome, AreKeptRead}
+use Rattle.cq_answered.specs.Outcomes.{Outcome, AreKeptRead}
 use Rattle.cq_answers.specs.ByBatches.{HaveOutcomes, Laws}
 use Rattle.cq_answers.specs.Outcomes.{AreRead}
 

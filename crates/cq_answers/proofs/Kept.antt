@@ -14,7 +14,7 @@ use Rattle.cql_syntax.specs.TreeOf.{query_tree}
 use Rattle.cql_syntax.specs.Trees.{QueryTree}
 use Rattle.cql_syntax.specs.declared.typed.TypedQuery.{TypedQuery}
 use Rattle.cq_answers.specs.Exports.{exports_of}
-use Rattle.cq_shards.specs.Answers.{text_of}
+use Rattle.cq_answered.specs.Answers.{text_of}
 use Rattle.cq_queries.specs.Views.{SinkView}
 use Rattle.cq_answers.specs.Writing.{InOrder, WritesKept, WritesText}
 use Rattle.cq_queries.proofs.Sinks.{grew_on, Took, took_count, took_on, prefix_of}

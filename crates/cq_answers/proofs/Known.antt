@@ -12,7 +12,7 @@ use Rattle.cq_batches.specs.declared.batch.Batch.{Batch}
 use Rattle.cq_outside.specs.Flow.{TakesAtMost}
 use Rattle.pgn_cut.specs.Cut.{cut, closed}
 use Rattle.pgn_cut.specs.declared.span.Span.{Span}
-use Rattle.cq_shards.specs.Outcomes.{Outcome, AreKeptRead}
+use Rattle.cq_answered.specs.Outcomes.{Outcome, AreKeptRead}
 use Rattle.cq_answers.specs.ByBatches.{Laws}
 use Rattle.cq_answers.specs.Outcomes.{AreRead, HasGames}
 use Rattle.cq_answers.specs.Promise.{Answering}

@@ -14,11 +14,11 @@ use Rattle.cq_common.specs.declared.faults.Refusal.TheVariants.{Fault, NoMemory 
 use Rattle.cql_syntax.specs.TreeOf.{query_tree}
 use Rattle.cql_syntax.specs.Trees.{QueryTree}
 use Rattle.cql_syntax.specs.declared.typed.TypedQuery.{TypedQuery}
-use Rattle.cq_shared.specs.Plans.{trees_of}
-use Rattle.cq_shards.specs.Answers.{answers_from}
-use Rattle.cq_shards.specs.Many.{AreManyOf}
-use Rattle.cq_shards.specs.Outcomes.{AreKeptRead, Outcome}
-use Rattle.cq_shards.specs.declared.answers.GameAnswer.{GameAnswer}
+use Rattle.cq_parts.specs.Plans.{trees_of}
+use Rattle.cq_answered.specs.Answers.{answers_from}
+use Rattle.cq_answered.specs.Many.{AreManyOf}
+use Rattle.cq_answered.specs.Outcomes.{AreKeptRead, Outcome}
+use Rattle.cq_answered.specs.declared.answers.GameAnswer.{GameAnswer}
 use Rattle.cq_queries.specs.declared.status.Status.{Status}
 use Rattle.cq_queries.specs.declared.status.Status.TheVariants.{NoMemory}
 use Rattle.cq_answers.specs.declared.tally.Tally.{Tally}

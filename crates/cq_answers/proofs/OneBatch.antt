@@ -4,8 +4,8 @@ use Rattle.std.proofs.lemmas.List.Sums.{count_by-le-length}
 use Rattle.cq_batches.specs.Games.{games_of, number_of}
 use Rattle.cq_batches.specs.Kept.{KeptGames}
 use Rattle.cq_batches.specs.declared.batch.Batch.{Batch}
-use Rattle.cq_shards.specs.Answers.{AnswersBatch, answers_from}
-use Rattle.cq_shards.specs.declared.answers.GameAnswer.{GameAnswer}
+use Rattle.cq_answered.specs.Answers.{AnswersBatch, answers_from}
+use Rattle.cq_answered.specs.declared.answers.GameAnswer.{GameAnswer}
 use Rattle.cq_queries.specs.declared.status.Status.{Status}
 use Rattle.cq_queries.specs.declared.status.Status.TheVariants.{NoMemory}
 use Rattle.cq_answers.specs.Answer.{is_match, is_refused}

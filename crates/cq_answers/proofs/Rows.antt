@@ -12,12 +12,12 @@ use Rattle.cq_position.specs.Games.{Game}
 use Rattle.cql_syntax.specs.Hits.{marked, keys}
 use Rattle.cql_syntax.specs.Trees.{QueryTree}
 use Rattle.pgn_export.specs.Export.{export_text}
-use Rattle.cq_shards.specs.Answers.{AreAnswersOf, answer_of, answers_from, has_match}
-use Rattle.cq_shards.specs.Many.{AreManyOf}
-use Rattle.cq_shards.specs.Order.{is_match as is_match_kept, values_in}
-use Rattle.cq_shards.specs.Outcomes.{AreKeptRead, Outcome}
-use Rattle.cq_shards.specs.declared.answers.Answer.TheVariants.{Match, Miss}
-use Rattle.cq_shards.specs.declared.answers.GameAnswer.{GameAnswer}
+use Rattle.cq_answered.specs.Answers.{AreAnswersOf, answer_of, answers_from, has_match}
+use Rattle.cq_answered.specs.Many.{AreManyOf}
+use Rattle.cq_answered.specs.Order.{is_match as is_match_kept, values_in}
+use Rattle.cq_answered.specs.Outcomes.{AreKeptRead, Outcome}
+use Rattle.cq_answered.specs.declared.answers.Answer.TheVariants.{Match, Miss}
+use Rattle.cq_answered.specs.declared.answers.GameAnswer.{GameAnswer}
 use Rattle.cq_answers.specs.Answer.{is_match}
 use Rattle.cq_answers.specs.ByBatches.{HaveOneOutcome, Laws}
 use Rattle.cq_answers.specs.Exports.{match_if, matches_from}

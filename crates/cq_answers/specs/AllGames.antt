@@ -2,7 +2,7 @@
 use Rattle.std.specs.Prelude.{◌≡◌, ℕ, List, [], Bool, if◌then◌else◌}
 use Rattle.std.specs.List.{flat_map}
 use Rattle.cql_syntax.specs.Trees.{QueryTree}
-use Rattle.cq_shards.specs.Outcomes.{Outcome}
+use Rattle.cq_answered.specs.Outcomes.{Outcome}
 use Rattle.cq_answers.specs.Answer.{export_if, fault_lines, report_of, tally_of}
 use Rattle.cq_answers.specs.Exports.{AreExports}
 use Rattle.cq_answers.specs.Sorts.{have_sort}

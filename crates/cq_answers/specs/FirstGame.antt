@@ -1,7 +1,7 @@
 -- What is written of an archive up to the first game that matches.
 use Rattle.std.specs.Prelude.{◌≡◌, ℕ, Bool, true, false, List, [], ◌∷◌, if◌then◌else◌}
 use Rattle.cql_syntax.specs.Trees.{QueryTree}
-use Rattle.cq_shards.specs.Outcomes.{Outcome}
+use Rattle.cq_answered.specs.Outcomes.{Outcome}
 use Rattle.cq_answers.specs.Answer.{export_if, fault_lines, is_match, report_of, tally_of}
 use Rattle.cq_answers.specs.AllGames.{texts_of}
 use Rattle.cq_queries.specs.Views.{Texts}

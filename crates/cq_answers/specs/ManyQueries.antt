@@ -3,7 +3,7 @@ use Rattle.std.specs.Prelude.{◌≡◌, ℕ, ◌+◌, List, [], ◌∷◌, ◌+
 use Rattle.std.specs.List.{AllZip, flat_map}
 use Rattle.cql_syntax.specs.Trees.{QueryTree}
 use Rattle.cq_report.specs.Games.{head_line}
-use Rattle.cq_shards.specs.Outcomes.{Outcome}
+use Rattle.cq_answered.specs.Outcomes.{Outcome}
 use Rattle.cq_answers.specs.Answer.{fault_lines, is_refused, summary_of, tally_of}
 use Rattle.cq_answers.specs.Exports.{AreExports}
 use Rattle.cq_queries.specs.Views.{Texts}

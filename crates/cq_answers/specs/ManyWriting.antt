@@ -9,10 +9,10 @@ use Rattle.cq_common.specs.declared.faults.Failed.{Failed}
 use Rattle.cq_common.specs.declared.faults.Refusal.{Refusal}
 use Rattle.cq_common.specs.declared.faults.Refusal.TheVariants.{Fault, NoMemory as IsNoMemory}
 use Rattle.cql_syntax.specs.Trees.{QueryTree}
-use Rattle.cq_shards.specs.Answers.{answers_from}
-use Rattle.cq_shards.specs.Order.{AreApart, IsEarlier, is_match as is_match_kept}
-use Rattle.cq_shards.specs.Outcomes.{Outcome}
-use Rattle.cq_shards.specs.declared.answers.GameAnswer.{GameAnswer}
+use Rattle.cq_answered.specs.Answers.{answers_from}
+use Rattle.cq_answered.specs.Order.{AreApart, IsEarlier, is_match as is_match_kept}
+use Rattle.cq_answered.specs.Outcomes.{Outcome}
+use Rattle.cq_answered.specs.declared.answers.GameAnswer.{GameAnswer}
 use Rattle.cq_answers.specs.declared.tally.Tally.{Tally}
 use Rattle.cq_answers.specs.Answer.{tally_of}
 use Rattle.cq_answers.specs.Exports.{matches_from}

@@ -5,7 +5,7 @@ use Rattle.cq_batches.specs.Filling.{most_read}
 use Rattle.cq_batches.specs.Whole.{whole_spans}
 use Rattle.cq_outside.specs.Faults.{Rose}
 use Rattle.cq_outside.specs.Flow.{TakesAtMost}
-use Rattle.cq_shards.specs.Outcomes.{Outcome}
+use Rattle.cq_answered.specs.Outcomes.{Outcome}
 use Rattle.pgn_cut.specs.Cut.{closed}
 use Rattle.pgn_cut.specs.declared.span.Span.{Span}
 use Rattle.cq_queries.specs.declared.status.Status.{Status}

@@ -8,7 +8,7 @@ use Rattle.cq_queries.specs.declared.status.Status.TheVariants.{Done, DoneWithRe
 use Rattle.cq_answers.specs.declared.totals.Totals.{Totals}
 use Rattle.cq_answers.specs.Answer.{export_if, tally_of}
 use Rattle.cq_answers.specs.Exports.{AreExports}
-use Rattle.cq_shards.specs.Outcomes.{Outcome}
+use Rattle.cq_answered.specs.Outcomes.{Outcome}
 use Rattle.cq_answers.specs.Outcomes.{HasGames}
 use Rattle.cq_queries.specs.Views.{Sinks, Texts, Writes, WritesPrefix, IsUnwritten, NoWriteFailed, OutFailed}
 

@@ -13,9 +13,9 @@ use Rattle.cq_answers.specs.declared.totals.Totals.{Totals}
 use Rattle.cql_syntax.specs.Trees.{QueryTree}
 use Rattle.cq_report.specs.Games.{fault_line}
 use Rattle.pgn_reader.specs.declared.fault.GameFault.{GameFault}
-use Rattle.cq_shards.specs.Order.{AreApart, ComesBefore, HasKeys, directions, is_match as is_match_kept}
-use Rattle.cq_shards.specs.declared.answers.GameAnswer.{GameAnswer}
-use Rattle.cq_shards.specs.Outcomes.{Outcome}
+use Rattle.cq_answered.specs.Order.{AreApart, ComesBefore, HasKeys, directions, is_match as is_match_kept}
+use Rattle.cq_answered.specs.declared.answers.GameAnswer.{GameAnswer}
+use Rattle.cq_answered.specs.Outcomes.{Outcome}
 use Rattle.cq_answers.specs.Answer.{export_if, fault_if, is_match, is_refused, summary_of, tally_of}
 use Rattle.cq_answers.specs.Exports.{exports_of, match_if, matches_from}
 use Rattle.cq_answers.specs.AllGames.{texts_so_far, written}

@@ -3,8 +3,8 @@ ghost use Rattle.std.specs.Prelude.{◌≡◌, ◌++◌, ◌≤◌, ◌^◌, fal
 ghost use Rattle.std.specs.Fn.{FnReturnsAt};
 ghost use Rattle.std.specs.Thread.{IsSync};
 ghost use Rattle.cq_batches.specs.declared.batch.Batch.{Batch};
-ghost use Rattle.cq_shared.specs.Plans.{queries_of, trees_of};
-ghost use Rattle.cq_shards.specs.Many.{AreManyOf, answers_in};
+ghost use Rattle.cq_parts.specs.Plans.{queries_of, trees_of};
+ghost use Rattle.cq_answered.specs.Many.{AreManyOf, answers_in};
 ghost use Rattle.cq_answers.specs.ManyQueries.{faults_alone, texts_of_all};
 ghost use Rattle.cq_answers.specs.ManyWriting.{FoundByAll};
 ghost use Rattle.cq_answers.specs.Promise.{AnswerPromise};

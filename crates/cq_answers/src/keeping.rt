@@ -2,10 +2,10 @@
 //! one's answers are.
 ghost use Rattle.std.specs.Prelude.{◌≡◌, ◌+◌, ◌++◌, ◌<◌, ◌≤◌, ◌^◌, [], List, length, map, get_or, replicate, IfOk, OnOk};
 ghost use Rattle.cql_syntax.specs.Trees.{QueryTree};
-ghost use Rattle.cq_shards.specs.Many.{answers_in};
-ghost use Rattle.cq_shards.specs.Order.{is_match as is_matching};
-ghost use Rattle.cq_shards.specs.Outcomes.{Outcome};
-ghost use Rattle.cq_shards.specs.declared.answers.GameAnswer.{GameAnswer};
+ghost use Rattle.cq_answered.specs.Many.{answers_in};
+ghost use Rattle.cq_answered.specs.Order.{is_match as is_matching};
+ghost use Rattle.cq_answered.specs.Outcomes.{Outcome};
+ghost use Rattle.cq_answered.specs.declared.answers.GameAnswer.{GameAnswer};
 ghost use Rattle.cq_answers.specs.ManyWriting.{AddsMatches, AreRowsOf, FoundByAll, IsRowOrdered, KeepsRest, KeepsSome};
 ghost use Rattle.cq_queries.specs.Views.{SinkView, sink_view, sinks_of};
 

@@ -2,8 +2,9 @@
 //! the query has no sort item; with one the games that match are kept, and written in order once all are answered.
 ghost use Rattle.std.specs.Prelude.{◌≡◌, ◌+◌, ◌++◌, ◌<◌, ◌≤◌, ◌^◌, Bool, List, length};
 ghost use Rattle.cql_syntax.specs.Trees.{QueryTree};
-ghost use Rattle.cq_shards.specs.Answers.{answer_of, answers_from, query_in};
-ghost use Rattle.cq_shards.specs.Outcomes.{Outcome};
+ghost use Rattle.cq_answered.specs.Answers.{answer_of, answers_from};
+ghost use Rattle.cq_shards.specs.Answers.{query_in};
+ghost use Rattle.cq_answered.specs.Outcomes.{Outcome};
 ghost use Rattle.cq_answers.specs.Sorts.{have_sort as some_sort};
 ghost use Rattle.cq_answers.specs.AllGames.{texts_of};
 ghost use Rattle.cq_answers.specs.Exports.{exports_of};

@@ -6,8 +6,8 @@ use Rattle.cql_syntax.specs.Hits.{hits, keys}
 use Rattle.cql_syntax.specs.TreeOf.{query_tree}
 use Rattle.cql_syntax.specs.Trees.{QueryTree}
 use Rattle.cql_syntax.specs.declared.typed.TypedQuery.{TypedQuery}
-use Rattle.cq_shared.specs.Plans.{trees_of}
-use Rattle.cq_shared.specs.Verdicts.{HaveKeys, IsKeyed}
+use Rattle.cq_parts.specs.Plans.{trees_of}
+use Rattle.cq_parts.specs.Verdicts.{HaveKeys, IsKeyed}
 
 pub tree_at : (queries : List TypedQuery) (k : ℕ) (q : TypedQuery) → k < length queries → q ≡ get_or queries k q → query_tree q.query ≡ get_or (trees_of queries) k (query_tree q.query)
 tree_at queries k q inside at = ap (λ (p : TypedQuery). query_tree p.query) at ∙ sym (get_or-map (λ (p : TypedQuery). query_tree p.query) queries k q (query_tree q.query) inside)

@@ -3,7 +3,7 @@ ghost use Rattle.std.specs.Prelude.{◌≤◌, IfOk};
 ghost use Rattle.cq_answered.specs.Answers.{AreAnswersOf};
 ghost use Rattle.cq_answered.specs.FirstMatch.{AnswersUpToFirst};
 ghost use Rattle.cq_answered.specs.Many.{AreManyOf, answers_in};
-ghost use Rattle.cq_shared.specs.Plans.{queries_of, trees_of};
+ghost use Rattle.cq_parts.specs.Plans.{queries_of, trees_of};
 ghost use Rattle.cq_shards.specs.Answers.{query_in};
 
 use crate::asking::AskedPlan;

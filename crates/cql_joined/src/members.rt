@@ -8,7 +8,7 @@ ghost use Rattle.cql_joined.specs.Joined.{Gathers, alone};
 
 use crate::keyed::key_of;
 use cq_common::NoMemory;
-use cql_rewrite::same_unplaced;
+use cql_same::same_unplaced;
 use cql_syntax::{Filter, Filters};
 use std::alloc::Global;
 

@@ -4,8 +4,8 @@ ghost use Rattle.cq_position.specs.Search.{nodes_in};
 ghost use Rattle.cql_syntax.specs.Trees.{filter_at, plain};
 ghost use Rattle.cql_syntax.specs.declared.leaves.Plain.TheVariants.{Wtm};
 ghost use Rattle.cql_values.specs.Trees.{searched_tree};
-ghost use Rattle.cq_shared.specs.Plans.{queries_of, plan_parts};
-ghost use Rattle.cq_shared.specs.Verdicts.{nodes_of};
+ghost use Rattle.cq_parts.specs.Plans.{queries_of, plan_parts};
+ghost use Rattle.cq_parts.specs.Verdicts.{nodes_of};
 
 use crate::plans::read_query;
 use cq_common::{NoMemory, Refusal, Steps};

@@ -1,6 +1,6 @@
 //! Several queries by two workers at a gate.
 ghost use Rattle.std.specs.Prelude.{◌≡◌, ◌<◌, ◌≤◌, length, IfOk};
-ghost use Rattle.cq_shared.specs.Plans.{queries_of};
+ghost use Rattle.cq_parts.specs.Plans.{queries_of};
 ghost use Rattle.cq_answered.specs.Many.{answers_in};
 
 use crate::many::plan_of;

@@ -1,6 +1,6 @@
 use Rattle.std.proofs.Common.{◌≡◌, ◌++◌, filter, ◌∙◌, ap, rules}
 use Rattle.std.proofs.lemmas.Fn.{filter_same}
-use Rattle.cq_shards.specs.Order.{is_match}
+use Rattle.cq_answered.specs.Order.{is_match}
 use Rattle.cq_answers.proofs.keeping.keep.Goals as goal
 
 pub returns : goal.returns

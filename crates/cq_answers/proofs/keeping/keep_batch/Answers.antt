@@ -1,8 +1,8 @@
 use Rattle.std.proofs.Common.{true, Global, Vec, Err, List, map, ap, sym, ◌∙◌, subst, arith}
 use Rattle.std.proofs.lemmas.List.{length-map}
 use Rattle.std.proofs.lemmas.Result.{err_from_is_err_and}
-use Rattle.cq_shards.specs.Many.{answers_in}
-use Rattle.cq_shards.specs.declared.answers.GameAnswer.{GameAnswer}
+use Rattle.cq_answered.specs.Many.{answers_in}
+use Rattle.cq_answered.specs.declared.answers.GameAnswer.{GameAnswer}
 use Rattle.cq_answers.specs.ManyWriting.{IsRowOrdered}
 use Rattle.cq_queries.specs.Views.{sink_view, sinks_of}
 use Rattle.cq_answers.specs.Writing.{FoundSoFar, stand_of}

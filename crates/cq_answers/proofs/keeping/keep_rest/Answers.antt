@@ -1,6 +1,6 @@
 use Rattle.std.proofs.Common.{◌<◌, ◌≤◌, Global, Vec, length, arith}
-use Rattle.cq_shards.specs.Many.{answers_in}
-use Rattle.cq_shards.specs.declared.answers.GameAnswer.{GameAnswer}
+use Rattle.cq_answered.specs.Many.{answers_in}
+use Rattle.cq_answered.specs.declared.answers.GameAnswer.{GameAnswer}
 use Rattle.cq_answers.proofs.Rows.{none_of_rest, row_of_rest, rows_of_rest}
 use Rattle.cq_answers.proofs.keeping.keep_rest.Goals as goal
 

@@ -1,5 +1,5 @@
 use Rattle.std.proofs.Common.{map}
-use Rattle.cq_shards.specs.Many.{answers_in}
+use Rattle.cq_answered.specs.Many.{answers_in}
 use Rattle.cq_answers.proofs.Rows.{KeepsFirst}
 use Rattle.cq_answers.proofs.keeping.keep_rest.Given as goal
 

@@ -1,5 +1,5 @@
 use Rattle.std.proofs.Common.{Global, Vec, map, ap, ◌∙◌}
-use Rattle.cq_shards.specs.declared.answers.GameAnswer.{GameAnswer}
+use Rattle.cq_answered.specs.declared.answers.GameAnswer.{GameAnswer}
 use Rattle.cq_answers.proofs.ManyEnds.{none_more}
 use Rattle.cq_answers.proofs.keeping.none_kept.Goals as goal
 

@@ -1,7 +1,7 @@
 use Rattle.std.proofs.Common.{◌+◌, ap, sym, subst, ◌∙◌}
 use Rattle.cq_queries.specs.Views.{sink_view, sinks_of}
 use Rattle.cq_answers.specs.Writing.{stand_of, AnswersGame, WritesText}
-use Rattle.cq_shards.specs.declared.answers.GameAnswer.{GameAnswer}
+use Rattle.cq_answered.specs.declared.answers.GameAnswer.{GameAnswer}
 use Rattle.cq_answers.specs.declared.tally.Tally.{Tally}
 use Rattle.cq_answers.proofs.GameByGame.{matched}
 use Rattle.cq_answers.proofs.output.write_answer.Goals as goal

@@ -1,7 +1,7 @@
 use Rattle.std.proofs.Common.{◌≡◌, ◌+◌, ◌≤◌, List, ◌++◌, length, take}
 use Rattle.cql_syntax.specs.Trees.{QueryTree}
-use Rattle.cq_shards.specs.Answers.{answers_from}
-use Rattle.cq_shards.specs.Outcomes.{Outcome}
+use Rattle.cq_answered.specs.Answers.{answers_from}
+use Rattle.cq_answered.specs.Outcomes.{Outcome}
 use Rattle.cq_queries.specs.Views.{SinkView, sink_view, sinks_of}
 use Rattle.cq_answers.specs.Writing.{FoundSoFar, stand_of}
 use Rattle.cq_answers.proofs.output.write_answers.Given as goal

@@ -2,7 +2,7 @@ use Rattle.std.proofs.Common.{◌+◌, ◌<◌, ◌≤◌, Global, Vec, Ok, Err,
 use Rattle.std.proofs.lemmas.List.{take_all}
 use Rattle.cq_outside.specs.Faults.{Rose}
 use Rattle.cq_outside.specs.Flow.{Grew}
-use Rattle.cq_shards.specs.declared.answers.GameAnswer.{GameAnswer}
+use Rattle.cq_answered.specs.declared.answers.GameAnswer.{GameAnswer}
 use Rattle.cq_answers.specs.Exports.{exports_of}
 use Rattle.cq_answers.specs.ManyQueries.{output_of, outputs_from}
 use Rattle.cq_answers.specs.ManyWriting.{WritesOut}

@@ -1,7 +1,7 @@
 use Rattle.std.proofs.Common.{◌≡◌, ℕ, ◌+◌, ◌*◌, ◌^◌, ◌≤◌, List, ◌++◌, length, take}
 use Rattle.cql_syntax.specs.Trees.{QueryTree}
-use Rattle.cq_shards.specs.Answers.{answers_from}
-use Rattle.cq_shards.specs.Outcomes.{Outcome}
+use Rattle.cq_answered.specs.Answers.{answers_from}
+use Rattle.cq_answered.specs.Outcomes.{Outcome}
 use Rattle.cq_answers.specs.SelfRun.{totals_of}
 use Rattle.cq_answers.proofs.selfrun.count_answers.Given as goal
 

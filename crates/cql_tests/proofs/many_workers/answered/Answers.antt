@@ -4,7 +4,7 @@ use Rattle.std.proofs.lemmas.Result.{IfOk-weaker}
 use Rattle.std.proofs.lemmas.Slice.Zip.{AllZip-long}
 use Rattle.cql_syntax.specs.TreeOf.{query_tree}
 use Rattle.cql_syntax.specs.declared.typed.TypedQuery.{TypedQuery}
-use Rattle.cq_shared.specs.Plans.{queries_of, trees_of}
+use Rattle.cq_parts.specs.Plans.{queries_of, trees_of}
 use Rattle.cq_answered.specs.Answers.{AreAnswersOf}
 use Rattle.cq_answered.specs.Many.{AreManyOf, answers_in}
 use Rattle.cql_tests.proofs.many_workers.answered.Goals as goal

@@ -1,7 +1,7 @@
 use Rattle.std.proofs.Common.{◌-◌, ap, arith, Ok, ◌∙◌}
 use Rattle.cql_syntax.specs.TreeOf.{query_tree}
-use Rattle.cq_shared.specs.Plans.{queries_of, trees_of}
-use Rattle.cq_shared.specs.Verdicts as all
+use Rattle.cq_parts.specs.Plans.{queries_of, trees_of}
+use Rattle.cq_parts.specs.Verdicts as all
 use Rattle.cq_answered.specs.Answers.{answer_of}
 use Rattle.cq_answered.proofs.RowAnswers.{one_back}
 use Rattle.cq_shards.proofs.RowAnswers.{hits_at, keys_at, tree_at, tree_count}
