@@ -1,0 +1,22 @@
+mod SetRows
+pub mod Rows
+mod NumberRows
+mod PositionRows
+mod LineRows
+mod LongestPaths
+mod Images
+mod FamilyRows
+mod FaultRows
+mod HitRows
+mod ValueKinds
+mod TreeLists
+mod EdgeRows
+pub mod SameLeaves
+pub mod SameSound
+pub mod FlatSame
+pub mod FlatHits
+mod FlatRows
+pub mod FlatKept
+pub mod FlatFacts
+pub mod UnplacedSame
+pub mod TabledLines

@@ -1,0 +1,10 @@
+pub mod EdgeRows
+pub mod FamilyRows
+pub mod FaultRows
+pub mod FlatRows
+pub mod HitRows
+pub mod LineRows
+pub mod LongestPaths
+pub mod NumberRows
+pub mod PositionRows
+pub mod SetRows
