@@ -1,8 +1,8 @@
 -- One more value of the members of a family, and squares that settle what is asked.
-use Rattle.std.proofs.Common.{◌≡◌, ℕ, zero, suc, ◌+◌, ◌<◌, Bool, true, false, not, ◌||◌, List, [], ◌∷◌, ◌++◌, map, take, refl, sym, ap, ◌∙◌, Some, None, add-one, cond}
+use Rattle.std.proofs.Common.{◌≡◌, ℕ, zero, suc, ◌+◌, ◌<◌, Bool, true, false, not, ◌||◌, List, [], ◌∷◌, ◌++◌, map, take, drop, length, get_or, refl, sym, ap, ◌∙◌, Some, None, add-one, cond}
 use Rattle.std.specs.Prelude.{slice_get, if◌then◌else◌, option_to_list, option_map, Option}
 use Rattle.std.specs.List.{filter, list_any, range_with_len}
-use Rattle.std.proofs.lemmas.List.{append-nil}
+use Rattle.std.proofs.lemmas.List.{append-nil, drop_more}
 use Rattle.cq_geometry.specs.Squares.{squares}
 use Rattle.cq_position.specs.Search.{SearchedTree}
 use Rattle.cq_symmetry.specs.Families.{members}
@@ -74,3 +74,11 @@ pub family_is : (tree : SearchedTree) (g : Context) (e : Names) (family : Family
     → any_of (filter_kind part) (values_in_members tree g e (members family) part n) ≡ value tree g e whole n
 unfolding value
 family_is tree g e family part whole at n is = sym (ap (λ w. value tree g e w n) is)
+
+-- nodes are asked one after the other whether one passes
+module _ (p : ℕ → Bool) (xs : List ℕ) (k d : ℕ) where
+  pub any_found : k < length xs → p (get_or xs k d) ≡ true → list_any p (drop k xs) ≡ list_any p xs → true ≡ list_any p xs
+  any_found low here e = sym (ap (λ b. b || list_any p (drop (k + 1) xs)) here) ∙ sym (ap (list_any p) (drop_more xs k d low)) ∙ e
+
+  pub any_passed : k < length xs → p (get_or xs k d) ≡ false → list_any p (drop k xs) ≡ list_any p xs → list_any p (drop (k + 1) xs) ≡ list_any p xs
+  any_passed low here e = sym (ap (λ b. b || list_any p (drop (k + 1) xs)) here) ∙ sym (ap (list_any p) (drop_more xs k d low)) ∙ e

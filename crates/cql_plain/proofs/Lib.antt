@@ -1,4 +1,5 @@
 pub mod Evaluated
+pub mod Forms
 pub mod Lengths
 pub mod LineLaw
 pub mod LineValue
@@ -7,3 +8,4 @@ pub mod PartEnds
 pub mod PathsDown
 pub mod PathsUp
 pub mod PatternEnds
+pub mod Sets

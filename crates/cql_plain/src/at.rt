@@ -59,15 +59,7 @@ pub fn holds_at(
     requires { node < length game.now.nodes }
     ensures { IfOk result (λ b. b ≡ holds (value (searched_tree game.now variations) context.now names.now (filter_tree f.now) node)) }
 {
-    // A game's nodes are a tree.
-    prove!(game.is_tree());
-    let scope = Scope {
-        game,
-        variations,
-        context,
-        names,
-    };
-    let value = evaluate(alloc, f, &scope, node)?;
+    let value = value_at(alloc, f, game, variations, node, context, names)?;
     Ok(value.holds())
 }
 
@@ -85,15 +77,7 @@ pub fn set_at(
     ensures { IfOk result (λ set. set
         ≡ mask_of (has (value (searched_tree game.now variations) context.now names.now (filter_tree f.now) node))) }
 {
-    // A game's nodes are a tree.
-    prove!(game.is_tree());
-    let scope = Scope {
-        game,
-        variations,
-        context,
-        names,
-    };
-    let value = evaluate(alloc, f, &scope, node)?;
+    let value = value_at(alloc, f, game, variations, node, context, names)?;
     Ok(value.squares())
 }
 
@@ -110,14 +94,6 @@ pub fn number_at(
     requires { node < length game.now.nodes }
     ensures { IfOk result (λ n. n ≡ amount (value (searched_tree game.now variations) context.now names.now (filter_tree f.now) node)) }
 {
-    // A game's nodes are a tree.
-    prove!(game.is_tree());
-    let scope = Scope {
-        game,
-        variations,
-        context,
-        names,
-    };
-    let value = evaluate(alloc, f, &scope, node)?;
+    let value = value_at(alloc, f, game, variations, node, context, names)?;
     Ok(value.number())
 }

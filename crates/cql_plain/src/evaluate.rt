@@ -40,7 +40,6 @@ use std::alloc::Global;
 
 /// What a filter gives at a node.
 #[cycle(evaluate)]
-#[tactic(auto, unfolding(cql_syntax::specs::Meaning::value))]
 pub(crate) fn evaluate(
     alloc: Global,
     f: &Filter,

@@ -6,6 +6,7 @@ ghost use Rattle.cql_plain.specs.Paths.{AreSteps};
 
 use crate::paths::Reached;
 use cq_common::NoMemory;
+use cql_values::walks::both;
 use std::alloc::Global;
 
 /// Place 0 alone, where each of so many nodes has a place after it.
@@ -28,7 +29,12 @@ pub(crate) fn where_counted(
 ) -> Result<Vec<bool>, NoMemory>
     ensures { IfOk result (λ same. same.items ≡ map (λ b. counts && b) set.now) }
 {
-    Ok(set.iter().map(|there| counts && *there).collect(alloc)?)
+    let mut same = Vec::with_capacity(alloc, set.len())?;
+    for k in 0..set.len() {
+        let there = both(counts, set[k]);
+        same.push(there)?;
+    }
+    Ok(same)
 }
 
 /// The places that are reached next, without those that are ends already where these count.
@@ -38,14 +44,15 @@ pub(crate) fn fresh(
     next: &[bool],
     ends: &[bool],
 ) -> Result<Vec<bool>, NoMemory>
+    requires { length ends.now ≡ length next.now }
     ensures { IfOk result (λ set. set.items ≡ map (λ b. b.0 && not (counts && b.1)) (zip next.now ends.now)) }
 {
-    Ok(
-        next.iter()
-            .zip(ends)
-            .map(|pair| *pair.0 && !(counts && *pair.1))
-            .collect(alloc)?,
-    )
+    let mut set = Vec::with_capacity(alloc, next.len())?;
+    for k in 0..next.len() {
+        let there = both(next[k], !both(counts, ends[k]));
+        set.push(there)?;
+    }
+    Ok(set)
 }
 
 /// The ends, and where they count the places that are reached next.
@@ -55,14 +62,21 @@ pub(crate) fn with_next(
     next: &[bool],
     ends: &[bool],
 ) -> Result<Vec<bool>, NoMemory>
+    requires { length ends.now ≡ length next.now }
     ensures { IfOk result (λ set. set.items ≡ map (λ b. b.1 || (counts && b.0)) (zip next.now ends.now)) }
 {
-    Ok(
-        next.iter()
-            .zip(ends)
-            .map(|pair| *pair.1 || (counts && *pair.0))
-            .collect(alloc)?,
-    )
+    let mut set = Vec::with_capacity(alloc, next.len())?;
+    for k in 0..next.len() {
+        let there = either(ends[k], both(counts, next[k]));
+        set.push(there)?;
+    }
+    Ok(set)
+}
+
+fn either(a: bool, b: bool) -> bool
+    ensures { result ≡ (a || b) }
+{
+    a || b
 }
 
 /// Whether a set has some place.

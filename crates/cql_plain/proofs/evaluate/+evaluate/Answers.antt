@@ -1,19 +1,26 @@
-use Rattle.std.proofs.Common.{rules, ◌≡◌, ◌<◌, ◌∷◌, ◌∙◌, ℕ, Bool, length, ap, sym, subst, arith, ◌+◌, true, false, replicate, Some, None}
-use Rattle.std.specs.Prelude.{All, IfOk}
+use Rattle.std.proofs.Common.{rules, ◌≡◌, ◌<◌, ◌∷◌, ◌∙◌, ℕ, Bool, length, map, ap, ap₂, sym, subst, arith, ◌+◌, true, false, replicate, Some, None}
+use Rattle.std.specs.Prelude.{All, IfOk, is_some}
 use Rattle.cq_symmetry.specs.Families.{members}
-use Rattle.cql_syntax.specs.TreeOf.{filter_tree, form_tree, body_tree, part_trees, parts_tree}
-use Rattle.cql_syntax.specs.Trees.{filter_at, transform}
+use Rattle.cql_syntax.specs.Contexts as contexts
+use Rattle.cql_syntax.specs.Headers as headers
+use Rattle.cql_syntax.specs.TreeOf.{filter_tree, filter_trees, filters_tree, form_tree, body_tree, line_tree, part_trees, parts_tree, played_tree, term_trees, terms_tree}
+use Rattle.cql_syntax.specs.Trees.{filter_at, transform, unary, direction, pair, if_, square, sort}
 use Rattle.cq_symmetry.specs.Images.{is_in}
 use Rattle.cql_syntax.specs.Meaning as meaning
 use Rattle.cql_syntax.specs.Values as spec
 use Rattle.cql_values.specs.Asked.{settles, of_value}
-use Rattle.cql_values.specs.Shown.{meant}
+use Rattle.cql_values.specs.Shown.{meant, terms_meant}
+use Rattle.cql_syntax.specs.Kinds.{filter_kind}
+use Rattle.cql_syntax.specs.declared.tree.Body.TheFolds.{the_lemmas}
 use Rattle.cql_plain.specs.Scopes.{tree_in, value_in, looked_at}
-use Rattle.cql_plain.proofs.Evaluated.{members_more, settled, never_settled, none_more, family_is}
+use Rattle.cql_plain.proofs.Evaluated.{any_found, any_passed, members_more, settled, never_settled, none_more, family_is}
 use Rattle.cql_values.proofs.Evaluated.{values_more, terms_more}
+use Rattle.cql_plain.proofs.Forms.{designator_value, number_value, name_value, word_value, tagged_value, outcome_value, elo_value, comment_value, unary_value, steps_value, chain_value, sum_value, pair_value, if_value, square_value, line_form_value, move_value, sort_value, any_value}
 use Rattle.cql_plain.proofs.Looked.{looked_inside, word_alone}
 use Rattle.std.specs.List.{list_any}
 use Rattle.std.proofs.lemmas.Bool.{leb-true, le-leb}
+use Rattle.std.proofs.lemmas.List.{take_all}
+use Rattle.std.proofs.lemmas.Result.{IfOk-weaker}
 use Rattle.cql_plain.proofs.LineValue.{line_is}
 use Rattle.cql_plain.proofs.PartEnds.{AreTurns, parts_begun, parts_more, parts_end, turns_begun, turns_next, turns_end, turns_stop, atom_law, atom_more}
 use Rattle.cql_plain.proofs.evaluate.+evaluate.Goals as goal
@@ -123,6 +130,16 @@ lines::repeat-body_ends-requires t c = (
   ),
 )
 
+pub lines::repeat-fresh-requires : goal.lines::repeat-fresh-requires
+lines::repeat-fresh-requires t c =
+    ap length c.deref-in-loop-times-3.ensures.value ∙ c.loop-times.invariant.ends_count
+    ∙ sym (ap length c.deref-in-loop-times-2.ensures.value ∙ c.in_ok-next.ensures.count ∙ ap length c.deref-in-loop-times.ensures.value ∙ c.loop-times.invariant.here_count)
+
+pub lines::repeat-with_next-requires : goal.lines::repeat-with_next-requires
+lines::repeat-with_next-requires t c =
+    ap length c.deref-in-loop-times-5.ensures.value ∙ c.loop-times.invariant.ends_count
+    ∙ sym (ap length c.deref-in-loop-times-4.ensures.value ∙ c.in_ok-next.ensures.count ∙ ap length c.deref-in-loop-times.ensures.value ∙ c.loop-times.invariant.here_count)
+
 pub lines::repeat-loop-times-preserved : goal.lines::repeat-loop-times-preserved
 lines::repeat-loop-times-preserved t c =
     turns_next c.args.steps.now (meaning.body_pattern (tree_in c.args.scope.now) c.args.scope.now.context.now c.args.scope.now.names.now (body_tree c.args.body.now)) c.args.least c.args.starts.now
@@ -159,3 +176,240 @@ pub lines::atom_ends-returns : goal.lines::atom_ends-returns
 lines::atom_ends-returns t c =
     atom_law c.args.steps.now (value_in c.args.scope.now (filter_tree c.args.filter.now)) c.args.starts.now
     c.loop-k.ends.items c.loop-k.k (omega (arith, c.requires.nodes, c.len-k-end.ensures.len)) c.requires.starts c.loop-k.invariant
+
+pub evaluate-returns-in-Squares : goal.evaluate-returns-in-Squares
+evaluate-returns-in-Squares t c =
+    c.standing.ensures ∙ ap (λ p. meaning.standing_of p.men (contexts.designator_image c.args.scope.now.context.now c.in-Squares.d)) c.position.ensures
+    ∙ designator_value c.args.scope.now c.args.f.now c.args.node c.in-Squares.d (ap form_tree c.in-Squares.is)
+
+pub evaluate-returns-in-Number : goal.evaluate-returns-in-Number
+evaluate-returns-in-Number t c = c.counted.ensures ∙ number_value c.args.scope.now c.args.f.now c.args.node c.in-Number.number (ap form_tree c.in-Number.is)
+
+pub evaluate-returns-in-Name : goal.evaluate-returns-in-Name
+evaluate-returns-in-Name t c =
+    c.squares_of.ensures ∙ ap (λ text. spec.squares_where (meaning.is_bound_to c.args.scope.now.names.now text)) c.as_slice.ensures
+    ∙ name_value c.args.scope.now c.args.f.now c.args.node c.in-Name.name (ap form_tree c.in-Name.is)
+
+pub evaluate-returns-in-Plain : goal.evaluate-returns-in-Plain
+evaluate-returns-in-Plain t c =
+    IfOk-weaker c.word_at.result _ _ (λ v known. known ∙ ap (λ word. meaning.word_of (tree_in c.args.scope.now) word c.args.node) c.word_image-word.ensures
+    ∙ word_value c.args.scope.now c.args.f.now c.args.node c.in-Plain.word (ap form_tree c.in-Plain.is)) c.word_at.ensures
+
+pub evaluate-returns-in-Tagged : goal.evaluate-returns-in-Tagged
+evaluate-returns-in-Tagged t c =
+    let s = c.args.scope.now in
+    c.tagged.ensures ∙ ap (λ text. spec.as_truth (headers.has_text s.game.now (contexts.field_image s.context.now c.in-Tagged.field) text)) c.as_slice-in-Tagged.ensures
+    ∙ tagged_value s c.args.f.now c.args.node c.in-Tagged.field c.in-Tagged.text (ap form_tree c.in-Tagged.is)
+
+pub evaluate-returns-in-Outcome : goal.evaluate-returns-in-Outcome
+evaluate-returns-in-Outcome t c = c.ended.ensures ∙ outcome_value c.args.scope.now c.args.f.now c.args.node c.in-Outcome.outcome (ap form_tree c.in-Outcome.is)
+
+pub evaluate-returns-in-Elo : goal.evaluate-returns-in-Elo
+evaluate-returns-in-Elo t c =
+    ap spec.as_number (c.rating.ensures ∙ ap (headers.rating c.args.scope.now.game.now) c.of_image.ensures)
+    ∙ elo_value c.args.scope.now c.args.f.now c.args.node c.in-Elo.of (ap form_tree c.in-Elo.is)
+
+pub evaluate-returns-in-Unary : goal.evaluate-returns-in-Unary
+evaluate-returns-in-Unary t c =
+    let s = c.args.scope.now in
+    let part = filter_tree c.deref.result.now in
+    let is = ap form_tree c.in-Unary.is ∙ sym (ap (λ p. unary c.in-Unary.word (filter_tree p)) c.deref.ensures) in
+    IfOk-weaker c.unary_at.result _ _ (λ v known. known ∙ ap (λ word. meaning.unary_of (tree_in s) word (value_in s part) c.args.node) c.unary_image.ensures
+    ∙ unary_value s c.args.f.now c.args.node c.in-Unary.word part is) c.unary_at.ensures
+
+pub evaluate-returns-in_ok-value-in-Steps : goal.evaluate-returns-in_ok-value-in-Steps
+evaluate-returns-in_ok-value-in-Steps t c =
+    let m = c.in-Steps in
+    let x = meant c.in_ok-value-in-Steps.value in
+    let is = ap form_tree m.is ∙ sym (ap (λ p. direction m.way m.m m.n (filter_tree p)) c.deref-in-Steps.ensures) in
+    c.reached.ensures ∙ ap (λ ways. spec.reached_of ways m.m m.n x) (c.directions.ensures ∙ ap meaning.directions_of c.way_image.ensures)
+    ∙ steps_value c.args.scope.now c.args.f.now c.args.node m.way m.m m.n (filter_tree c.deref-in-Steps.result.now) x is c.in_ok-value-in-Steps.ensures
+
+pub evaluate-returns-in-Chain : goal.evaluate-returns-in-Chain
+evaluate-returns-in-Chain t c =
+    IfOk-weaker c.chain_at.result _ _ (λ v known. known
+    ∙ chain_value c.args.scope.now c.args.f.now c.args.node c.in-Chain.chain (filters_tree c.in-Chain.parts) (ap form_tree c.in-Chain.is)) c.chain_at.ensures
+
+pub evaluate-returns-in-Sum : goal.evaluate-returns-in-Sum
+evaluate-returns-in-Sum t c =
+    IfOk-weaker c.sum_at.result _ _ (λ v known. known
+    ∙ sum_value c.args.scope.now c.args.f.now c.args.node (terms_tree c.in-Sum.terms) (ap form_tree c.in-Sum.is)) c.sum_at.ensures
+
+pub evaluate-returns-in_ok-second-in-Pair : goal.evaluate-returns-in_ok-second-in-Pair
+evaluate-returns-in_ok-second-in-Pair t c =
+    let word = c.in-Pair.pair in
+    let x = meant c.in_ok-first-in-Pair.first in
+    let y = meant c.in_ok-second-in-Pair.second in
+    let is = ap form_tree c.in-Pair.is ∙ sym (ap₂ (λ p q. pair word (filter_tree p) (filter_tree q)) c.deref-in-Pair.ensures c.deref-in-Pair-2.ensures) in
+    c.pair_of.ensures ∙ ap (λ p. spec.pair_of p.men word x y) c.position-in-Pair.ensures
+    ∙ pair_value c.args.scope.now c.args.f.now c.args.node word (filter_tree c.deref-in-Pair.result.now) (filter_tree c.deref-in-Pair-2.result.now) x y is
+    c.in_ok-first-in-Pair.ensures c.in_ok-second-in-Pair.ensures
+
+pub evaluate-returns-in_ok-otherwise-in-If : goal.evaluate-returns-in_ok-otherwise-in-If
+evaluate-returns-in_ok-otherwise-in-If t c =
+    let p = c.deref-in-If.result.now in
+    let q = c.deref-in-If-2.result.now in
+    let r = c.deref-in-If-3.result.now in
+    let whole = ap (λ r. if_ (filter_tree p) (filter_tree q) (filter_tree r)) c.deref-in-If-3.ensures
+    ∙ ap₂ (λ p q. if_ (filter_tree p) (filter_tree q) (filter_tree c.in-If.otherwise.value)) c.deref-in-If.ensures c.deref-in-If-2.ensures in
+    c.if_of.ensures ∙ if_value c.args.scope.now c.args.f.now c.args.node (filter_tree p) (filter_tree q) (filter_tree r) _ _ _ (ap form_tree c.in-If.is ∙ sym whole)
+    c.in_ok-condition-in-If.ensures c.in_ok-then-in-If.ensures c.in_ok-otherwise-in-If.ensures
+
+pub evaluate-returns-in_ok-squares-in-Square : goal.evaluate-returns-in_ok-squares-in-Square
+evaluate-returns-in_ok-squares-in-Square t c =
+    let s = c.args.scope.now in
+    let every = c.in-Square.every in
+    let a = filter_tree c.deref-in-Square.result.now in
+    let b = filter_tree c.deref-in-Square-2.result.now in
+    let x = meant c.in_ok-squares-in-Square.squares in
+    let is = ap form_tree c.in-Square.is
+    ∙ sym (ap₂ (λ p q. square every c.in-Square.name (filter_tree p) (filter_tree q)) c.deref-in-Square.ensures c.deref-in-Square-2.ensures) in
+    IfOk-weaker c.square_at.result _ _ (λ v known. known
+    ∙ ap (λ text. spec.square_of every x (λ k. spec.holds (meaning.value (tree_in s) s.context.now ((text, k) ∷ s.names.now) b c.args.node))) c.as_slice-in-Square.ensures
+    ∙ square_value s c.args.f.now c.args.node every c.in-Square.name a b x is c.in_ok-squares-in-Square.ensures) c.square_at.ensures
+
+pub evaluate-returns-in-Line : goal.evaluate-returns-in-Line
+evaluate-returns-in-Line t c =
+    IfOk-weaker c.line_at.result _ _ (λ v known. known
+    ∙ line_form_value c.args.scope.now c.args.f.now c.args.node (line_tree c.in-Line.line) (ap form_tree c.in-Line.is)) c.line_at.ensures
+
+pub evaluate-returns-in-Played : goal.evaluate-returns-in-Played
+evaluate-returns-in-Played t c =
+    IfOk-weaker c.played_at.result _ _ (λ v known. known
+    ∙ move_value c.args.scope.now c.args.f.now c.args.node (played_tree c.in-Played.played) (ap form_tree c.in-Played.is)) c.played_at.ensures
+
+pub evaluate-returns-in_ok-value-in-Sort : goal.evaluate-returns-in_ok-value-in-Sort
+evaluate-returns-in_ok-value-in-Sort t c =
+    let m = c.in-Sort in
+    let x = meant c.in_ok-value-in-Sort.value in
+    let is = ap form_tree m.is ∙ sym (ap (λ p. sort m.field-0 m.field-1 (filter_tree p)) c.deref-in-Sort.ensures) in
+    ap spec.as_truth (c.is_some.ensures ∙ ap is_some c.number.ensures)
+    ∙ sort_value c.args.scope.now c.args.f.now c.args.node m.field-0 m.field-1 (filter_tree c.deref-in-Sort.result.now) x is c.in_ok-value-in-Sort.ensures
+
+pub evaluate-returns-in-Comment : goal.evaluate-returns-in-Comment
+evaluate-returns-in-Comment t c = comment_value c.args.scope.now c.args.f.now c.args.node c.in-Comment.field-0 (ap form_tree c.in-Comment.is)
+
+pub evaluate-returns-in-Any : goal.evaluate-returns-in-Any
+evaluate-returns-in-Any t c =
+    IfOk-weaker c.any_at.result _ _ (λ v known. known
+    ∙ any_value c.args.scope.now c.args.f.now c.args.node c.in-Any.kind (filters_tree c.in-Any.parts) (ap form_tree c.in-Any.is)) c.any_at.ensures
+
+pub chain_at-returns : goal.chain_at-returns
+chain_at-returns t c = c.chain_of.ensures ∙ ap (spec.chain_of c.args.chain) (ap (map meant) c.as_slice.ensures.value ∙ c.in_ok-values.ensures)
+
+pub any_at-returns : goal.any_at-returns
+any_at-returns t c = c.any_of.ensures ∙ ap (spec.any_of c.args.kind) (ap (map meant) c.as_slice.ensures.value ∙ c.in_ok-values.ensures)
+
+pub sum_at-returns : goal.sum_at-returns
+sum_at-returns t c = c.total.ensures ∙ ap spec.total_of (ap terms_meant c.as_slice.ensures.value ∙ c.in_ok-values.ensures)
+
+pub family_value-returns : goal.family_value-returns
+family_value-returns t c =
+    c.any_of.ensures ∙ ap (λ k. spec.any_of k (map meant c.as_slice.result.now)) c.kind_of.ensures
+    ∙ ap (spec.any_of (filter_kind (filter_tree c.args.part.now))) (ap (map meant) c.as_slice.ensures.value ∙ c.in_ok-values.ensures)
+
+-- all filters of a list have been asked
+pub values_at-returns : goal.values_at-returns
+values_at-returns t c =
+    let s = c.args.scope.now in
+    let items = c.as_slice-filter-items.result.now in
+    c.loop-filter.invariant
+    ∙ ap (λ fs. meaning.values (tree_in s) s.context.now s.names.now (filter_trees fs) c.args.node) (take_all c.loop-filter.filter-index items c.loop-filter-test.false)
+    ∙ ap (λ fs. meaning.values (tree_in s) s.context.now s.names.now fs c.args.node) c.as_slice-filter-items.ensures.tree
+
+pub terms_at-returns : goal.terms_at-returns
+terms_at-returns t c =
+    let s = c.args.scope.now in
+    let items = c.as_slice-term-items.result.now in
+    c.loop-term.invariant
+    ∙ ap (λ ts. meaning.term_values (tree_in s) s.context.now s.names.now (term_trees ts) c.args.node) (take_all c.loop-term.term-index items c.loop-term-test.false)
+    ∙ ap (λ ts. meaning.term_values (tree_in s) s.context.now s.names.now ts c.args.node) c.as_slice-term-items.ensures.tree
+
+-- parts are smaller than their filter, and are asked at nodes of the same tree
+pub evaluate-unary_at-requires : goal.evaluate-unary_at-requires
+evaluate-unary_at-requires t c = (search (rules, the_lemmas), (c.requires.tree, c.requires.node))
+
+pub evaluate-evaluate-requires : goal.evaluate-evaluate-requires
+evaluate-evaluate-requires t c = (search (rules, the_lemmas), (c.requires.tree, c.requires.node))
+
+pub evaluate-chain_at-requires : goal.evaluate-chain_at-requires
+evaluate-chain_at-requires t c = (search (rules, the_lemmas), (c.requires.tree, c.requires.node))
+
+pub evaluate-sum_at-requires : goal.evaluate-sum_at-requires
+evaluate-sum_at-requires t c = (search (rules, the_lemmas), (c.requires.tree, c.requires.node))
+
+pub evaluate-evaluate-requires-in-Pair : goal.evaluate-evaluate-requires-in-Pair
+evaluate-evaluate-requires-in-Pair t c = (search (rules, the_lemmas), (c.requires.tree, c.requires.node))
+
+pub evaluate-evaluate-requires-in-Pair-2 : goal.evaluate-evaluate-requires-in-Pair-2
+evaluate-evaluate-requires-in-Pair-2 t c = (search (rules, the_lemmas), (c.requires.tree, c.requires.node))
+
+pub evaluate-evaluate-requires-in-If : goal.evaluate-evaluate-requires-in-If
+evaluate-evaluate-requires-in-If t c = (search (rules, the_lemmas), (c.requires.tree, c.requires.node))
+
+pub evaluate-evaluate-requires-in-If-2 : goal.evaluate-evaluate-requires-in-If-2
+evaluate-evaluate-requires-in-If-2 t c = (search (rules, the_lemmas), (c.requires.tree, c.requires.node))
+
+pub evaluate-evaluate-requires-in-If-3 : goal.evaluate-evaluate-requires-in-If-3
+evaluate-evaluate-requires-in-If-3 t c = (search (rules, the_lemmas), (c.requires.tree, c.requires.node))
+
+pub evaluate-evaluate-requires-in-Square : goal.evaluate-evaluate-requires-in-Square
+evaluate-evaluate-requires-in-Square t c = (search (rules, the_lemmas), (c.requires.tree, c.requires.node))
+
+pub evaluate-square_at-requires : goal.evaluate-square_at-requires
+evaluate-square_at-requires t c = (search (rules, the_lemmas), (c.requires.tree, c.requires.node))
+
+pub evaluate-line_at-requires : goal.evaluate-line_at-requires
+evaluate-line_at-requires t c = (search (rules, the_lemmas), (c.requires.tree, c.requires.node))
+
+pub evaluate-played_at-requires : goal.evaluate-played_at-requires
+evaluate-played_at-requires t c = (search (rules, the_lemmas), (c.requires.tree, c.requires.node))
+
+pub evaluate-family_value-requires : goal.evaluate-family_value-requires
+evaluate-family_value-requires t c = (search (rules, the_lemmas), (c.requires.tree, c.requires.node))
+
+pub evaluate-evaluate-requires-in-Sort : goal.evaluate-evaluate-requires-in-Sort
+evaluate-evaluate-requires-in-Sort t c = (search (rules, the_lemmas), (c.requires.tree, c.requires.node))
+
+pub evaluate-any_at-requires : goal.evaluate-any_at-requires
+evaluate-any_at-requires t c = (search (rules, the_lemmas), (c.requires.tree, c.requires.node))
+
+pub unary_at-evaluate-requires : goal.unary_at-evaluate-requires
+unary_at-evaluate-requires t c = (search rules, (c.requires.tree, c.requires.node))
+
+pub chain_at-values_at-requires : goal.chain_at-values_at-requires
+chain_at-values_at-requires t c = (search rules, (c.requires.tree, c.requires.node))
+
+pub any_at-values_at-requires : goal.any_at-values_at-requires
+any_at-values_at-requires t c = (search rules, (c.requires.tree, c.requires.node))
+
+pub sum_at-terms_at-requires : goal.sum_at-terms_at-requires
+sum_at-terms_at-requires t c = (search rules, (c.requires.tree, c.requires.node))
+
+pub square_at-decides-requires : goal.square_at-decides-requires
+square_at-decides-requires t c = (search rules, (c.requires.tree, c.requires.node))
+
+pub decides-evaluate-requires : goal.decides-evaluate-requires
+decides-evaluate-requires t c = (search rules, (c.requires.tree, c.requires.node))
+
+pub member_value-evaluate-requires : goal.member_value-evaluate-requires
+member_value-evaluate-requires t c = (search rules, (c.requires.tree, c.requires.node))
+
+pub member_values-member_value-requires : goal.member_values-member_value-requires
+member_values-member_value-requires t c = (search rules, (c.requires.tree, c.requires.node))
+
+pub family_value-member_values-requires : goal.family_value-member_values-requires
+family_value-member_values-requires t c = (search rules, (c.requires.tree, c.requires.node))
+
+-- a node that passes decides, and one that doesn't leaves the others
+pub some_node-returns-then-holds : goal.some_node-returns-then-holds
+some_node-returns-then-holds t c =
+    let low : c.loop-k.k < length c.args.nodes.now = omega arith in
+    ap spec.as_truth (any_found (λ m. spec.holds (value_in c.args.scope.now (filter_tree c.args.part.now) m)) c.args.nodes.now c.loop-k.k _ low
+    (sym (ap spec.holds c.in_ok-value.ensures) ∙ sym c.holds.ensures ∙ c.if-holds.true) c.loop-k.invariant)
+
+pub some_node-loop-k-preserved : goal.some_node-loop-k-preserved
+some_node-loop-k-preserved t c =
+    let low : c.loop-k.k < length c.args.nodes.now = omega arith in
+    any_passed (λ m. spec.holds (value_in c.args.scope.now (filter_tree c.args.part.now) m)) c.args.nodes.now c.loop-k.k _ low
+    (sym (ap spec.holds c.in_ok-value.ensures) ∙ sym c.holds.ensures ∙ c.if-holds.false) c.loop-k.invariant
