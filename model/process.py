@@ -3,9 +3,10 @@
 
     python3 process.py BINARY
 
-First the worked rows and examples (rows.py, worked.py), the cases (cases.py) and what the pages show (pages.py), then every exit status
-that a process can be brought to, with archives from files, from pipes and from `-`, and files of queries; streams that fail after some
-bytes; then archives of one batch and more, in pieces, by 1 to 64 workers: one text, which is written batch by batch as the archive comes.
+First the worked rows and examples (rows.py, worked.py), queries over games (asked.py), the cases (cases.py) and what the pages show
+(pages.py), then every exit status that a process can be brought to, with archives from files, from pipes and from `-`, and files of
+queries; streams that fail after some bytes, after each number of them in turn; then archives of one batch and more, in pieces, by 1 to 64
+workers: one text, which is written batch by batch as the archive comes.
 The last line counts all: 'N passed, M failed'.
 """
 
@@ -185,6 +186,41 @@ def fail_midway():
     compare("a file that takes a front of the usage line", took, (6, b"", program.USAGE[:7]))
 
 
+def fail_in_turn():
+    """a write that fails after each number of bytes: the other stream has a front"""
+    words, archive = ["eval", "cql() initial", "--workers", "1"], b"1. e5 *\n* * 1. e6 *\n"
+    _, out, err = program.run_eval(b"cql() initial", archive)
+    for room in range(len(out)):
+        status, taken, others = failing.short(lambda **how: process(words, archive, **how), room, "stdout")
+        compare("a file of %d bytes for exports" % room, (status, taken, err.startswith(others)), (6, out[:room], True))
+    for room in range(len(err)):
+        status, others, taken = failing.short(lambda **how: process(words, archive, **how), room, "stderr")
+        compare("a file of %d bytes for a report" % room, (status, taken, out.startswith(others)), (6, err[:room], True))
+
+
+def fail_behind_batches():
+    """a read that fails within three batches, and behind a first match: what the whole batches before it give is written"""
+    query, faulty, match = b"cql() Pd4", b"1. e5 *", b"1. d4 *"
+    batch = faulty + match + b"*" * 1022
+    archive, whole = batch * 2 + match, len(batch)
+    found = b"*" + faulty + b"*" * 1021 + match
+    missed = b"*" + faulty + b"*" * 1022 + match
+    sizes = {*range(0, len(archive), 103), *(full + more for full in (whole, 2 * whole) for more in (-1, 0, 1))}
+    for workers in ("1", "4"):
+        words = ["eval", query, "--workers", workers]
+        for size in sorted(sizes):
+            _, exports, report = program.run_eval(query, archive[: size // whole * whole])
+            with failing.input_of(archive[:size]) as end:
+                want = (5, exports, report[: report.index(b"games ")])
+                compare("a read that fails after %d bytes" % size, process(words, stdin=end), want)
+        with failing.input_of(found) as end:
+            want = program.run_eval(query, found, first=True)
+            compare("no read behind the batch of the first match", process([*words, "--first"], stdin=end), want)
+        with failing.input_of(missed) as end:
+            want = (5, b"", b"game 2 byte 4: illegal move\n")
+            compare("a read that fails before the first match", process([*words, "--first"], stdin=end), want)
+
+
 def in_pieces(words, data, piece):
     """the same as process, with the input written in pieces"""
     with subprocess.Popen([BINARY] + words, stdin=subprocess.PIPE, stdout=subprocess.PIPE, stderr=subprocess.PIPE) as p:
@@ -226,6 +262,8 @@ def batches():
     compare("a game that fills a batch by its bytes", len(texts), 1)
     by_bytes = in_pieces(["eval", query], b"*\n" * 1025, 1)
     compare("1025 games byte by byte", by_bytes == (0, one * 1025, b"games 1025 matched 1025 refused 0\n"), True)
+    marker = b"1. e4 1-0x *"
+    compare("a marker that is none, byte by byte", in_pieces(["eval", query], marker, 1), program.run_eval(query.encode(), marker))
     limited = in_pieces(["eval", query, "--limit", "2048"], b"*\n" * 1025, 4096)
     compare("a batch within the limit", (limited[0], len(limited[1]), limited[2]), (8, 104448, b""))
     archive = b"*\n" * 1024 + b"1. e4 e5 *\n"
@@ -287,13 +325,6 @@ def ends_before_its_writer():
     compare("a pipe that stays open", got, program.run_eval(b"cql() initial", b"*\n" * 1025, first=True))
 
 
-def joined(asked):
-    """what `many` answers, of the answers to each query alone"""
-    outs = b"".join(b"query %d bytes %d\n" % (number, len(out)) + out for number, (_, out, _) in enumerate(asked, 1))
-    reports = [err.splitlines(keepends=True) for _, _, err in asked]
-    return asked[0][0], outs, b"".join(reports[0][:-1] + [report[-1] for report in reports])
-
-
 def many(folder, queries, archive=None, options=(), **streams):
     """the answer to a file of queries over an archive by its name, or over ARCHIVE"""
     with open(os.path.join(folder, "queries.cql"), "wb") as f:
@@ -308,7 +339,7 @@ def files_of_queries(folder):
         f.write(cookbook[0].archive)
     for workers in ("1", "4", "64"):
         got = many(folder, b"%%\n".join(case.query for case in cookbook), "games.pgn", ["--workers", workers])
-        compare("sixteen queries by %s workers" % workers, got, joined([case.wanted() for case in cookbook]))
+        compare("sixteen queries by %s workers" % workers, got, program.joined([case.wanted() for case in cookbook]))
     sixteen = [b"cql() check //" + b"x" * 65521 + b"\n" for _ in range(15)] + [b"cql() mate //" + b"x" * 65478]
     accepted = {
         "two queries": b"cql() Pd4\n%%\ncql() check\n",
@@ -320,7 +351,7 @@ def files_of_queries(folder):
     }
     compare("how long the longest file is", len(accepted["1,048,576 bytes"]), 1048576)
     for name, text in accepted.items():
-        compare(name, many(folder, text), joined([program.run_eval(piece, ARCHIVE) for piece in program.pieces_of(text)]))
+        compare(name, many(folder, text), program.joined([program.run_eval(piece, ARCHIVE) for piece in program.pieces_of(text)]))
     refused = {
         "queries too long": [accepted["1,048,576 bytes"] + b" ", b"%%\n" * 349526],
         "queries too many": [b"%%\n" * 16, b"cql() check\n%%\n" * 16 + b"cql() !"],
@@ -386,7 +417,7 @@ def many_runs():
     compare("200 runs by 64 workers", {process(words + ["64"], archive) for _ in range(200)} == {want}, True)
 
 
-parts("rows.py", "worked.py", "cases.py", "pages.py")
+parts("rows.py", "worked.py", "asked.py", "cases.py", "pages.py")
 with tempfile.TemporaryDirectory() as room:
     files = {"a.pgn": ARCHIVE, "one.pgn": b"1. e4 *\n", "faulty.pgn": FAULTY, "q.cql": QUERY, "bad.cql": b"cql() echo"}
     for name, text in files.items():
@@ -398,6 +429,8 @@ with tempfile.TemporaryDirectory() as room:
     files_of_queries(room)
     many_ends(room)
 fail_midway()
+fail_in_turn()
+fail_behind_batches()
 batches()
 as_it_is_read()
 first_matches()

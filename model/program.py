@@ -83,6 +83,14 @@ def pieces_of(text):
     return re.split(rb"^%%(?:\n|\Z)", text, flags=re.M)
 
 
+def joined(answers):
+    """what `many` answers, of the answers to each query alone"""
+    outs = [b"query %d bytes %d\n" % (number, len(out)) + out for number, (_, out, _) in enumerate(answers, 1)]
+    *faults, _ = answers[0][2].splitlines(keepends=True)
+    counts = [err.splitlines(keepends=True)[-1] for _, _, err in answers]
+    return (answers[0][0], b"".join(outs), b"".join(faults + counts))
+
+
 def run_many(text, b):
     """(status, out, err) of the queries of a file over one archive"""
     if len(text) > MOST_BYTES:
@@ -96,11 +104,7 @@ def run_many(text, b):
             queries.append(read_query(piece))
         except QueryFault as f:
             return (2, b"", b"query %d" % number + fault_line(f)[len(b"query") :])
-    answers = [answer(q, b) for q in queries]
-    outs = [b"query %d bytes %d\n" % (number, len(out)) + out for number, (_, out, _) in enumerate(answers, 1)]
-    *faults, _ = answers[0][2].splitlines(keepends=True)
-    counts = [err.splitlines(keepends=True)[-1] for _, _, err in answers]
-    return (answers[0][0], b"".join(outs), b"".join(faults + counts))
+    return joined([answer(q, b) for q in queries])
 
 
 def run_check(text):

@@ -242,6 +242,7 @@ WEIGHED = [
     (b"move capture a or move", 1, 4),
     (b"line --> {move}", 1, 3),
     (b"# A == # a", 1, 5),
+    (b"power A light A", 2, 4),
     (b"A // all\n a", 2, 2),
     (b"not " * 64 + b"check", 1, 65),
     (b"not " * 64 + b"A (B)", 2, 66),

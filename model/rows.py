@@ -109,6 +109,14 @@ FOUND = [
         OPENED,
         "{CQL} 1. e4 {CQL} 1... e5 {CQL} 2. Nf3 {CQL} *",
     ),
+    # a man that only a variation has, and one that only an image has
+    (
+        "cql(variations) Qa8",
+        '[FEN "4k3/P7/8/8/8/8/8/4K3 w - - 0 1"]\n1. Kd2 (1. a8Q) *',
+        "1. Kd2 (1. a8=Q+ {CQL}) *",
+        "4k3/P7/8/8/8/8/8/4K3 w - - 0 1",
+    ),
+    ("cql() flip { wtm Kh1 }", '[FEN "7k/P7/8/8/8/8/8/K7 w - - 0 1"]\n1. a8=Q *', "{CQL} 1. a8=Q+ *", "7k/P7/8/8/8/8/8/K7 w - - 0 1"),
     ("cql() #light [a1,h1,d1,e1,h8] == 2 light h1 light d1", OPENED, "{CQL} 1. e4 {CQL} 1... e5 {CQL} 2. Nf3 {CQL} *"),
 ]
 
@@ -230,6 +238,8 @@ MISSED = [
     ("cql() Ka1 Kb1", '[FEN "8/8/8/8/8/8/8/K1k5 w - - 0 1"]\n*\n'),
     ("cql() Pd4", '[FEN "8/8/8/8/8/8/8/K1k5 w - - 0 1"]\n*\n'),
     ("cql() Pd4", "1. e4 (1. d4) e5 *"),
+    ("cql() Qa8", '[FEN "4k3/P7/8/8/8/8/8/4K3 w - - 0 1"]\n1. Kd2 (1. a8Q) *'),
+    ("cql() Qa8", '[FEN "4k3/8/8/8/8/8/8/4K3 w - - 0 1"]\n*\n'),
     ("cql() 999999999 * 999999999 * 999999999", "*"),
     ("cql() line --> check{0}", OPENED),
     ("cql() line 3 2 --> wtm", OPENED),

@@ -222,6 +222,30 @@ several(
     "game 2 byte 11: illegal move\ngames 4 matched 2 refused 1\ngames 4 matched 3 refused 1\n",
     1,
 )
+PROMOTED = "7k/P7/8/8/8/8/8/K7 w - - 0 1"
+# Queries that share parts, and how each writes the game in which a pawn promotes, where it finds it.
+SHARED = [
+    (["cql() wtm check", "cql() check wtm"], [None, None]),
+    (["cql() wtm", "cql(variations) wtm"], ["{CQL} 1. a8=Q+ Kh7 {CQL} *"] * 2),
+    (["cql() {btm check}", "cql() (check and btm)  Qa8"], ["1. a8=Q+ {CQL} 1... Kh7 *"] * 2),
+    (
+        ['cql() sort "p" ply sort min "p" ply', "cql() Qa8"],
+        ["{CQL} 1. a8=Q+ {CQL} 1... Kh7 {CQL} *", "1. a8=Q+ {CQL} 1... Kh7 {CQL} *"],
+    ),
+    (['cql() mate sort "p" ply', 'cql() wtm sort "p" ply Qa8'], [None, "1. a8=Q+ Kh7 {CQL} *"]),
+    (['cql() comment "a" comment "b"'], ["{CQL} {a} {b} 1. a8=Q+ {CQL} {a} {b} 1... Kh7 {CQL} {a} {b} *"]),
+    (["cql() wtm"] * 16, ["{CQL} 1. a8=Q+ Kh7 {CQL} *"] * 16),
+]
+for queries, movetexts in SHARED:
+    outs = ["" if movetext is None else exported(movetext, PROMOTED) for movetext in movetexts]
+    several(
+        "queries that share parts: %s" % ", ".join(queries[:2]),
+        "\n%%\n".join(queries),
+        game("1. a8=Q Kh7 *", PROMOTED),
+        "".join("query %d bytes %d\n" % (number, len(out)) + out for number, out in enumerate(outs, 1)),
+        "".join("games 1 matched %d refused 0\n" % (out != "") for out in outs),
+        0,
+    )
 several("a fault of the second query", "cql() check\n%%\ncql() echo", SHORT_GAME, "", "query 2 byte 6: outside profile echo\n", 2)
 several("seventeen queries", "cql() check\n%%\n" * 16 + "cql() check", SHORT_GAME, "", "queries too many\n", 2)
 several("nothing between two separators", "cql() check\n%%\n%%\ncql() mate", "", "", "query 2 byte 0: unexpected end\n", 2)
