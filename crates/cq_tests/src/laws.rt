@@ -1,34 +1,36 @@
-//! A cutter that is fed piece by piece, and laws that nothing else calls.
-use cq_common::NoMemory;
-use pgn_cut::{Cutter, Span};
+//! Laws of cuts, of readers and of lines, which nothing else calls, and what those of lines ask of a game.
+use cq_common::Refusal;
+use pgn_json::{
+    games_are_kept, lines_are_json, lines_are_utf8, same_lines_have_the_same_game,
+    strings_are_read_back, texts_are_bytes,
+};
 use pgn_laws::{markers_end_games, split_games_are_read_alike};
 use pgn_pieces::pieces_cover_their_archive;
+use pgn_reader::{GameFault, read_game};
 use std::alloc::Global;
 
-// How many games are closed after the first of two pieces, and the spans after both.
-fn fed_twice(alloc: Global) -> Result<(usize, Vec<Span>), NoMemory> {
-    let mut spans = Vec::new(alloc);
-    let mut cutter = Cutter::new();
-    cutter.feed(b"1. e4 1-0", &mut spans)?;
-    let closed = spans.len();
-    cutter.feed(b"x *", &mut spans)?;
-    Ok((closed, spans))
-}
+/// A game with a tag that has to be escaped and is no UTF-8, comments, glyphs, a variation and a null move.
+const GAME: &[u8] =
+    b"[White \"a\\\"b\xe9\"] {at the start} 1. e4 $1 $3 {CQL} {x\xc3\xa9} (1. -- e5) 1... c5 1-0";
 
-fn is_one_to(spans: &[Span], end: u64) -> bool {
-    spans.len() == 1 && spans[0].end == end
+fn is_kept_with_bytes(alloc: Global) -> Result<bool, Refusal<GameFault>> {
+    let game = read_game(alloc, GAME, 0, true)?;
+    Ok(games_are_kept(&game) && texts_are_bytes(&game))
 }
 
 #[test]
-fn a_marker_closes_a_game_once_it_is_whole(rt: HostRuntime) -> Result<(), NoMemory> {
-    let (closed, spans) = fed_twice(rt.alloc())?;
-    assert!(rt; closed == 0 && is_one_to(spans.as_slice(), 12));
+fn a_game_has_what_the_laws_of_lines_ask(rt: HostRuntime) -> Result<(), Refusal<GameFault>> {
+    assert!(rt; is_kept_with_bytes(rt.alloc())?);
     Ok(())
 }
 
 #[test]
-fn laws_of_cuts_and_readers_are_called() {
+fn laws_are_called() {
     pieces_cover_their_archive();
     markers_end_games();
     split_games_are_read_alike();
+    strings_are_read_back();
+    lines_are_json();
+    lines_are_utf8();
+    same_lines_have_the_same_game();
 }

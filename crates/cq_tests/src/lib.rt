@@ -1,29 +1,20 @@
-//! Tests of the crates of chess and of PGN, and of those that know neither: vectors from outside, what no process shows, calls of the
-//! outside that fail, and threads beside each other.
+//! Tests of the crates of chess and of PGN, and of those that know neither: vectors from outside, calls that no program makes, and laws.
 #![tactic(auto)]
 
 #[cfg(test)]
 mod calls;
 #[cfg(test)]
-mod cuts;
-#[cfg(test)]
-mod draws;
-#[cfg(test)]
-mod fen;
+mod faults;
 #[cfg(test)]
 mod finds;
 #[cfg(test)]
-mod jsons;
+mod laws;
 #[cfg(test)]
 mod lexer;
 #[cfg(test)]
 mod maker;
 #[cfg(test)]
 mod moves;
-#[cfg(test)]
-mod outside;
-#[cfg(test)]
-mod san;
 #[cfg(test)]
 mod sent;
 #[cfg(test)]

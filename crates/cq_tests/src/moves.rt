@@ -1,7 +1,6 @@
-//! Lines of legal moves, counted, and the first move at the start.
-use cq_geometry::Square;
+//! Lines of legal moves, counted.
 use cq_moves::{is_legal, legal_moves, play};
-use cq_position::{Move, Position, Promotion, read_fen};
+use cq_position::{Position, read_fen};
 use std::test::Fail;
 
 // How many lines of so many legal moves lead on from a position.
@@ -60,17 +59,4 @@ fn lines_are_as_many_as_published(rt: HostRuntime) -> Result<(), Fail> {
         assert!(rt; perft_of(fen, *depth)? == *count);
     }
     Ok(())
-}
-
-// From b1 to a3.
-#[test]
-fn the_first_move_at_the_start(rt: HostRuntime) {
-    let moves = legal_moves(&Position::start());
-    let first = Move {
-        from: Square::new(1),
-        to: Square::new(16),
-        promotion: Promotion::None,
-        null: false,
-    };
-    assert!(rt; moves.as_slice().first() == Some(&first));
 }
