@@ -4,9 +4,9 @@
     python3 asked.py [BINARY]
 
 asked/ has queries, one a line: one of each form (forms.txt), two hundred that fuzz.py drew (drawn.txt), those of the pages (pages.txt) and
-some with sort items (sorted.txt); and archives: two games with variations (two.pgn), and ten openings of world championships with variations
-drawn at random (ten.pgn). Each query is asked for its marks at all positions. Without a binary the model is asked alone whether it reads
-each game and accepts each query. The last line counts: 'asked: N passed, M failed'.
+some with sort items (sorted.txt); and archives: two games with variations (two.pgn), and ten openings of world championships with
+variations drawn at random (ten.pgn). The answer shows the positions at which a query holds. Without a binary the model is asked alone
+whether it reads each game and accepts each query. The last line counts: 'asked: N passed, M failed'.
 """
 
 import concurrent.futures
