@@ -1,6 +1,4 @@
 //! Workers side by side at one batch.
-ghost use Rattle.std.specs.Prelude.{◌≤◌};
-
 use crate::plans::plan_of;
 use cq_common::{Bytes, NoMemory};
 use cq_outside::Gate;
@@ -45,7 +43,7 @@ fn archive_of(alloc: Global) -> Result<Bytes, NoMemory> {
 
 /// A gate that counts its calls, and at which the first call of one kind waits for calls of another worker.
 #[derive(Drop)]
-pub(crate) struct Watch {
+struct Watch {
     exports: Vec<Bytes>,
     /// How often each game was entered or left.
     calls: Vec<AtomicU32>,
@@ -99,7 +97,7 @@ fn comes_to(count: &AtomicU32, high: u32) -> bool {
 }
 
 impl Watch {
-    pub(crate) fn new(alloc: Global, at_enter: bool) -> Result<Watch, NoMemory> {
+    fn new(alloc: Global, at_enter: bool) -> Result<Watch, NoMemory> {
         let exports = exports_of(alloc)?;
         let calls = counts(alloc, WATCHED)?;
         let by_worker = counts(alloc, 2)?;
@@ -136,8 +134,8 @@ impl Watch {
         }
     }
 
-    /// Whether there were as many calls of both kinds as games, none of which was wrong.
-    pub(crate) fn has_seen_all(&self) -> bool {
+    // Whether there were as many calls of both kinds as games, none of which was wrong.
+    fn has_seen_all(&self) -> bool {
         let enters = self.enters.load(Ordering::Relaxed);
         let leaves = self.leaves.load(Ordering::Relaxed);
         let wrong = self.wrong.load(Ordering::Relaxed);
@@ -165,19 +163,12 @@ impl Gate for Watch {
     }
 }
 
-/// The batch of all games of an archive, of which the first has this number.
-pub(crate) fn batch_of<R: Abort>(
-    rt: &R,
-    alloc: Global,
-    archive: &[u8],
-    first: u64,
-) -> Result<Batch, NoMemory>
-    requires { first ≤ 1000 }
-{
+// The batch of all games of an archive.
+fn batch_of<R: Abort>(rt: &R, alloc: Global, archive: &[u8]) -> Result<Batch, NoMemory> {
     assert!(rt; archive.len() < 1 << 20);
     let spans = cut_whole(alloc, archive)?;
     assert!(rt; spans.len() <= 300);
-    Batch::of(alloc, archive, spans.as_slice(), first)
+    Batch::of(alloc, archive, spans.as_slice(), 0)
 }
 
 // How many answers a batch has. The contract of this call is a large one, so that it is made here alone.
@@ -191,10 +182,10 @@ fn answered<R: Threads + Sync>(
     Ok(run_batch(rt, alloc, plan, batch, 2, gate)?.len())
 }
 
-/// The batch of the games at which two workers are watched.
-pub(crate) fn watched_batch<R: Abort>(rt: &R, alloc: Global) -> Result<Batch, NoMemory> {
+// The batch of the games at which two workers are watched.
+fn watched_batch<R: Abort>(rt: &R, alloc: Global) -> Result<Batch, NoMemory> {
     let archive = archive_of(alloc)?;
-    batch_of(rt, alloc, archive.as_slice(), 0)
+    batch_of(rt, alloc, archive.as_slice())
 }
 
 // Whether two workers enter and leave each game of a batch once.
