@@ -9,9 +9,6 @@ use std::sync::atomic::{AtomicU32, Ordering};
 use std::test::Fail;
 use std::thread::Threads;
 
-/// How many games each of these jobs has.
-const GAMES: u32 = 8;
-
 /// How often the worker that comes first looks for another one, where one has to come.
 const MOST_LOOKS: u32 = 1_000_000_000;
 
@@ -32,6 +29,8 @@ struct Meeting {
     beyond: AtomicU32,
     /// How many workers were held until no other could be waited for.
     alone: AtomicU32,
+    /// How many bytes it was told as games were left.
+    bytes: AtomicU32,
 }
 
 // Looks so often until there is a count; whether there came to be one.
@@ -60,16 +59,19 @@ impl Meeting {
             by_others: AtomicU32::new(0),
             beyond: AtomicU32::new(0),
             alone: AtomicU32::new(0),
+            bytes: AtomicU32::new(0),
         }
     }
 
-    // Whether there was a call of each kind for each game, none of them by a worker too many, and no worker waited in vain.
-    fn has_seen_all(&self) -> bool {
+    // Whether there was a call of each kind for so many games, with so many bytes, none of them by a worker too many, and no worker waited
+    // in vain.
+    fn has_seen(&self, games: u32, bytes: u32) -> bool {
         let enters = self.enters.load(Ordering::Relaxed);
         let leaves = self.leaves.load(Ordering::Relaxed);
         let beyond = self.beyond.load(Ordering::Relaxed);
         let alone = self.alone.load(Ordering::Relaxed);
-        enters == GAMES && leaves == GAMES && beyond == 0 && alone == 0
+        let told = self.bytes.load(Ordering::Relaxed);
+        enters == games && leaves == games && told == bytes && beyond == 0 && alone == 0
     }
 }
 
@@ -89,28 +91,40 @@ impl Gate for Meeting {
         comes(&self.beyond, LOOKS_AT_A_GAME);
     }
 
-    fn leave(&self, worker: u64, _shard: u64, _text: &[u8]) {
+    fn leave(&self, worker: u64, _shard: u64, text: &[u8]) {
         add_if(&self.beyond, worker >= self.told);
         self.leaves.fetch_add(1, Ordering::Relaxed);
+        self.bytes.fetch_add(text.len() as u32, Ordering::Relaxed);
     }
 }
 
-/// A query, two queries, and an archive of as many games, of which none matches.
-static FILES: [(&str, &str); 3] = [
+/// A query, two pairs of queries, and an archive of eight games, of which none matches but those at their beginning.
+static FILES: [(&str, &str); 4] = [
     ("q.cql", "cql() mate"),
     ("two.cql", "cql() mate\n%%\ncql() stalemate\n"),
+    (
+        "marked.cql",
+        "cql() initial\n%%\ncql(matchstring \"X\") initial\n",
+    ),
     ("games.pgn", "1. e4 *\n* * * * * * *\n"),
 ];
 
-/// Words of each mode that answers games.
-static JOBS: [&[&str]; 6] = [
-    &["run", "q.cql", "games.pgn"],
-    &["eval", "cql() mate", "games.pgn"],
-    &["eval", "cql() mate sort \"p\" ply", "games.pgn"],
-    &["eval", "cql() mate", "games.pgn", "--first"],
-    &["selfrun", "cql() mate", "--games", "8"],
-    &["many", "two.cql", "games.pgn"],
+/// Words, how many games are entered and left, and how many bytes the gate is told.
+type Job<'a> = (&'a [&'a str], u32, u32);
+
+/// Jobs of each mode that answers games. Of several queries the gate is told the exports of the first: one of 108 bytes and seven of 102.
+static JOBS: [Job<'static>; 7] = [
+    (&["run", "q.cql", "games.pgn"], 8, 0),
+    (&["eval", "cql() mate", "games.pgn"], 8, 0),
+    (&["eval", "cql() mate sort \"p\" ply", "games.pgn"], 8, 0),
+    (&["eval", "cql() mate", "games.pgn", "--first"], 8, 0),
+    (&["selfrun", "cql() mate", "--games", "8"], 8, 0),
+    (&["many", "two.cql", "games.pgn"], 8, 0),
+    (&["many", "marked.cql", "games.pgn"], 8, 822),
 ];
+
+/// One worker draws in order, so it skips every game after the first match.
+static FIRST: Job<'static> = (&["eval", "cql() initial", "games.pgn", "--first"], 1, 108);
 
 // The status of words over a desk, at a gate.
 fn answered<R: Threads + Sync>(
@@ -138,18 +152,18 @@ fn status_at<R: Threads + Sync>(
     answered(rt, alloc, words.as_slice(), &mut desk, gate)
 }
 
-// Asks that so many workers enter and leave each game of a job once, none of them a worker too many.
+// Asks that so many workers enter and leave the games of a job once each, none of them a worker too many.
 fn expect<R: Threads + Sync + Abort>(
     rt: &R,
     alloc: Global,
-    job: &[&str],
+    job: &Job<'_>,
     workers: &str,
     told: u64,
 ) -> Result<(), Fail> {
     let gate = Meeting::new(told);
-    let status = status_at(rt, alloc, job, workers, &gate)?;
+    let status = status_at(rt, alloc, job.0, workers, &gate)?;
     assert!(rt; status == Status::Done);
-    assert!(rt; gate.has_seen_all());
+    assert!(rt; gate.has_seen(job.1, job.2));
     Ok(())
 }
 
@@ -159,5 +173,5 @@ fn all_workers_enter_games_of_each_job(rt: HostRuntime) -> Result<(), Fail> {
         expect(&rt, rt.alloc(), job, "1", 1)?;
         expect(&rt, rt.alloc(), job, "2", 2)?;
     }
-    Ok(())
+    expect(&rt, rt.alloc(), &FIRST, "1", 1)
 }
