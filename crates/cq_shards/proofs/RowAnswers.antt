@@ -1,5 +1,5 @@
 -- The queries of a plan one by one, and what was found of each.
-use Rattle.std.proofs.Common.{◌≡◌, ◌≢◌, ℕ, ◌<◌, ℤ, List, [], ◌∷◌, length, get_or, map, Some, zero, suc, ap, sym, ◌∙◌, arith}
+use Rattle.std.proofs.Common.{◌≡◌, ◌≢◌, ℕ, ◌<◌, ◌≤◌, ℤ, List, [], ◌∷◌, length, get_or, map, drop, Some, zero, suc, ap, sym, ◌∙◌, arith}
 use Rattle.std.proofs.lemmas.List.{get_or-map, length-map}
 use Rattle.cq_position.specs.Games.{Game}
 use Rattle.cql_syntax.specs.Hits.{hits, keys}
@@ -8,12 +8,23 @@ use Rattle.cql_syntax.specs.Trees.{QueryTree}
 use Rattle.cql_syntax.specs.declared.typed.TypedQuery.{TypedQuery}
 use Rattle.cq_parts.specs.Plans.{trees_of}
 use Rattle.cq_parts.specs.Verdicts.{HaveKeys, IsKeyed}
+use Rattle.cq_answered.specs.Outcomes.{Outcome}
+use Rattle.cq_answered.specs.Rows.{answers_back}
+use Rattle.cq_answered.specs.declared.answers.GameAnswer.{GameAnswer}
 
 pub tree_at : (queries : List TypedQuery) (k : ℕ) (q : TypedQuery) → k < length queries → q ≡ get_or queries k q → query_tree q.query ≡ get_or (trees_of queries) k (query_tree q.query)
 tree_at queries k q inside at = ap (λ (p : TypedQuery). query_tree p.query) at ∙ sym (get_or-map (λ (p : TypedQuery). query_tree p.query) queries k q (query_tree q.query) inside)
 
 pub tree_count : (queries : List TypedQuery) → length (trees_of queries) ≡ length queries
 tree_count queries = length-map queries (λ (p : TypedQuery). query_tree p.query)
+
+pub found_count : (queries : List TypedQuery) (game : Game) (found : List (List ℕ)) → found ≡ map (λ q. hits q game) (trees_of queries) → length found ≡ length queries
+found_count queries game found are = ap length are ∙ length-map (trees_of queries) (λ q. hits q game) ∙ tree_count queries
+
+-- the queries from the first one on are all
+pub from_first : (queries : List QueryTree) (n index : ℕ) (r : Outcome) (answers : List GameAnswer) → n ≤ 0 → answers ≡ answers_back (drop n queries) index r
+    → answers ≡ answers_back queries index r
+from_first queries n index r answers none are = are ∙ ap (λ k. answers_back (drop k queries) index r) (let e : n ≡ 0 = omega (arith, none) in e)
 
 -- the hits and the keys of one query
 pub hits_at : (queries : List QueryTree) (game : Game) (found : List (List ℕ)) (k : ℕ) (q : QueryTree) → k < length queries → q ≡ get_or queries k q

@@ -4,8 +4,27 @@ use Rattle.cq_parts.specs.Plans.{queries_of, trees_of}
 use Rattle.cq_parts.specs.Verdicts as all
 use Rattle.cq_answered.specs.Answers.{answer_of}
 use Rattle.cq_answered.proofs.RowAnswers.{one_back}
-use Rattle.cq_shards.proofs.RowAnswers.{hits_at, keys_at, tree_at, tree_count}
+use Rattle.cq_shards.proofs.RowAnswers.{found_count, from_first, hits_at, keys_at, tree_at, tree_count}
 use Rattle.cq_shards.proofs.rows.AskedPlansAllAsked.answers.Goals as goal
+
+pub query-query-requires : goal.query-query-requires
+query-query-requires c = let some = c.loop-q-test.true in let most = c.loop-q.auto.q in let is = c.len-q.ensures in omega (arith, some, most, is)
+
+pub nodes-requires : goal.nodes-requires
+nodes-requires c =
+    let some = c.loop-q-test.true in
+    let most = c.loop-q.auto.q in
+    let is = c.len-q.ensures in
+    let many = found_count (queries_of c.args.self.now.plan.now) c.args.game.now (all.nodes_of c.in_ok-found.found) c.in_ok-found.ensures.nodes in
+    omega (arith, some, most, is, many)
+
+pub keys-requires : goal.keys-requires
+keys-requires c =
+    let some = c.loop-q-test.true in
+    let most = c.loop-q.auto.q in
+    let is = c.len-q.ensures in
+    let many = found_count (queries_of c.args.self.now.plan.now) c.args.game.now (all.nodes_of c.in_ok-found.found) c.in_ok-found.ensures.nodes in
+    omega (arith, some, most, is, many)
 
 pub answer_found-requires-clause-nodes : goal.answer_found-requires-clause-nodes
 answer_found-requires-clause-nodes c =
@@ -43,3 +62,8 @@ loop-q-preserved c =
     (c.in_ok-answer.ensures
     ∙ ap (λ q. answer_of q c.args.index (Ok c.args.game.now)) (tree_at queries (c.loop-q.q - 1) query (omega (arith, some, most, is)) c.query-query.ensures))
     c.in_ok-push.ensures.items
+
+pub returns : goal.returns
+returns c =
+    let none = c.loop-q-test.false in
+    from_first (trees_of (queries_of c.args.self.now.plan.now)) c.loop-q.q c.args.index (Ok c.args.game.now) c.loop-q.answers.items (omega (arith, none)) c.loop-q.invariant
