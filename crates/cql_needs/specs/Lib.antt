@@ -1,4 +1,3 @@
-pub mod Items
 pub mod Needs
 pub mod NeedsRows
 pub mod Plans

@@ -1,7 +1,7 @@
 use Rattle.std.proofs.Common.{◌∙◌}
 use Rattle.cql_syntax.specs.TreeOf.{filters_tree, query_tree}
 use Rattle.cql_needs.proofs.Flattened.{passes_is, flat_passes}
-use Rattle.cql_needs.proofs.plan.matching.may_hold.Goals as goal
+use Rattle.cql_needs.proofs.plan.making.may_hold.Goals as goal
 
 pub returns-clause-value : goal.returns-clause-value
 returns-clause-value c =
