@@ -1,10 +1,11 @@
-use Rattle.std.proofs.Common.{refl, sym, ◌∙◌, ap}
+use Rattle.std.proofs.Common.{rules, refl, sym, ◌∙◌, ap}
 use Rattle.std.proofs.lemmas.Result.{err_from_is_err_and}
-use Rattle.cql_syntax.specs.Occurrences.{part_of, asked_of_each, inner, of_written}
-use Rattle.cql_syntax.specs.TreeOf.{filter_tree, form_tree}
+use Rattle.cql_syntax.specs.Occurrences.{part_of, asked_of_each, inner, all_of, of_played, of_terms, of_written}
+use Rattle.cql_syntax.specs.TreeOf.{filter_tree, filters_tree, form_tree, played_tree, terms_tree}
+use Rattle.cql_syntax.specs.declared.tree.Body.TheFolds.{the_lemmas}
 use Rattle.cql_kinds.specs.Standings.{standing_in, counted}
 use Rattle.cql_kinds.specs.Walks.{walked}
-use Rattle.cql_kinds.proofs.Arms.{same_place, pair_at, if_at, square_at, played_at, origin_is, goal_is, taken_is, promoted_is}
+use Rattle.cql_kinds.proofs.Arms.{same_place, unary_at, steps_at, sort_at, family_at, chain_at, any_at, sum_at, move_at, pair_at, if_at, square_at, played_at, origin_is, goal_is, taken_is, promoted_is}
 use Rattle.cql_kinds.proofs.Loops.{filters_at, filters_end, terms_at, terms_end, parts_at, parts_end}
 use Rattle.cql_kinds.proofs.Walking.{walk_stop, refused_at, found_after, given_last}
 use Rattle.cql_kinds.proofs.walk.+walk.Goals as goal
@@ -205,3 +206,133 @@ walk_played-returns t c =
     (ap (of_written (standing_in c.args.standing)) (taken_is c.args.played.now)) in
     given_last c.walk_written-4.result c.in_ok-after_taken.after_taken _ _ _ last c.walk_written-4.ensures
     (ap (of_written (standing_in c.args.standing)) (promoted_is c.args.played.now))
+
+pub walk_inner-returns-in-Unary : goal.walk_inner-returns-in-Unary
+walk_inner-returns-in-Unary t c =
+    let arm = ap (λ f. walked c.args.firsts (inner (standing_in c.args.standing) (form_tree f))) c.in-Unary.is
+    ∙ unary_at c.args.firsts (standing_in c.args.standing) c.in-Unary.unary (filter_tree c.in-Unary.part.value) in
+    given_last c.walk.result c.args.firsts _ _ _ arm c.walk.ensures (same_place (c.part.ensures ∙ ap (part_of (standing_in c.args.standing)) c.unary_wants.ensures) c.deref.ensures)
+
+pub walk_inner-returns-in-Steps : goal.walk_inner-returns-in-Steps
+walk_inner-returns-in-Steps t c =
+    let arm = ap (λ f. walked c.args.firsts (inner (standing_in c.args.standing) (form_tree f))) c.in-Steps.is
+    ∙ steps_at c.args.firsts (standing_in c.args.standing) _ _ _ (filter_tree c.in-Steps.part.value) in
+    given_last c.walk-in-Steps.result c.args.firsts _ _ _ arm c.walk-in-Steps.ensures (same_place c.part-in-Steps.ensures c.deref-in-Steps.ensures)
+
+pub walk_inner-returns-in-Sort : goal.walk_inner-returns-in-Sort
+walk_inner-returns-in-Sort t c =
+    let arm = ap (λ f. walked c.args.firsts (inner (standing_in c.args.standing) (form_tree f))) c.in-Sort.is
+    ∙ sort_at c.args.firsts (standing_in c.args.standing) _ _ (filter_tree c.in-Sort.part.value) in
+    given_last c.walk-in-Sort.result c.args.firsts _ _ _ arm c.walk-in-Sort.ensures (same_place c.part-in-Sort.ensures c.deref-in-Sort.ensures)
+
+pub walk_inner-returns-in-Transform : goal.walk_inner-returns-in-Transform
+walk_inner-returns-in-Transform t c =
+    let arm = ap (λ f. walked c.args.firsts (inner (standing_in c.args.standing) (form_tree f))) c.in-Transform.is
+    ∙ family_at c.args.firsts (standing_in c.args.standing) _ (filter_tree c.in-Transform.part.value) in
+    given_last c.walk-in-Transform.result c.args.firsts _ _ _ arm c.walk-in-Transform.ensures (same_place c.part-in-Transform.ensures c.deref-in-Transform.ensures)
+
+pub walk_inner-returns-in-Chain : goal.walk_inner-returns-in-Chain
+walk_inner-returns-in-Chain t c =
+    let arm = ap (λ f. walked c.args.firsts (inner (standing_in c.args.standing) (form_tree f))) c.in-Chain.is
+    ∙ chain_at c.args.firsts (standing_in c.args.standing) c.in-Chain.chain (filters_tree c.in-Chain.parts) in
+    given_last c.walk_all.result c.args.firsts _ _ _ arm c.walk_all.ensures (ap (λ s. all_of s (filters_tree c.in-Chain.parts)) (c.part-in-Chain.ensures ∙ ap (part_of (standing_in c.args.standing)) c.kind.ensures))
+
+pub walk_inner-returns-in-Any : goal.walk_inner-returns-in-Any
+walk_inner-returns-in-Any t c =
+    let arm = ap (λ f. walked c.args.firsts (inner (standing_in c.args.standing) (form_tree f))) c.in-Any.is
+    ∙ any_at c.args.firsts (standing_in c.args.standing) c.in-Any.kind (filters_tree c.in-Any.parts) in
+    given_last c.walk_all-in-Any.result c.args.firsts _ _ _ arm c.walk_all-in-Any.ensures (ap (λ s. all_of s (filters_tree c.in-Any.parts)) c.part-in-Any.ensures)
+
+pub walk_inner-returns-in-Sum : goal.walk_inner-returns-in-Sum
+walk_inner-returns-in-Sum t c =
+    let arm = ap (λ f. walked c.args.firsts (inner (standing_in c.args.standing) (form_tree f))) c.in-Sum.is
+    ∙ sum_at c.args.firsts (standing_in c.args.standing) (terms_tree c.in-Sum.terms) in
+    given_last c.walk_terms.result c.args.firsts _ _ _ arm c.walk_terms.ensures (ap (λ s. of_terms s (terms_tree c.in-Sum.terms)) c.part-in-Sum.ensures)
+
+pub walk_inner-returns-in-Played : goal.walk_inner-returns-in-Played
+walk_inner-returns-in-Played t c =
+    let arm = ap (λ f. walked c.args.firsts (inner (standing_in c.args.standing) (form_tree f))) c.in-Played.is
+    ∙ move_at c.args.firsts (standing_in c.args.standing) (played_tree c.in-Played.played) in
+    given_last c.walk_played.result c.args.firsts _ _ _ arm c.walk_played.ensures (ap (λ s. of_played s (played_tree c.in-Played.played)) c.part-in-Played.ensures)
+
+-- parts are smaller than what they are in
+pub walk-walk_inner-requires : goal.walk-walk_inner-requires
+walk-walk_inner-requires t c = search (rules, the_lemmas)
+
+pub walk_inner-walk-requires : goal.walk_inner-walk-requires
+walk_inner-walk-requires t c = search (rules, the_lemmas)
+
+pub walk_inner-walk-requires-in-Steps : goal.walk_inner-walk-requires-in-Steps
+walk_inner-walk-requires-in-Steps t c = search (rules, the_lemmas)
+
+pub walk_inner-walk-requires-in-Sort : goal.walk_inner-walk-requires-in-Sort
+walk_inner-walk-requires-in-Sort t c = search (rules, the_lemmas)
+
+pub walk_inner-walk-requires-in-Transform : goal.walk_inner-walk-requires-in-Transform
+walk_inner-walk-requires-in-Transform t c = search (rules, the_lemmas)
+
+pub walk_inner-walk_all-requires : goal.walk_inner-walk_all-requires
+walk_inner-walk_all-requires t c = search (rules, the_lemmas)
+
+pub walk_inner-walk_all-requires-in-Any : goal.walk_inner-walk_all-requires-in-Any
+walk_inner-walk_all-requires-in-Any t c = search (rules, the_lemmas)
+
+pub walk_inner-walk_terms-requires : goal.walk_inner-walk_terms-requires
+walk_inner-walk_terms-requires t c = search (rules, the_lemmas)
+
+pub walk_inner-walk-requires-in-Pair : goal.walk_inner-walk-requires-in-Pair
+walk_inner-walk-requires-in-Pair t c = search (rules, the_lemmas)
+
+pub walk_inner-walk-requires-in-Pair-2 : goal.walk_inner-walk-requires-in-Pair-2
+walk_inner-walk-requires-in-Pair-2 t c = search (rules, the_lemmas)
+
+pub walk_inner-walk-requires-in-If : goal.walk_inner-walk-requires-in-If
+walk_inner-walk-requires-in-If t c = search (rules, the_lemmas)
+
+pub walk_inner-walk-requires-in-If-2 : goal.walk_inner-walk-requires-in-If-2
+walk_inner-walk-requires-in-If-2 t c = search (rules, the_lemmas)
+
+pub walk_inner-walk-requires-in-If-3 : goal.walk_inner-walk-requires-in-If-3
+walk_inner-walk-requires-in-If-3 t c = search (rules, the_lemmas)
+
+pub walk_inner-walk-requires-in-Square : goal.walk_inner-walk-requires-in-Square
+walk_inner-walk-requires-in-Square t c = search (rules, the_lemmas)
+
+pub walk_inner-walk-requires-in-Square-2 : goal.walk_inner-walk-requires-in-Square-2
+walk_inner-walk-requires-in-Square-2 t c = search (rules, the_lemmas)
+
+pub walk_inner-walk_parts-requires : goal.walk_inner-walk_parts-requires
+walk_inner-walk_parts-requires t c = search (rules, the_lemmas)
+
+pub walk_inner-walk_played-requires : goal.walk_inner-walk_played-requires
+walk_inner-walk_played-requires t c = search (rules, the_lemmas)
+
+pub walk_all-walk-requires : goal.walk_all-walk-requires
+walk_all-walk-requires t c = search (rules, the_lemmas)
+
+pub walk_terms-walk-requires : goal.walk_terms-walk-requires
+walk_terms-walk-requires t c = search (rules, the_lemmas)
+
+pub walk_parts-walk_body-requires : goal.walk_parts-walk_body-requires
+walk_parts-walk_body-requires t c = search (rules, the_lemmas)
+
+pub walk_body-walk-requires : goal.walk_body-walk-requires
+walk_body-walk-requires t c = search (rules, the_lemmas)
+
+pub walk_body-walk_parts-requires : goal.walk_body-walk_parts-requires
+walk_body-walk_parts-requires t c = search (rules, the_lemmas)
+
+pub walk_written-walk-requires : goal.walk_written-walk-requires
+walk_written-walk-requires t c = search (rules, the_lemmas)
+
+pub walk_played-walk_written-requires : goal.walk_played-walk_written-requires
+walk_played-walk_written-requires t c = search (rules, the_lemmas)
+
+pub walk_played-walk_written-requires-2 : goal.walk_played-walk_written-requires-2
+walk_played-walk_written-requires-2 t c = search (rules, the_lemmas)
+
+pub walk_played-walk_written-requires-3 : goal.walk_played-walk_written-requires-3
+walk_played-walk_written-requires-3 t c = search (rules, the_lemmas)
+
+pub walk_played-walk_written-requires-4 : goal.walk_played-walk_written-requires-4
+walk_played-walk_written-requires-4 t c = search (rules, the_lemmas)
