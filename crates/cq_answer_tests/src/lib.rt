@@ -1,5 +1,5 @@
-//! Tests of the two calls that answer accepted queries over a source: what is left in it, and what is written.
+//! Tests of the two calls that answer accepted queries over a source.
 #![tactic(auto)]
 
 #[cfg(test)]
-mod rest;
+mod calls;
