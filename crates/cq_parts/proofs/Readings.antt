@@ -8,6 +8,7 @@ use Rattle.std.proofs.lemmas.List.FromFn.{length-range_with_len, get_or-range_wi
 use Rattle.cq_position.specs.Games.{Game, numbers, is_searched, searched}
 use Rattle.cq_position.specs.Search.{SearchedTree}
 use Rattle.cql_columns.specs.Columns.{is_live}
+use Rattle.cql_pruning.specs.Classes.{filter_class}
 use Rattle.cql_needs.specs.Needs.{query_passes}
 use Rattle.cql_needs.specs.Rows.{key_in}
 use Rattle.cql_syntax.specs.Flat.{flat_query}
