@@ -1,11 +1,12 @@
 -- What a form gives, from what its parts give.
-use Rattle.std.proofs.Common.{◌≡◌, ℕ, Bool, true, List, ◌∷◌, sym, ap, ap₂, ◌∙◌}
+use Rattle.std.proofs.Common.{◌≡◌, ℕ, Bool, true, List, ◌∷◌, refl, sym, ap, ap₂, ◌∙◌}
 use Rattle.std.specs.Prelude.{is_some}
+use Rattle.cq_common.specs.Spelling.{one}
 use Rattle.cql_syntax.specs.Contexts.{designator_image, field_image, of_image, outcome_image, unary_image, way_image, word_image}
 use Rattle.cql_syntax.specs.Headers.{has_text, is_result, rating}
-use Rattle.cql_syntax.specs.Meaning.{directions_of, form_value, is_bound_to, line_value, played_value, position_at, standing_of, term_values, unary_of, value, values, word_of}
+use Rattle.cql_syntax.specs.Meaning.{body_pattern, directions_of, form_value, is_bound_to, line_value, pattern, played_value, position_at, standing_of, term_values, unary_of, value, values, word_of}
 use Rattle.cql_syntax.specs.TreeOf.{filter_tree, form_tree}
-use Rattle.cql_syntax.specs.Trees.{FilterTree, FilterTrees, FormTree, LineTree, PlayedTree, TermTrees, any, chain, comment, designator, direction, elo, if_, line, name, number, outcome, pair, plain, played, sort, square, sum_of, tagged, unary}
+use Rattle.cql_syntax.specs.Trees.{FilterTree, FilterTrees, FormTree, LineTree, PartTrees, PlayedTree, TermTrees, any, atom, chain, comment, designator, direction, elo, group, if_, line, name, number, outcome, pair, plain, played, sort, square, sum_of, tagged, unary}
 use Rattle.cql_syntax.specs.Values.{Value, amount, any_of, as_number, as_truth, chain_of, count, holds, if_of, pair_of, reached_of, square_of, squares_where, total_of}
 use Rattle.cql_syntax.specs.declared.leaves.Chain.{Chain}
 use Rattle.cql_syntax.specs.declared.leaves.Designator.{Designator}
@@ -108,3 +109,13 @@ module _ (s : Scope) (f : Filter) (n : ℕ) where
   pub any_value : (k : Kind) (fs : FilterTrees) → form_tree f.form ≡ any k fs → any_of k (values (tree_in s) s.context.now s.names.now fs n) ≡ value_in s (filter_tree f) n
   unfolding value
   any_value k fs is = of_form (any k fs) is
+
+-- what the body of a part spells
+module _ (s : Scope) where
+  pub atom_pattern : (a : FilterTree) → one (value_in s a) ≡ body_pattern (tree_in s) s.context.now s.names.now (atom a)
+  unfolding value
+  atom_pattern a = refl
+
+  pub group_pattern : (cs : PartTrees) → pattern (tree_in s) s.context.now s.names.now cs ≡ body_pattern (tree_in s) s.context.now s.names.now (group cs)
+  unfolding value
+  group_pattern cs = refl

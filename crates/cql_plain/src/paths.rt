@@ -17,7 +17,7 @@ use pgn_tree::Game;
 use std::alloc::Global;
 
 /// How the paths from a node reach another.
-#[derive(Clone, Copy, Debug)]
+#[derive(Clone, Copy)]
 pub(crate) struct Reached {
     /// The place before the node: 0 before the first node of a path, else one more than the number of the node before it.
     pub(crate) before: u32,

@@ -136,7 +136,6 @@ fn repeat(
 
 // The places at which a part ends that stands once.
 #[cycle(evaluate)]
-#[tactic(auto, unfolding(cql_syntax::specs::Meaning::value))]
 fn body_ends(
     alloc: Global,
     body: &Body,

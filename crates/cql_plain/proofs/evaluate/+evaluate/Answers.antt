@@ -4,7 +4,7 @@ use Rattle.cq_symmetry.specs.Families.{members}
 use Rattle.cql_syntax.specs.Contexts as contexts
 use Rattle.cql_syntax.specs.Headers as headers
 use Rattle.cql_syntax.specs.TreeOf.{filter_tree, filter_trees, filters_tree, form_tree, body_tree, line_tree, part_trees, parts_tree, played_tree, term_trees, terms_tree}
-use Rattle.cql_syntax.specs.Trees.{filter_at, transform, unary, direction, pair, if_, square, sort}
+use Rattle.cql_syntax.specs.Trees.{atom, filter_at, transform, unary, direction, pair, if_, square, sort}
 use Rattle.cq_symmetry.specs.Images.{is_in}
 use Rattle.cql_syntax.specs.Meaning as meaning
 use Rattle.cql_syntax.specs.Values as spec
@@ -12,10 +12,11 @@ use Rattle.cql_values.specs.Asked.{settles, of_value}
 use Rattle.cql_values.specs.Shown.{meant, terms_meant}
 use Rattle.cql_syntax.specs.Kinds.{filter_kind}
 use Rattle.cql_syntax.specs.declared.tree.Body.TheFolds.{the_lemmas}
+use Rattle.cql_plain.specs.Lines.{EndsOf}
 use Rattle.cql_plain.specs.Scopes.{tree_in, value_in, looked_at}
 use Rattle.cql_plain.proofs.Evaluated.{any_found, any_passed, members_more, settled, never_settled, none_more, family_is}
 use Rattle.cql_values.proofs.Evaluated.{values_more, terms_more}
-use Rattle.cql_plain.proofs.Forms.{designator_value, number_value, name_value, word_value, tagged_value, outcome_value, elo_value, comment_value, unary_value, steps_value, chain_value, sum_value, pair_value, if_value, square_value, line_form_value, move_value, sort_value, any_value}
+use Rattle.cql_plain.proofs.Forms.{designator_value, number_value, name_value, word_value, tagged_value, outcome_value, elo_value, comment_value, unary_value, steps_value, chain_value, sum_value, pair_value, if_value, square_value, line_form_value, move_value, sort_value, any_value, atom_pattern, group_pattern}
 use Rattle.cql_plain.proofs.Looked.{looked_inside, word_alone}
 use Rattle.std.specs.List.{list_any}
 use Rattle.std.proofs.lemmas.Bool.{leb-true, le-leb}
@@ -413,3 +414,26 @@ some_node-loop-k-preserved t c =
     let low : c.loop-k.k < length c.args.nodes.now = omega arith in
     any_passed (λ m. spec.holds (value_in c.args.scope.now (filter_tree c.args.part.now) m)) c.args.nodes.now c.loop-k.k _ low
     (sym (ap spec.holds c.in_ok-value.ensures) ∙ sym c.holds.ensures ∙ c.if-holds.false) c.loop-k.invariant
+
+pub lines::body_ends-returns-in-Atom : goal.lines::body_ends-returns-in-Atom
+lines::body_ends-returns-in-Atom t c =
+    let s = c.args.scope.now in
+    let spells = meaning.body_pattern (tree_in s) s.context.now s.names.now in
+    let is = atom_pattern s (filter_tree c.deref.result.now) ∙ ap (λ p. spells (atom (filter_tree p))) c.deref.ensures ∙ sym (ap (λ b. spells (body_tree b)) c.in-Atom.is) in
+    IfOk-weaker c.atom_ends.result _ _ (λ ends known. subst (λ p. EndsOf c.args.steps.now p c.args.starts.now ends.items) is known) c.atom_ends.ensures
+
+pub lines::body_ends-returns-in-Group : goal.lines::body_ends-returns-in-Group
+lines::body_ends-returns-in-Group t c =
+    let s = c.args.scope.now in
+    let spells = meaning.body_pattern (tree_in s) s.context.now s.names.now in
+    let is = group_pattern s (parts_tree c.in-Group.parts) ∙ sym (ap (λ b. spells (body_tree b)) c.in-Group.is) in
+    IfOk-weaker c.parts_ends.result _ _ (λ ends known. subst (λ p. EndsOf c.args.steps.now p c.args.starts.now ends.items) is known) c.parts_ends.ensures
+
+pub lines::passes-evaluate-requires : goal.lines::passes-evaluate-requires
+lines::passes-evaluate-requires t c = (search rules, (c.requires.tree, c.requires.node))
+
+pub lines::body_ends-atom_ends-requires : goal.lines::body_ends-atom_ends-requires
+lines::body_ends-atom_ends-requires t c = (search (rules, the_lemmas), (c.requires.tree, (c.requires.nodes, (c.requires.steps, c.requires.starts))))
+
+pub lines::body_ends-parts_ends-requires : goal.lines::body_ends-parts_ends-requires
+lines::body_ends-parts_ends-requires t c = (search (rules, the_lemmas), (c.requires.tree, (c.requires.nodes, (c.requires.steps, c.requires.starts))))
