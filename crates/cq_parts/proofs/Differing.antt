@@ -8,7 +8,7 @@ use Rattle.std.proofs.lemmas.List.Folds.{list_any-append}
 use Rattle.cql_syntax.specs.Leaves.{same_flag}
 use Rattle.cql_syntax.specs.Same.{same_filter}
 use Rattle.cql_syntax.specs.Unplaced.{unplaced, same_unplaced}
-use Rattle.cql_laws.proofs.SameSound.{same_law}
+use Rattle.cql_syntax.proofs.SameSound.{same_law}
 use Rattle.cq_parts.specs.Known.{with_part, with_parts}
 use Rattle.cq_parts.specs.Parts.{PartTree, same_part, other_than, different}
 use Rattle.cq_parts.proofs.Meeting.{flag_is}

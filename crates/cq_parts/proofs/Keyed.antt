@@ -15,8 +15,8 @@ use Rattle.cql_syntax.specs.Same.{same_filter}
 use Rattle.cql_syntax.specs.Unplaced.{unplaced, with_places, same_unplaced}
 use Rattle.std.specs.Str.{bytes_eq}
 use Rattle.cql_syntax.specs.Values.{Value, as_number, amount, of_both, holds, chosen_from}
-use Rattle.cql_laws.proofs.SameSound.{same_law}
-use Rattle.cql_laws.proofs.UnplacedSame.{same_value}
+use Rattle.cql_syntax.proofs.SameSound.{same_law}
+use Rattle.cql_syntax.proofs.UnplacedSame.{same_value}
 use Rattle.cq_parts.specs.Matching.{sort_number}
 use Rattle.cq_parts.specs.Parts.{item_sorts, top_sorts}
 use Rattle.cq_parts.specs.Reading.{is_least}

@@ -18,7 +18,7 @@ use Rattle.cq_parts.specs.Places.{is_among}
 use Rattle.cq_parts.specs.Plans.{trees_of, plan_parts}
 use Rattle.cq_parts.specs.declared.part.Part.{Part}
 use Rattle.cq_parts.specs.declared.part.Asker.{Asker}
-use Rattle.cql_laws.proofs.SameSound.{same_law}
+use Rattle.cql_syntax.proofs.SameSound.{same_law}
 use Rattle.cq_parts.proofs.Differing.{all_different}
 use Rattle.cq_parts.proofs.Gaining.{shown_length}
 use Rattle.cq_parts.proofs.Seeking.{all_kept}

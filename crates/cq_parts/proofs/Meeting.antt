@@ -11,7 +11,7 @@ use Rattle.cql_syntax.specs.Values.{holds}
 use Rattle.cql_syntax.specs.Meaning.{value}
 use Rattle.cql_syntax.specs.Leaves.{same_flag}
 use Rattle.cql_syntax.specs.Unplaced.{same_unplaced}
-use Rattle.cql_laws.proofs.UnplacedSame.{same_value}
+use Rattle.cql_syntax.proofs.UnplacedSame.{same_value}
 use Rattle.cql_values.specs.Trees.{searched_tree}
 use Rattle.cq_parts.specs.Askers.{asked_query, IsAsker}
 use Rattle.cq_parts.specs.Known.{all_shown, is_asked}

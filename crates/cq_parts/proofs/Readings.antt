@@ -18,7 +18,7 @@ use Rattle.cql_syntax.specs.Trees.{FilterTree, FilterTrees, QueryTree}
 use Rattle.cql_syntax.specs.Unplaced.{same_unplaced}
 use Rattle.cql_syntax.specs.Meaning.{value}
 use Rattle.cql_syntax.specs.Values.{holds}
-use Rattle.cql_laws.proofs.FlatHits.{hits_same, keys_same}
+use Rattle.cql_syntax.proofs.FlatHits.{hits_same, keys_same}
 use Rattle.cql_values.specs.Trees.{searched_tree}
 use Rattle.cq_parts.specs.Askers.{asked_query, AreAskers}
 use Rattle.cq_parts.specs.Beginning.{begins}

@@ -7,7 +7,7 @@ use Rattle.cql_syntax.specs.Words.{word_text, unary_text, way_text, family_text}
 use Rattle.cql_syntax.specs.declared.words.Word.TheVariants as meanings
 use Rattle.std.specs.Fmt.{decimal}
 use Rattle.std.specs.Prelude.{unwrap_or, codes, ◌++◌}
-use Rattle.cql_laws.proofs.SameSound.{filter_is}
+use Rattle.cql_syntax.proofs.SameSound.{filter_is}
 use Rattle.cq_parts.specs.Parts.{alone}
 
 module _ (p : Bool) where

@@ -5,7 +5,7 @@ use Rattle.std.specs.List.{list_any}
 use Rattle.std.proofs.lemmas.Bool.{or_from, or_left, or_right, and_from, and_parts, cases_lt, both_ways}
 use Rattle.cql_syntax.specs.Leaves.{same_flag}
 use Rattle.cql_syntax.specs.Unplaced.{unplaced, same_unplaced}
-use Rattle.cql_laws.proofs.SameSound.{same_law}
+use Rattle.cql_syntax.proofs.SameSound.{same_law}
 use Rattle.cq_parts.specs.Known.{with_part}
 use Rattle.cq_parts.specs.Parts.{PartTree, same_part, is_at, are_at, Keeps}
 

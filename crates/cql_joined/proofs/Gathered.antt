@@ -18,7 +18,7 @@ use Rattle.cql_syntax.specs.declared.leaves.Kind.{Kind}
 use Rattle.cql_syntax.specs.declared.leaves.Kind.TheVariants.{Position, Set, Number}
 use Rattle.cql_syntax.specs.declared.tree.Filter.{Filter}
 use Rattle.cql_syntax.proofs.Lists.{filter_trees_more}
-use Rattle.cql_laws.proofs.UnplacedSame.{same_value}
+use Rattle.cql_syntax.proofs.UnplacedSame.{same_value}
 use Rattle.cql_columns.specs.Costs.{filter_cost, filters_cost}
 use Rattle.cql_joined.specs.Joined.{is_sound, StandsFor, alone, has_like, tells, some_tells, is_member, are_members, Gathers}
 use Rattle.cql_joined.proofs.Sound.{own_kind, members_from}

@@ -15,7 +15,7 @@ use Rattle.cql_syntax.specs.declared.leaves.Chain.TheVariants.{All}
 use Rattle.cql_syntax.specs.declared.leaves.Kind.TheVariants.{Position}
 use Rattle.cql_syntax.specs.declared.tree.Filter.{Filter}
 use Rattle.cql_syntax.proofs.Lists.{filter_trees_more}
-use Rattle.cql_laws.proofs.UnplacedSame.{same_value}
+use Rattle.cql_syntax.proofs.UnplacedSame.{same_value}
 use Rattle.cql_columns.specs.Costs.{filter_cost, filters_cost}
 use Rattle.cql_joined.specs.Joined.{is_sound, StandsFor, alone, has_like, is_member}
 use Rattle.cql_joined.specs.Lifted.{each_holds, one_holds, may_stand, AreCommon, AreDivided, AreLeft, IsRest, AreRests}

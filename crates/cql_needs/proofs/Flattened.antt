@@ -11,8 +11,8 @@ use Rattle.cql_syntax.specs.Hits.{hits, hits_in, keys, all_keys, tree_of}
 use Rattle.cql_syntax.specs.Same.{same_filter, same_filters}
 use Rattle.cql_syntax.specs.Trees.{FilterTree, filter_at, chain, FilterTrees, no_filters, QueryTree}
 use Rattle.cql_syntax.specs.declared.leaves.Chain.TheVariants.{And}
-use Rattle.cql_laws.proofs.FlatHits.{hits_same, keys_same}
-use Rattle.cql_laws.proofs.SameSound.{same_law}
+use Rattle.cql_syntax.proofs.FlatHits.{hits_same, keys_same}
+use Rattle.cql_syntax.proofs.SameSound.{same_law}
 use Rattle.cql_needs.specs.Needs.{all_pass, query_passes}
 use Rattle.cql_joined.specs.Joined.{HaveSameHits}
 use Rattle.cql_needs.specs.Plans.{IsAskedFor}

@@ -36,7 +36,6 @@ use Rattle.cql_syntax.specs.declared.extents.Extent.{Extent}
 use Rattle.cql_syntax.specs.declared.extents.Extent.TheVariants.{Any, Within}
 use Rattle.cql_syntax.specs.declared.tree.Constituent.{Constituent}
 use Rattle.cql_syntax.specs.declared.tree.Line.{Line as OneLine, Line', out-Line}
-use Rattle.cql_laws.proofs.TabledLines.{spelled_lines_are_theirs}
 use Rattle.cql_columns.specs.Columns.{is_live, shown, IsPart}
 use Rattle.cql_columns.specs.Costs.{filter_cost, line_cost, parts_atoms, parts_cost, body_cost, searched_len}
 use Rattle.cql_columns.specs.FlatTrees.{unflat, IsFlatLine, AreFlatParts}
@@ -44,6 +43,7 @@ use Rattle.cql_columns.specs.declared.filter_column.FilterColumn.{FilterColumn}
 use Rattle.cql_operators.specs.LineAtoms.{parts_numbered, limits_in, spot_at, AreClearFrom}
 use Rattle.cql_operators.specs.SpelledParts.{AreAlike, IsNever, AreTabled}
 use Rattle.cql_operators.proofs.SpelledAlike.{along_wider, alike_on}
+use Rattle.cql_syntax.proofs.TabledLines.{spelled_lines_are_theirs}
 use Rattle.cql_operators.proofs.LineAtoms.{drop_parts, few_atoms}
 
 -- the tree of a game

@@ -1,5 +1,5 @@
-//! What is made of columns node by node, without asking a filter's parts anew: how columns are combined, sets of nodes that follow the tree,
-//! words that ask elsewhere, patterns of lines, squares that are tried one by one.
+//! What is made of columns node by node, without asking a filter's parts anew: how columns are combined and narrow sets of nodes, sets that
+//! follow the tree, words, words that ask elsewhere, patterns of lines, squares that are tried one by one.
 //!
 //! `cql_columns/specs/Columns` has what a column promises. `cql_eval` stands on this.
 #![tactic(auto)]

@@ -4,8 +4,8 @@ use Rattle.cql_syntax.specs.Flat.{flat_all}
 use Rattle.cql_syntax.specs.Hits as found
 use Rattle.cql_syntax.specs.Meaning.{values}
 use Rattle.cql_syntax.specs.Trees.{FilterTrees, QueryTree}
-use Rattle.cql_laws.proofs.FlatHits.{hits_same, keys_same}
-use Rattle.cql_laws.proofs.FlatSame.{all_is_same}
+use Rattle.cql_syntax.proofs.FlatHits.{hits_same, keys_same}
+use Rattle.cql_syntax.proofs.FlatSame.{all_is_same}
 use Rattle.cql_rewrite.specs.Meant.{MeansTheSame, with_items}
 
 pub flat_means_the_same : (q : QueryTree) (items : FilterTrees) → items ≡ flat_all [] q.items → MeansTheSame q items

@@ -4,8 +4,11 @@
 mod copies;
 pub mod extents;
 pub mod fault;
+pub mod fault_laws;
 pub mod flat;
+pub mod flat_laws;
 mod kinds;
+pub mod laws;
 pub mod leaves;
 mod shared;
 pub mod token;

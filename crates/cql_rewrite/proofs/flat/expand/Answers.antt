@@ -1,7 +1,7 @@
 use Rattle.std.proofs.Common.{◌≡◌, ◌∙◌, ap}
 use Rattle.cql_syntax.specs.FlatItems.{has_family, kinds_agree, break_no_rule}
 use Rattle.cql_syntax.specs.TreeOf.{query_tree}
-use Rattle.cql_laws.proofs.FlatFacts.{flat_families, flat_kinds, flat_rules}
+use Rattle.cql_syntax.proofs.FlatFacts.{flat_families, flat_kinds, flat_rules}
 use Rattle.cql_rewrite.proofs.flat.expand.Goals as goal
 
 pub invariant_of-result : goal.invariant_of-result

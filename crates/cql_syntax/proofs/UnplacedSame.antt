@@ -14,7 +14,7 @@ use Rattle.cql_syntax.specs.Meaning.{Names, position_at, directions_of, unary_of
 use Rattle.cql_syntax.specs.Trees.{FilterTree, filter_at, FormTree, designator, number, name, plain, tagged, outcome, elo, unary, direction, chain, sum_of, pair, if_, square, line, played, transform, sort, comment, any, FilterTrees, no_filters, more_filters, TermTrees, no_terms, more_terms, path, PlayedTree, move_of, WrittenTree, left_out, written, PartTrees, no_parts, more_parts, BodyTree, atom, group}
 use Rattle.cql_syntax.specs.Unplaced.{with_places, form_with, all_with, terms_with, played_with, written_with, parts_with, body_with, unplaced, same_unplaced}
 use Rattle.cql_syntax.specs.Values.{Value, as_truth, holds, amount, reached_of, total_of, if_of, square_of, chain_of, pair_of, any_of}
-use Rattle.cql_laws.proofs.SameSound.{filter_is}
+use Rattle.cql_syntax.proofs.SameSound.{filter_is}
 
 module _ (p : Bool) where
   mutual

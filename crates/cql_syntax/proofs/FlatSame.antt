@@ -23,7 +23,7 @@ use Rattle.cql_syntax.specs.declared.leaves.Designator.{Designator}
 use Rattle.cql_syntax.specs.declared.leaves.Field.{Field}
 use Rattle.cql_syntax.specs.declared.leaves.Kind.{Kind}
 use Rattle.cql_syntax.specs.declared.leaves.Kind.TheVariants.{Position, Set, Number}
-use Rattle.cql_laws.proofs.SameSound.{filter_is}
+use Rattle.cql_syntax.proofs.SameSound.{filter_is}
 
 max_same : (a : ℤ) → int_max a a ≡ a
 max_same a = omega (arith, ints, int_max_is a a)

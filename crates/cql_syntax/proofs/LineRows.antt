@@ -9,7 +9,7 @@ use Rattle.cq_position.specs.Legal as legal
 use Rattle.cq_position.specs.Search as search
 use Rattle.cql_syntax.specs.Contexts.{designator_image}
 use Rattle.cql_syntax.specs.Meaning.{value}
-use Rattle.cql_laws.specs.LineRows.{LineRows, MoveRows}
+use Rattle.cql_syntax.specs.LineRows.{LineRows, MoveRows}
 
 pub line_rows : LineRows
 unfolding value designator_image board.squares games.way_up games.first_child games.children games.searched search.paths attack.attacks attack.is_attacked attack.in_check lines.between_squares legal.after legal.after_pass led.led

@@ -6,7 +6,7 @@ use Rattle.cql_syntax.specs.Contexts.{designator_image}
 use Rattle.cql_syntax.specs.Meaning.{fits}
 use Rattle.cql_syntax.specs.Flat.{flat}
 use Rattle.cql_syntax.specs.Same.{same_filter}
-use Rattle.cql_laws.specs.FlatRows.{FlatRows}
+use Rattle.cql_syntax.specs.FlatRows.{FlatRows}
 
 pub flat_rows : FlatRows
 unfolding flat same_filter fits designator_image image mask_of image_compass changes_light board.squares

@@ -8,10 +8,10 @@ use Rattle.cq_common.proofs.WithinLaw.{left, right}
 use Rattle.cq_position.specs.Games.{IsTree}
 use Rattle.cq_position.specs.Search.{SearchedTree, paths}
 use Rattle.cq_position.proofs.Paths.{paths_law}
+use Rattle.cql_syntax.specs.LongestPaths.{IsSpelledLength, LinesAreLongestPaths}
 use Rattle.cql_syntax.specs.Meaning.{allows, line_value, pattern}
 use Rattle.cql_syntax.specs.Values.{Value, holds}
 use Rattle.cql_syntax.specs.declared.extents.Extent.{Extent}
-use Rattle.cql_laws.specs.LongestPaths.{IsSpelledLength, LinesAreLongestPaths}
 
 -- numbers of one kind have one greatest
 same_greatest : (P Q : ℕ → Type 0) (o : Option ℕ) → ((k : ℕ) → P k → Q k) → ((k : ℕ) → Q k → P k) → IsGreatest P o → IsGreatest Q o

@@ -5,13 +5,13 @@ use Rattle.cq_symmetry.specs.Families.{members}
 use Rattle.cq_symmetry.specs.Images.{image, mask_of, image_compass, changes_light}
 use Rattle.cq_symmetry.specs.declared.families.Family.{Family}
 use Rattle.cq_symmetry.specs.declared.families.Family.TheVariants.{Flip, Rotate90, FlipVertical, FlipHorizontal, FlipColor, Shift, ShiftHorizontal, ShiftVertical}
+use Rattle.cql_syntax.proofs.Images.{image_from, image_in, kept_are, family_finds, families_find}
 use Rattle.cql_syntax.specs.Contexts.{designator_image}
 use Rattle.cql_syntax.specs.Meaning.{value, fits, fitting}
+use Rattle.cql_syntax.specs.FamilyRows.{FamilyRows, DropRows, ImageRows, kings}
 use Rattle.cql_syntax.specs.Samples.{at, bits_of, found, on}
 use Rattle.cql_syntax.specs.Trees.{transform}
 use Rattle.cql_syntax.specs.declared.leaves.Designator.{Designator}
-use Rattle.cql_laws.proofs.Images.{image_from, image_in, kept_are, family_finds, families_find}
-use Rattle.cql_laws.specs.FamilyRows.{FamilyRows, DropRows, ImageRows, kings}
 
 -- a man by its number on a square
 abbrev man_on : ℕ → ℕ → Designator

@@ -7,7 +7,7 @@ use Rattle.cql_syntax.specs.Leaves.{plain_number, of_number, outcome_number, una
 use Rattle.cql_syntax.specs.Same.{same_filter, same_form, same_filters, same_terms, same_line, same_played, same_written, same_parts, same_body}
 use Rattle.cql_syntax.specs.Trees.{FilterTree, filter_at, FormTree, designator, number, name, plain, tagged, outcome, elo, unary, direction, chain, sum_of, pair, if_, square, line, played, transform, sort, comment, any, FilterTrees, no_filters, more_filters, TermTrees, no_terms, more_terms, LineTree, path, PlayedTree, move_of, WrittenTree, left_out, written, PartTrees, no_parts, more_parts, BodyTree, atom, group}
 use Rattle.cq_common.proofs.SpellingLaw.{left, right, both_true as both}
-use Rattle.cql_laws.proofs.SameLeaves.{flags, same_flags, same_numbers, plains, ofs, outcomes, unarys, ways, chains, pairs, familys, kinds, designators, fields, marks, extents, same_designators, same_fields, same_marks, same_extents}
+use Rattle.cql_syntax.proofs.SameLeaves.{flags, same_flags, same_numbers, plains, ofs, outcomes, unarys, ways, chains, pairs, familys, kinds, designators, fields, marks, extents, same_designators, same_fields, same_marks, same_extents}
 
 texts : (a b : List ℕ) → bytes_eq a b ≡ true → a ≡ b
 texts a b e = (bytes_eq-Decides a b).0 e

@@ -7,6 +7,7 @@ use Rattle.cq_symmetry.specs.Families.{turned, shifted, exchanged}
 use Rattle.cq_symmetry.specs.Images.{image}
 use Rattle.cq_symmetry.specs.declared.families.Family.TheVariants.{FlipColor, ShiftVertical}
 use Rattle.cql_syntax.specs.Contexts.{men_exchanged}
+use Rattle.cql_syntax.specs.FamilyRows.{kings}
 use Rattle.cql_syntax.specs.Meaning.{fits, value}
 use Rattle.cql_syntax.specs.Samples.{all_of, alone, root, at, on, any_on, num, filters, parts, found, truth, worked}
 use Rattle.cql_syntax.specs.Trees.{FilterTree, FormTree, designator, name, plain, tagged, elo, unary, chain, sum_of, pair, if_, square, line, played, transform, any, more_terms, no_terms, path, more_parts, no_parts, group, move_of, written, left_out}
@@ -21,7 +22,6 @@ use Rattle.cql_syntax.specs.declared.leaves.Of.TheVariants.{Either, White}
 use Rattle.cql_syntax.specs.declared.leaves.Pair.TheVariants.{Attacks}
 use Rattle.cql_syntax.specs.declared.leaves.Plain.TheVariants.{Wtm, Btm, Year}
 use Rattle.cql_syntax.specs.declared.leaves.Unary.TheVariants.{Not, Count}
-use Rattle.cql_laws.specs.FamilyRows.{kings}
 
 -- whether a filter fits a shift by one file to the left, which takes the king on a1 off the board, and the one on b1 to a1
 abbrev fits_left : FormTree → Bool

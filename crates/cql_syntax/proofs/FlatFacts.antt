@@ -11,7 +11,7 @@ use Rattle.cql_syntax.specs.Trees.{QueryTree}
 use Rattle.cql_syntax.specs.Weights.{query_weight}
 use Rattle.cql_syntax.specs.declared.fault.QueryFault.{QueryFault}
 use Rattle.cql_syntax.specs.declared.fault.QueryReason.TheVariants.{TextHoldsBrace, LineTooLong, TooManySquares, TooManyMembers}
-use Rattle.cql_laws.proofs.FlatKept.{sound, good, items_good}
+use Rattle.cql_syntax.proofs.FlatKept.{sound, good, items_good}
 use Rattle.cq_common.proofs.SpellingLaw.{left, right, both_true as both}
 
 -- lists without items

@@ -24,8 +24,8 @@ use Rattle.cql_syntax.specs.declared.leaves.Kind.TheVariants.{Position, Set, Num
 use Rattle.cql_syntax.specs.declared.leaves.Unary.{Unary}
 use Rattle.cql_syntax.specs.declared.leaves.Unary.TheVariants.{Not, Complement, Count, Power, Light, Dark, Find, FindUp, Child, Parent}
 use Rattle.cq_common.proofs.SpellingLaw.{left, right, both_true as both}
-use Rattle.cql_laws.proofs.SameLeaves.{same_numbers}
-use Rattle.cql_laws.proofs.ValueKinds.{kept, word_kept, light_kept}
+use Rattle.cql_syntax.proofs.SameLeaves.{same_numbers}
+use Rattle.cql_syntax.proofs.ValueKinds.{kept, word_kept, light_kept}
 
 -- what is known of a query's filters, and what is shown of those of its flat form
 

@@ -5,8 +5,8 @@ use Rattle.cq_position.specs.Comments as comments
 use Rattle.cq_position.specs.Games as games
 use Rattle.cq_position.specs.Legal as legal
 use Rattle.cql_syntax.specs.Hits as found
+use Rattle.cql_syntax.specs.HitRows.{HitRows}
 use Rattle.cql_syntax.specs.Meaning.{value}
-use Rattle.cql_laws.specs.HitRows.{HitRows}
 
 pub hit_rows : HitRows
 unfolding value board.squares games.way_up games.first_child games.children games.searched legal.after comments.words found.hits found.marks found.marked found.keys

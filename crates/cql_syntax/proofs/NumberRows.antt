@@ -5,7 +5,7 @@ use Rattle.cq_position.specs.Games as games
 use Rattle.cq_position.specs.Legal as legal
 use Rattle.cql_syntax.specs.Contexts.{designator_image}
 use Rattle.cql_syntax.specs.Meaning.{value}
-use Rattle.cql_laws.specs.NumberRows.{NumberRows, ComparisonRows}
+use Rattle.cql_syntax.specs.NumberRows.{NumberRows, ComparisonRows}
 
 pub number_rows : NumberRows
 unfolding value designator_image board.squares games.way_up games.first_child games.children legal.after

@@ -1,5 +1,5 @@
 //! The faults of a query's tree at worked rows.
-ghost use Rattle.cql_laws.specs.FaultRows.{RuleRows, LimitRows};
+ghost use Rattle.cql_syntax.specs.FaultRows.{RuleRows, LimitRows};
 
 /// The faults of small queries.
 #[tactic(auto, using(crate::proofs::FaultRows::rule_rows, crate::proofs::FaultRows::limit_rows))]

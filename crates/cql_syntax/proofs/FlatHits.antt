@@ -8,7 +8,7 @@ use Rattle.cql_syntax.specs.Flat.{flat, flat_form, flat_all, flat_query}
 use Rattle.cql_syntax.specs.Hits.{tree_of, hits, form_texts, item_texts, comment_texts, marks, key_of, form_keys, item_keys, all_keys, keys}
 use Rattle.cql_syntax.specs.Trees.{FilterTree, filter_at, FormTree, designator, number, name, plain, tagged, outcome, elo, unary, direction, chain, sum_of, pair, if_, square, line, played, transform, sort, comment, any, FilterTrees, no_filters, more_filters, QueryTree}
 use Rattle.cql_syntax.specs.Values.{holds}
-use Rattle.cql_laws.proofs.FlatSame.{flat_is_same, all_is_same}
+use Rattle.cql_syntax.proofs.FlatSame.{flat_is_same, all_is_same}
 
 pub hits_same : (q : QueryTree) (game : Game) → hits (flat_query q) game ≡ hits q game
 unfolding hits

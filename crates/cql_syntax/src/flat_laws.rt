@@ -4,13 +4,13 @@ ghost use Rattle.cq_position.specs.Search.{SearchedTree};
 ghost use Rattle.cql_syntax.specs.Contexts.{Context};
 ghost use Rattle.cql_syntax.specs.Flat.{flat, flat_all, flat_query};
 ghost use Rattle.cql_syntax.specs.FlatItems.{has_family, kinds_agree, break_no_rule};
+ghost use Rattle.cql_syntax.specs.FlatRows.{FlatRows};
 ghost use Rattle.cql_syntax.specs.Hits.{hits, keys, marks};
 ghost use Rattle.cql_syntax.specs.Meaning.{Names, value, values};
 ghost use Rattle.cql_syntax.specs.Same.{same_filter};
 ghost use Rattle.cql_syntax.specs.Unplaced.{unplaced, same_unplaced};
 ghost use Rattle.cql_syntax.specs.TreeFaults.{tree_fault, has_any};
 ghost use Rattle.cql_syntax.specs.Trees.{FilterTree, FilterTrees, QueryTree};
-ghost use Rattle.cql_laws.specs.FlatRows.{FlatRows};
 ghost use Rattle.std.specs.Prelude.{◌≡◌, ◌↔◌, ℕ, [], None, true, false};
 
 /// The flat forms of small filters.

@@ -2,20 +2,20 @@
 ghost use Rattle.cq_common.specs.Spelling.{TestIsSpelling};
 ghost use Rattle.cq_position.specs.Search.{SearchedTree};
 ghost use Rattle.cql_syntax.specs.Contexts.{Context};
+ghost use Rattle.cql_syntax.specs.EdgeRows.{FitRows, ExchangeRows, EdgeRows};
+ghost use Rattle.cql_syntax.specs.FamilyRows.{FamilyRows, DropRows, ImageRows};
+ghost use Rattle.cql_syntax.specs.HitRows.{HitRows};
 ghost use Rattle.cql_syntax.specs.Kinds.{filter_kind};
+ghost use Rattle.cql_syntax.specs.LineRows.{LineRows, MoveRows};
+ghost use Rattle.cql_syntax.specs.LongestPaths.{LinesAreLongestPaths};
 ghost use Rattle.cql_syntax.specs.Meaning.{Names, value};
+ghost use Rattle.cql_syntax.specs.NumberRows.{NumberRows, ComparisonRows};
+ghost use Rattle.cql_syntax.specs.PositionRows.{WordRows, HeaderRows, LogicRows, TreeRows};
+ghost use Rattle.cql_syntax.specs.SetRows.{SetRows, DirectionRows};
 ghost use Rattle.cql_syntax.specs.TabledLines.{LinesAreTheirs, SpelledLinesAreTheirs};
 ghost use Rattle.cql_syntax.specs.TreeLists.{AreInverse, AreTreesOfEach, EndsAlike, filters_from, filters_of, parts_from, parts_of, terms_from, terms_of};
 ghost use Rattle.cql_syntax.specs.Trees.{FilterTree};
 ghost use Rattle.cql_syntax.specs.Values.{Value, is_of_kind};
-ghost use Rattle.cql_laws.specs.EdgeRows.{FitRows, ExchangeRows, EdgeRows};
-ghost use Rattle.cql_laws.specs.FamilyRows.{FamilyRows, DropRows, ImageRows};
-ghost use Rattle.cql_laws.specs.HitRows.{HitRows};
-ghost use Rattle.cql_laws.specs.LineRows.{LineRows, MoveRows};
-ghost use Rattle.cql_laws.specs.LongestPaths.{LinesAreLongestPaths};
-ghost use Rattle.cql_laws.specs.NumberRows.{NumberRows, ComparisonRows};
-ghost use Rattle.cql_laws.specs.PositionRows.{WordRows, HeaderRows, LogicRows, TreeRows};
-ghost use Rattle.cql_laws.specs.SetRows.{SetRows, DirectionRows};
 ghost use Rattle.std.specs.Prelude.{◌≡◌, ℕ, true};
 
 /// What the filters that are sets give in the initial array.

@@ -1,8 +1,8 @@
 -- The rows, by computation.
 use Rattle.std.proofs.Common.{refl}
+use Rattle.cql_syntax.specs.FaultRows.{RuleRows, LimitRows}
 use Rattle.cql_syntax.specs.Occurrences as walk
 use Rattle.cql_syntax.specs.TreeFaults as faults
-use Rattle.cql_laws.specs.FaultRows.{RuleRows, LimitRows}
 
 pub rule_rows : RuleRows
 unfolding walk.occurrences walk.inner walk.of_items faults.tree_faults faults.tree_fault

@@ -5,8 +5,8 @@ use Rattle.cq_geometry.specs.Lines as lines
 use Rattle.cq_position.specs.Attacks as attack
 use Rattle.cq_symmetry.specs.Images.{image, mask_of, changes_light}
 use Rattle.cql_syntax.specs.Contexts.{designator_image}
+use Rattle.cql_syntax.specs.EdgeRows.{FitRows, ExchangeRows, EdgeRows}
 use Rattle.cql_syntax.specs.Meaning.{value, fits}
-use Rattle.cql_laws.specs.EdgeRows.{FitRows, ExchangeRows, EdgeRows}
 
 pub fit_rows : FitRows
 unfolding value fits designator_image image mask_of board.squares

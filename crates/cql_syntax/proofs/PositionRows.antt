@@ -8,7 +8,7 @@ use Rattle.cq_position.specs.Legal as legal
 use Rattle.cq_position.specs.Legality as legality
 use Rattle.cql_syntax.specs.Contexts.{designator_image}
 use Rattle.cql_syntax.specs.Meaning.{value}
-use Rattle.cql_laws.specs.PositionRows.{WordRows, HeaderRows, LogicRows, TreeRows}
+use Rattle.cql_syntax.specs.PositionRows.{WordRows, HeaderRows, LogicRows, TreeRows}
 
 pub word_rows : WordRows
 unfolding value designator_image board.squares games.way_up games.first_child games.children games.searched attack.attacks attack.is_attacked attack.in_check lines.between_squares legality.legal_test legality.has_legal_move legal.is_pseudo_legal legal.reaches legal.after

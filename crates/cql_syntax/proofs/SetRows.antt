@@ -5,7 +5,7 @@ use Rattle.cq_geometry.specs.Lines as lines
 use Rattle.cq_position.specs.Attacks as attack
 use Rattle.cql_syntax.specs.Contexts.{designator_image}
 use Rattle.cql_syntax.specs.Meaning.{value}
-use Rattle.cql_laws.specs.SetRows.{SetRows, DirectionRows}
+use Rattle.cql_syntax.specs.SetRows.{SetRows, DirectionRows}
 
 pub set_rows : SetRows
 unfolding value designator_image board.squares attack.attacks lines.between_squares
