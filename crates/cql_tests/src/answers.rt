@@ -1,10 +1,11 @@
 //! `answer` and `answer_many`, called by themselves over a game that matches.
-ghost use Rattle.std.specs.Prelude.{◌≡◌, ◌≤◌, length, false, IfOk};
+ghost use Rattle.std.specs.Prelude.{◌≡◌, ◌≤◌, length, IfOk};
 
+use crate::plans::read_query;
 use cq_answers::{answer, answer_many};
 use cq_common::{NoMemory, Refusal};
 use cq_outside::{MemSource, OpenGate, SureSink};
-use cq_queries::{Status, read_query};
+use cq_queries::Status;
 use cq_words::Settings;
 use cql_syntax::{QueryFault, TypedQuery};
 use std::alloc::Global;
