@@ -13,7 +13,7 @@ use Rattle.cql_syntax.specs.Trees.{FilterTree, filter_at, chain, FilterTrees, no
 use Rattle.cql_syntax.specs.declared.leaves.Chain.TheVariants.{And}
 use Rattle.cql_syntax.proofs.FlatHits.{hits_same, keys_same}
 use Rattle.cql_syntax.proofs.SameSound.{same_law}
-use Rattle.cql_needs.specs.Needs.{all_pass, query_passes}
+use Rattle.cql_needs.specs.Needs.{all_pass}
 use Rattle.cql_joined.specs.Joined.{HaveSameHits}
 use Rattle.cql_needs.specs.Plans.{IsAskedFor}
 use Rattle.cql_needs.proofs.Needed.{hits_pass}
