@@ -14,7 +14,7 @@ use Rattle.cq_common.specs.declared.faults.Refusal.TheVariants.{Fault, NoMemory 
 use Rattle.cql_syntax.specs.TreeOf.{query_tree}
 use Rattle.cql_syntax.specs.Trees.{QueryTree}
 use Rattle.cql_syntax.specs.declared.typed.TypedQuery.{TypedQuery}
-use Rattle.cq_parts.specs.Plans.{trees_of}
+use Rattle.cql_syntax.specs.QueryTrees.{trees_of}
 use Rattle.cq_answered.specs.Answers.{answers_from}
 use Rattle.cq_answered.specs.Many.{AreManyOf}
 use Rattle.cq_answered.specs.Outcomes.{AreKeptRead, Outcome}

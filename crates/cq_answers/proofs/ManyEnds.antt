@@ -17,7 +17,7 @@ use Rattle.cq_common.specs.declared.faults.Refusal.TheVariants.{Fault, NoMemory 
 use Rattle.cql_syntax.specs.TreeOf.{query_tree}
 use Rattle.cql_syntax.specs.Trees.{QueryTree}
 use Rattle.cql_syntax.specs.declared.typed.TypedQuery.{TypedQuery}
-use Rattle.cq_parts.specs.Plans.{trees_of}
+use Rattle.cql_syntax.specs.QueryTrees.{trees_of}
 use Rattle.cq_report.specs.Games.{summary_line}
 use Rattle.cq_answered.specs.Order.{AreApart, ComesBefore, HasKeys, directions, is_match as is_match_kept}
 use Rattle.cq_answered.specs.Outcomes.{Outcome}

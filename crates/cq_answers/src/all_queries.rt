@@ -3,7 +3,8 @@ ghost use Rattle.std.specs.Prelude.{◌≡◌, ◌++◌, ◌≤◌, ◌^◌, fal
 ghost use Rattle.std.specs.Fn.{FnReturnsAt};
 ghost use Rattle.std.specs.Thread.{IsSync};
 ghost use Rattle.cq_batches.specs.declared.batch.Batch.{Batch};
-ghost use Rattle.cq_parts.specs.Plans.{queries_of, trees_of};
+ghost use Rattle.cql_syntax.specs.QueryTrees.{trees_of};
+ghost use Rattle.cq_parts.specs.Plans.{queries_of};
 ghost use Rattle.cq_answered.specs.Many.{AreManyOf, answers_in};
 ghost use Rattle.cq_answers.specs.ManyQueries.{faults_alone, texts_of_all};
 ghost use Rattle.cq_answers.specs.ManyWriting.{FoundByAll};

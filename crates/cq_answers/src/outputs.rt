@@ -2,7 +2,8 @@
 ghost use Rattle.std.specs.Prelude.{◌≡◌, ◌+◌, ◌≤◌, List, length, map, IfOk};
 ghost use Rattle.std.specs.List.{flat_map};
 ghost use Rattle.cq_report.specs.Games.{summary_line as line_of};
-ghost use Rattle.cq_parts.specs.Plans.{queries_of, trees_of};
+ghost use Rattle.cql_syntax.specs.QueryTrees.{trees_of};
+ghost use Rattle.cq_parts.specs.Plans.{queries_of};
 ghost use Rattle.cq_answered.specs.Outcomes.{Outcome};
 ghost use Rattle.cq_answers.specs.Exports.{exports_of};
 ghost use Rattle.cq_answers.specs.ManyQueries.{output_of, outputs_from, texts_of_all};

@@ -15,7 +15,8 @@ use Rattle.cq_parts.specs.Askers.{asked_query, IsAsker, AreAskers}
 use Rattle.cq_parts.specs.Known.{all_shown, is_asked, with_part, with_parts}
 use Rattle.cq_parts.specs.Parts.{PartTree, query_parts, top_parts, top_sorts, parts_with, parts_in, parts_in_all, are_at, different, equal_part, equal_parts, Keeps}
 use Rattle.cq_parts.specs.Places.{is_among}
-use Rattle.cq_parts.specs.Plans.{trees_of, plan_parts}
+use Rattle.cql_syntax.specs.QueryTrees.{trees_of}
+use Rattle.cq_parts.specs.Plans.{plan_parts}
 use Rattle.cq_parts.specs.declared.part.Part.{Part}
 use Rattle.cq_parts.specs.declared.part.Asker.{Asker}
 use Rattle.cql_syntax.proofs.SameSound.{same_law}

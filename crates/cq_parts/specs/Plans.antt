@@ -1,8 +1,7 @@
 -- Plans of several queries as their callers see them.
 use Rattle.std.specs.Prelude.{List, map}
 use Rattle.cql_needs.specs.Plans.{query_of}
-use Rattle.cql_syntax.specs.TreeOf.{query_tree}
-use Rattle.cql_syntax.specs.Trees.{QueryTree}
+use Rattle.cql_syntax.specs.QueryTrees.{trees_of}
 use Rattle.cql_syntax.specs.declared.typed.TypedQuery.{TypedQuery}
 use Rattle.cq_parts.specs.Parts.{PartTree, parts_in_all, different}
 use Rattle.cq_parts.specs.declared.part.Asker.{Asker}
@@ -12,9 +11,6 @@ use Rattle.cq_parts.specs.declared.plan.SharedPlan.{SharedPlan}
 -- the queries that a plan was made from
 abbrev pub queries_of : SharedPlan → List TypedQuery
 queries_of plan = map (λ a. query_of a.plan) plan.askers.items
-
-abbrev pub trees_of : List TypedQuery → List QueryTree
-trees_of queries = map (λ q. query_tree q.query) queries
 
 -- what a plan keeps of each query, and its parts
 abbrev pub askers_of : SharedPlan → List Asker

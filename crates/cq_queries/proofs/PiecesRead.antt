@@ -9,7 +9,8 @@ use Rattle.cql_syntax.specs.TreeOf.{query_tree}
 use Rattle.cql_syntax.specs.Trees.{QueryTree}
 use Rattle.cql_syntax.specs.declared.fault.QueryFault.{QueryFault}
 use Rattle.cql_syntax.specs.declared.typed.TypedQuery.{TypedQuery}
-use Rattle.cq_queries.specs.QueryReading.{trees_of, ReadsText, ReadsPiece, ReadsPieces, RefusesPieces}
+use Rattle.cql_syntax.specs.QueryTrees.{trees_of}
+use Rattle.cq_queries.specs.QueryReading.{ReadsText, ReadsPiece, ReadsPieces, RefusesPieces}
 use Rattle.cq_queries.specs.declared.query_files.ManyFault.{ManyFault}
 use Rattle.cq_queries.specs.declared.query_files.ManyFault.TheVariants.{TooLong, TooMany, Faulty}
 use Rattle.cq_queries.specs.Queries.{IsQuery, IsQueryFault}

@@ -1,5 +1,5 @@
 -- Reading a query or several, from a word or a file, and saying why there are none, as the private functions do.
-use Rattle.std.specs.Prelude.{◌≡◌, List, ℕ, map, Result, Ok, Err}
+use Rattle.std.specs.Prelude.{◌≡◌, List, ℕ, Result, Ok, Err}
 use Rattle.std.specs.List.{AllZip}
 use Rattle.cq_common.specs.declared.faults.Refusal.{Refusal}
 use Rattle.cq_common.specs.declared.faults.Refusal.TheVariants.{Fault, NoMemory as IsNoMemory}
@@ -60,10 +60,6 @@ abbrev pub ReadsQuery : List ℕ → Result TypedQuery (Refusal QueryFault) → 
 ReadsQuery text result = ReadsText a_query (λ typed. query_tree typed.query) text result
 
 -- ---- a file of queries
-
--- some queries as trees
-abbrev pub trees_of : List TypedQuery → List QueryTree
-trees_of queries = map (λ q. query_tree q.query) queries
 
 -- the query that the piece of this number is
 abbrev pub ReadsPiece : ℕ → List ℕ → Result TypedQuery (Refusal ManyFault) → Type 0

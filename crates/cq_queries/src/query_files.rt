@@ -1,6 +1,7 @@
 //! Reading a file of queries, and saying what is wrong with one.
 ghost use Rattle.std.specs.Prelude.{◌≡◌, ◌≤◌, ◌<◌, ◌∷◌, IfOk, drop, length, map, take};
-ghost use Rattle.cq_queries.specs.QueryReading.{trees_of, ReadsFile, ReadsPiece, ReadsPieces, ReadsText, TellsWhy};
+ghost use Rattle.cql_syntax.specs.QueryTrees.{trees_of};
+ghost use Rattle.cq_queries.specs.QueryReading.{ReadsFile, ReadsPiece, ReadsPieces, ReadsText, TellsWhy};
 ghost use Rattle.cq_queries.specs.Views.{SinkView, desk_view, sink_view, sinks_of};
 ghost use Rattle.cq_queries.specs.QueryFiles.{is_divider, lines, many_line, pieces};
 ghost use Rattle.cq_queries.specs.Lines.{RefusesQuery};

@@ -3,7 +3,7 @@ ghost use Rattle.std.specs.Prelude.{map, length, ◌≤◌};
 ghost use Rattle.std.specs.String.{string_bytes};
 ghost use Rattle.cq_words.specs.Jobs.{IsInRange};
 ghost use Rattle.cq_words.specs.declared.job.Job.TheVariants as jobs;
-ghost use Rattle.cq_queries.specs.QueryReading.{trees_of};
+ghost use Rattle.cql_syntax.specs.QueryTrees.{trees_of};
 ghost use Rattle.cql_syntax.specs.TreeOf.{query_tree};
 ghost use Rattle.cq_answers.specs.FirstGame.{wanted};
 ghost use Rattle.cq_answers.specs.ManyQueries.{texts_of_all};

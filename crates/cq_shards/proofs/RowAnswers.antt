@@ -6,7 +6,7 @@ use Rattle.cql_syntax.specs.Hits.{hits, keys}
 use Rattle.cql_syntax.specs.TreeOf.{query_tree}
 use Rattle.cql_syntax.specs.Trees.{QueryTree}
 use Rattle.cql_syntax.specs.declared.typed.TypedQuery.{TypedQuery}
-use Rattle.cq_parts.specs.Plans.{trees_of}
+use Rattle.cql_syntax.specs.QueryTrees.{trees_of}
 use Rattle.cq_parts.specs.Verdicts.{HaveKeys, IsKeyed}
 use Rattle.cq_answered.specs.Outcomes.{Outcome}
 use Rattle.cq_answered.specs.Rows.{answers_back}

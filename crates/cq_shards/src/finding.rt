@@ -2,7 +2,8 @@
 ghost use Rattle.std.specs.Prelude.{◌≡◌, ◌≢◌, ◌<◌, [], map, Some, IfOk};
 ghost use Rattle.cql_syntax.specs.Hits.{hits, keys};
 ghost use Rattle.cql_plan.specs.Plans.{keys_of, nodes_of};
-ghost use Rattle.cq_parts.specs.Plans.{queries_of, trees_of};
+ghost use Rattle.cql_syntax.specs.QueryTrees.{trees_of};
+ghost use Rattle.cq_parts.specs.Plans.{queries_of};
 ghost use Rattle.cq_parts.specs.Verdicts as all;
 ghost use Rattle.cq_shards.specs.Answers.{query_in};
 

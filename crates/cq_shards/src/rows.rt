@@ -1,5 +1,6 @@
 //! The queries of a plan of several, which are asked of games all at once.
-ghost use Rattle.cq_parts.specs.Plans.{queries_of, trees_of};
+ghost use Rattle.cql_syntax.specs.QueryTrees.{trees_of};
+ghost use Rattle.cq_parts.specs.Plans.{queries_of};
 
 use crate::finding::find_all;
 use cq_answered::{AllAsked, GameAnswer, answer_found};

@@ -3,7 +3,8 @@ ghost use Rattle.std.specs.Prelude.{◌≤◌, IfOk};
 ghost use Rattle.cq_answered.specs.Answers.{AreAnswersOf};
 ghost use Rattle.cq_answered.specs.FirstMatch.{AnswersUpToFirst};
 ghost use Rattle.cq_answered.specs.Many.{AreManyOf, answers_in};
-ghost use Rattle.cq_parts.specs.Plans.{queries_of, trees_of};
+ghost use Rattle.cql_syntax.specs.QueryTrees.{trees_of};
+ghost use Rattle.cq_parts.specs.Plans.{queries_of};
 ghost use Rattle.cq_shards.specs.Answers.{query_in};
 
 use crate::asking::AskedPlan;

@@ -9,7 +9,8 @@ use Rattle.cq_parts.specs.Beginning.{HaveBegun}
 use Rattle.cq_parts.specs.Known.{all_shown}
 use Rattle.cq_parts.specs.Matching.{is_before, is_class, costs_if, plan_cost, AreLeft}
 use Rattle.cq_parts.specs.Parts.{PartTree, parts_in_all, different, equal_parts}
-use Rattle.cq_parts.specs.Plans.{trees_of, plan_parts}
+use Rattle.cql_syntax.specs.QueryTrees.{trees_of}
+use Rattle.cq_parts.specs.Plans.{plan_parts}
 use Rattle.cq_parts.specs.Reading.{AreFound}
 use Rattle.cq_parts.specs.Singles.{shown}
 use Rattle.cq_parts.specs.Wanted.{both, is_asked_in, asked_parts, TakeAtMost}

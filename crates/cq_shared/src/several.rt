@@ -2,7 +2,8 @@
 ghost use Rattle.std.specs.Prelude.{◌≡◌, ◌+◌, ◌<◌, ◌≤◌, length, map, All, AllPairs, IfOk};
 ghost use Rattle.cql_syntax.specs.Hits.{hits};
 ghost use Rattle.cq_parts.specs.Matching.{plan_cost};
-ghost use Rattle.cq_parts.specs.Plans.{queries_of, trees_of, plan_parts};
+ghost use Rattle.cql_syntax.specs.QueryTrees.{trees_of};
+ghost use Rattle.cq_parts.specs.Plans.{queries_of, plan_parts};
 ghost use Rattle.cq_parts.specs.Wanted.{asked_parts};
 ghost use Rattle.cq_parts.specs.Verdicts.{nodes_of, keys_of, HaveKeys};
 

@@ -19,6 +19,7 @@ pub mod NumberRows
 pub mod Occurrences
 pub mod Places
 pub mod PositionRows
+pub mod QueryTrees
 pub mod Same
 pub mod Samples
 pub mod SetRows

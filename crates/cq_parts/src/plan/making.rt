@@ -9,7 +9,8 @@ ghost use Rattle.cq_parts.specs.Askers.{asked_query, IsAsker, AreAskers};
 ghost use Rattle.cq_parts.specs.Known.{all_shown, is_asked, with_parts};
 ghost use Rattle.cq_parts.specs.Parts.{parts_in, parts_in_all, parts_with, top_parts, different, equal_parts, Keeps};
 ghost use Rattle.cq_parts.specs.Places.{IsTable, is_among};
-ghost use Rattle.cq_parts.specs.Plans.{askers_of, each_part_of, queries_of, trees_of, plan_parts};
+ghost use Rattle.cql_syntax.specs.QueryTrees.{trees_of};
+ghost use Rattle.cq_parts.specs.Plans.{askers_of, each_part_of, queries_of, plan_parts};
 
 use crate::finding::{add_sorts, add_top, count_top};
 use crate::known::add_all;

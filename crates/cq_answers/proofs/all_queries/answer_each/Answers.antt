@@ -1,7 +1,8 @@
 use Rattle.std.proofs.Common.{Ok, ap, map, sym, subst, ◌∙◌, arith, refl, rules}
 use Rattle.std.proofs.lemmas.List.{length-map}
 use Rattle.cql_syntax.specs.TreeOf.{query_tree}
-use Rattle.cq_parts.specs.Plans.{queries_of, trees_of}
+use Rattle.cql_syntax.specs.QueryTrees.{trees_of}
+use Rattle.cq_parts.specs.Plans.{queries_of}
 use Rattle.cq_answers.specs.ManyQueries.{texts_of_all}
 use Rattle.cq_answers.specs.ManyWriting.{FoundByAll}
 use Rattle.cq_answers.specs.Promise.{AnswerPromise}

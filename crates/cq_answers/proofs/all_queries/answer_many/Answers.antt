@@ -1,6 +1,6 @@
 use Rattle.std.proofs.Common.{subst}
 use Rattle.cq_words.specs.declared.job.Settings.{Settings}
-use Rattle.cq_parts.specs.Plans.{trees_of}
+use Rattle.cql_syntax.specs.QueryTrees.{trees_of}
 use Rattle.cq_answers.specs.ManyQueries.{texts_of_all}
 use Rattle.cq_answers.specs.Promise.{AnswerPromise}
 use Rattle.cq_queries.specs.Views.{source_view, sink_view, sinks_of}

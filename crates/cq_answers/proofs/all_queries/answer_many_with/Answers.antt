@@ -1,5 +1,6 @@
 use Rattle.std.proofs.Common.{subst, rules}
-use Rattle.cq_parts.specs.Plans.{queries_of, trees_of}
+use Rattle.cql_syntax.specs.QueryTrees.{trees_of}
+use Rattle.cq_parts.specs.Plans.{queries_of}
 use Rattle.cq_answers.specs.ManyQueries.{texts_of_all}
 use Rattle.cq_answers.specs.Promise.{AnswerPromise}
 use Rattle.cq_queries.specs.Views.{source_view, sink_view, sinks_of}

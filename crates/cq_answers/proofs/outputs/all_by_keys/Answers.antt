@@ -1,5 +1,6 @@
 use Rattle.std.proofs.Common.{◌≡◌, ◌<◌, Global, Vec, [], ◌∷◌, ◌++◌, length, get_or, map, append_assoc, ap, sym, ◌∙◌, subst, rules, arith}
-use Rattle.cq_parts.specs.Plans.{queries_of, trees_of}
+use Rattle.cql_syntax.specs.QueryTrees.{trees_of}
+use Rattle.cq_parts.specs.Plans.{queries_of}
 use Rattle.cq_answered.specs.declared.answers.GameAnswer.{GameAnswer}
 use Rattle.cq_answers.specs.ManyWriting.{AreInOrder}
 use Rattle.cq_answers.proofs.ManyEnds.{all_ordered, more_ordered, none_ordered_yet, ordered_by, ordered_few}

@@ -1,5 +1,6 @@
 use Rattle.std.proofs.Common.{◌≡◌, ◌++◌, map}
-use Rattle.cq_parts.specs.Plans.{queries_of, trees_of}
+use Rattle.cql_syntax.specs.QueryTrees.{trees_of}
+use Rattle.cq_parts.specs.Plans.{queries_of}
 use Rattle.cq_answers.specs.ManyWriting.{AreInOrder}
 use Rattle.cq_answers.proofs.outputs.all_by_keys.Given as goal
 

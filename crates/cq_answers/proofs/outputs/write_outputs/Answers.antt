@@ -1,6 +1,7 @@
 use Rattle.std.proofs.Common.{Global, Vec, map, Ok, Err, ap, ◌∙◌}
 use Rattle.cq_answered.specs.declared.answers.GameAnswer.{GameAnswer}
-use Rattle.cq_parts.specs.Plans.{queries_of, trees_of}
+use Rattle.cql_syntax.specs.QueryTrees.{trees_of}
+use Rattle.cq_parts.specs.Plans.{queries_of}
 use Rattle.cq_answers.specs.ManyQueries.{texts_of_all}
 use Rattle.cq_queries.specs.Views.{sink_view, sinks_of}
 use Rattle.cq_answers.proofs.GameByGame.{ended}

@@ -1,6 +1,6 @@
 use Rattle.std.proofs.Common.{Err, ap, ◌∙◌, subst}
 use Rattle.std.proofs.lemmas.Result.{err_from_is_err_and}
-use Rattle.cq_queries.specs.QueryReading.{trees_of}
+use Rattle.cql_syntax.specs.QueryTrees.{trees_of}
 use Rattle.cq_queries.specs.Views.{desk_view}
 use Rattle.cq_queries.specs.QueryFiles.{HoldsQueries, IsManyFault}
 use Rattle.cq_queries.specs.Files.{some_queries}

@@ -2,7 +2,8 @@ use Rattle.std.proofs.lemmas.Fn.{says_at}
 use Rattle.std.proofs.Common.{◌++◌, refl, ap, sym, ◌∙◌, arith, map, subst, Err}
 use Rattle.std.proofs.lemmas.List.{length-map}
 use Rattle.cq_batches.specs.Games.{games_of}
-use Rattle.cq_parts.specs.Plans.{queries_of, trees_of}
+use Rattle.cql_syntax.specs.QueryTrees.{trees_of}
+use Rattle.cq_parts.specs.Plans.{queries_of}
 use Rattle.cq_answered.specs.Many.{answers_in}
 use Rattle.cq_answers.specs.ManyQueries.{faults_alone}
 use Rattle.cq_answers.specs.ManyWriting.{FoundByAll}

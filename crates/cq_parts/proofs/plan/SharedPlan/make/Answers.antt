@@ -2,7 +2,7 @@ use Rattle.std.proofs.Common.{◌∙◌, ap, sym, subst, arith, map, length}
 use Rattle.std.proofs.lemmas.List.{take_all}
 use Rattle.cq_parts.specs.Askers.{asked_query, AreAskers}
 use Rattle.cq_parts.specs.Parts.{parts_in_all, different}
-use Rattle.cq_parts.specs.Plans.{trees_of}
+use Rattle.cql_syntax.specs.QueryTrees.{trees_of}
 use Rattle.cq_parts.proofs.Makings.{askers_more, trees_more, equal_if, askers_none, parts_none, trees_none, parts_later, plan_trees, counted_more}
 use Rattle.cq_parts.proofs.Tables.{table_none}
 use Rattle.cq_parts.proofs.plan.SharedPlan.make.Goals as goal

@@ -3,7 +3,7 @@ use Rattle.cq_parts.specs.Askers.{asked_query, AreAskers}
 use Rattle.cq_parts.specs.Known.{all_shown}
 use Rattle.cq_parts.specs.Parts.{parts_in_all, different}
 use Rattle.cq_parts.specs.Places.{IsTable}
-use Rattle.cq_parts.specs.Plans.{trees_of}
+use Rattle.cql_syntax.specs.QueryTrees.{trees_of}
 use Rattle.cq_parts.proofs.plan.SharedPlan.make.Given as goal
 
 abbrev pub invariant-loop-q : goal.invariant-loop-q

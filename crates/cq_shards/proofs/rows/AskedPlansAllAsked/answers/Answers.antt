@@ -1,6 +1,7 @@
 use Rattle.std.proofs.Common.{◌-◌, ap, arith, Ok, ◌∙◌}
 use Rattle.cql_syntax.specs.TreeOf.{query_tree}
-use Rattle.cq_parts.specs.Plans.{queries_of, trees_of}
+use Rattle.cql_syntax.specs.QueryTrees.{trees_of}
+use Rattle.cq_parts.specs.Plans.{queries_of}
 use Rattle.cq_parts.specs.Verdicts as all
 use Rattle.cq_answered.specs.Answers.{answer_of}
 use Rattle.cq_answered.proofs.RowAnswers.{one_back}

@@ -1,5 +1,6 @@
 use Rattle.std.proofs.Common.{◌≡◌, drop, Ok}
-use Rattle.cq_parts.specs.Plans.{queries_of, trees_of}
+use Rattle.cql_syntax.specs.QueryTrees.{trees_of}
+use Rattle.cq_parts.specs.Plans.{queries_of}
 use Rattle.cq_answered.specs.Rows.{answers_back}
 use Rattle.cq_shards.proofs.rows.AskedPlansAllAsked.answers.Given as goal
 
