@@ -1,4 +1,4 @@
--- Workers that look for the first match of a batch, as the private functions give it.
+-- Workers that look for the first match of a batch.
 use Rattle.std.specs.Prelude.{◌≡◌, ℕ, ◌+◌, ◌<◌, ◌≤◌, ◌==◌, ◌&&◌, Bool, List, [], ◌∷◌, ◌++◌, All, Option, None, Some, count_by, if◌then◌else◌}
 use Rattle.cq_batches.specs.Games.{games_of, number_of}
 use Rattle.cq_batches.specs.declared.batch.Batch.{Batch}

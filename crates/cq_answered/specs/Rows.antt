@@ -1,4 +1,4 @@
--- The answers of games to several queries, game by game, as the private functions give them.
+-- The answers of games to several queries, game by game.
 use Rattle.std.specs.Prelude.{◌≡◌, ℕ, ◌+◌, ◌<◌, ◌==◌, List, [], ◌∷◌, ◌++◌, All, count_by}
 use Rattle.cq_batches.specs.Games.{games_of, number_of}
 use Rattle.cq_batches.specs.Kept.{KeptGames}

@@ -1,5 +1,5 @@
-//! What every crate may use: bytes, why a call may be refused, what threads may share, and a counter of steps; white space and
-//! decimal digits, which are the same in PGN and in queries; and lists that a pattern spells.
+//! What readers of games and of queries, and the outside, share: lists of bytes, why a call may be refused, what threads may share, and a
+//! counter of steps; white space and decimal digits, which are the same in PGN and in queries; and lists that a pattern spells.
 #![tactic(auto)]
 
 pub mod bytes;

@@ -17,7 +17,7 @@ use cql_pruning::order::class_of;
 use cql_syntax::Filter;
 use std::alloc::Global;
 
-/// Adds the parts of a query, of which those that are known already gain it. Their numbers, in order.
+/// Adds the parts of a query and gives their numbers, in order. Where a part is known already, the query is added to it.
 pub(crate) fn add_all(
     alloc: Global,
     filters: &[Filter],
@@ -46,7 +46,7 @@ pub(crate) fn add_all(
     Ok(numbers)
 }
 
-// Adds a part, or to the same one the query that has it. Its number.
+// Adds a part, or, where it is known, the query to it, and gives its number.
 fn add(
     alloc: Global,
     parts: &mut Vec<Part>,

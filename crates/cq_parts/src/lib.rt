@@ -1,5 +1,5 @@
-//! Several queries over one game, but for what is asked of it: a plan has their different parts, each once; from the nodes at which they
-//! hold, what is found of each query.
+//! What surrounds the asking of several queries over one game: their plan, with the different parts of all, each once, and what each query
+//! finds, from the nodes at which its parts hold. `cq_shared` asks the parts.
 //!
 //! `specs/Parts` has the parts of a query, and when two are the same; `specs/Matching` what each of them tells of a game, and costs;
 //! `specs/Verdicts` what is found of each query.

@@ -1,4 +1,4 @@
--- Reading a query or several, from a word or a file, and saying why there are none, as the private functions do.
+-- Reading a query or several, from a word or a file, and saying why there are none.
 use Rattle.std.specs.Prelude.{◌≡◌, List, ℕ, Result, Ok, Err}
 use Rattle.std.specs.List.{AllZip}
 use Rattle.cq_common.specs.declared.faults.Refusal.{Refusal}

@@ -1,4 +1,4 @@
--- What is left of the nodes of a set while squares are tried one by one, as the private functions give it.
+-- What is left of the nodes of a set while squares are tried one by one.
 use Rattle.std.specs.Prelude.{◌≡◌, ℕ, ◌&&◌, not, Bool, true, List, length, if◌then◌else◌}
 use Rattle.cq_symmetry.specs.Images.{is_in}
 use Rattle.cql_syntax.specs.Values.{Value, has}

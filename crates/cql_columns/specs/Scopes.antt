@@ -1,4 +1,4 @@
--- Where a filter is asked, as the private functions give it.
+-- Where a filter is asked.
 use Rattle.std.specs.Prelude.{ℕ, List, []}
 use Rattle.cq_common.specs.Spelling.{Pattern}
 use Rattle.cq_position.specs.Search.{SearchedTree}

@@ -75,7 +75,7 @@ pub fn found_from(
     }
 }
 
-/// At least the squares that stand at some of the nodes at which a word asks its part.
+/// Brings sets of squares back to the nodes that ask: each gets at least the squares of all nodes at which the word asks its part.
 #[tactic(auto, using(crate::proofs::ElsewhereLaw::same_brought))]
 pub fn brought_back(
     alloc: Global,

@@ -90,7 +90,7 @@ fn has_one(value: Value, square: Square) -> bool
     has_square(value.squares(), square)
 }
 
-/// The nodes of a set that are not settled by what a column has at some of them.
+/// The nodes of a set that stay open: all but those of `there` at which the column holds, or, of `square all`, doesn't hold.
 pub fn unsettled(every: bool, left: Vec<bool>, there: &[bool], column: &FilterColumn) -> Vec<bool>
     requires { length there.now ≡ length left.items }
     ensures { AreLeftOpen every (λ n. spec.holds (shown column.now n)) left.items there.now result.items }
@@ -116,7 +116,7 @@ fn keeps(every: bool, asked: bool, there: bool, column: &FilterColumn, n: usize)
     asked && !(there && column.at(n).holds() != every)
 }
 
-/// Of every square where no square settled it, of some where one did.
+/// What `square` gives once all squares are tried: of `square all` whether a node stayed open, else whether it was settled.
 pub fn decided(alloc: Global, every: bool, left: Vec<bool>) -> Result<Vec<bool>, NoMemory>
     ensures { IfOk result (λ truths. (n : ℕ) → n < length left.items
         → get_or truths.items n false ≡ (if get_or left.items n false then every else not every)) }

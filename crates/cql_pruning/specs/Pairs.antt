@@ -1,4 +1,4 @@
--- Squares of two names that are tried together, as the private functions give it.
+-- Squares of two names that are tried together.
 use Rattle.std.specs.Prelude.{ℕ, List}
 use Rattle.cql_syntax.specs.Meaning.{Names}
 use Rattle.cql_syntax.specs.Values.{Value}

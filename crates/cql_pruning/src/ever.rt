@@ -42,17 +42,17 @@ pub struct Asking<'a> {
     pub classes: u32,
 }
 
-// Of so many sets of men at most it is asked where they stand.
+// The most sets of men whose squares are gathered.
 const MOST_SETS_OF_MEN: usize = 8;
 
-// From so many filters on it pays to look where the men stand that they ask for.
+// The least number of filters for which gathering pays.
 const MANY_FILTERS: usize = 8;
 
-// The men of at most so many filters are looked at: the others mostly ask for the same ones.
+// The most filters whose men are gathered: further ones mostly name the same men.
 const LOOKED_AT: usize = 16;
 
-/// Where the men stand that designators of some filters ask for, or of their parts, as far as a few of the filters name them. Nothing is
-/// told of few filters, and of such as must hold.
+/// Gathers the squares of men that some filters or their parts name, at each of the nodes and at any. Nothing is gathered for few filters,
+/// or where all must hold.
 pub fn evers_of(
     alloc: Global,
     want: bool,
@@ -222,7 +222,8 @@ pub fn fails_anyway(asking: &Asking, filter: &Filter) -> bool
     !asking.want && holds_nowhere(asking.evers, filter)
 }
 
-// True only where a filter holds at none of the nodes that are asked for. Forms other than designators, and braces of such, give false.
+// True only where a filter holds at none of the nodes that are asked for. Designators are looked at, and braces and `and` with one that
+// stands nowhere; other forms give false.
 #[cycle(holds_nowhere)]
 #[tactic(auto, unfolding(cql_syntax::specs::Meaning::value, cql_syntax::specs::Contexts::designator_image))]
 fn holds_nowhere(evers: &[Ever], filter: &Filter) -> bool
@@ -261,7 +262,7 @@ fn stands_nowhere(evers: &[Ever], d: &Designator) -> bool
     false
 }
 
-// Whether it is told where just these men stand, and none of the squares is among those.
+// Whether the squares of just these men were gathered, and the designator names none of them.
 fn is_without(ever: &Ever, d: &Designator) -> bool
     ensures { result ≡ true → (tree : SearchedTree) (live : List Bool) → IsEver tree live ever.now → StandsNowhere tree live d.now }
 {

@@ -18,7 +18,7 @@ use cql_values::value::Value;
 use pgn_tree::Game;
 use std::alloc::Global;
 
-/// The nodes of a set or, where promotions alone are wanted, those of them to which one led.
+/// The nodes of a set; where only promotions are wanted, those to which a promotion led.
 pub fn promoting(
     alloc: Global,
     scope: &Scope,

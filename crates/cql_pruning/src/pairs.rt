@@ -1,4 +1,4 @@
-//! Squares that attack the square of another name, or are attacked from there, where a set is known to have the other square.
+//! Two names of which one attacks the other: squares of the one are left out that attack no square the other may have.
 ghost use Rattle.std.specs.Prelude.{◌≡◌, ◌⊎◌, ℕ, ◌∷◌, [], length, true, false};
 ghost use Rattle.std.specs.Str.{bytes_eq};
 ghost use Rattle.cql_syntax.specs.Meaning as meaning;
@@ -27,7 +27,7 @@ pub struct PairTrial<'a> {
     pub column: &'a FilterColumn,
 }
 
-/// Whether somewhere in what must hold the squares of two names are asked of each other.
+/// Whether a filter can hold only where one of two names attacks the other, as far as is looked at: a wrong answer costs time alone.
 #[cycle(asks_pair)]
 pub fn asks_pair(name: &[u8], other: &[u8], asked: &Filter) -> bool {
     match &asked.form {

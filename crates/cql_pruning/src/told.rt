@@ -1,4 +1,4 @@
-//! Filters that are asked by where it is told that the men stand that they name.
+//! Designators that are answered from lists of the squares on which their men stand, without a look at a position.
 ghost use Rattle.std.specs.Prelude.{◌≡◌, ◌&&◌, ℕ, Bool, List, [], length, true, get_or, bit_and, Some, IfOk, IfSome};
 ghost use Rattle.std.specs.List.{list_all};
 ghost use Rattle.cq_position.specs.Search.{SearchedTree};
@@ -33,7 +33,7 @@ pub fn conjuncts(filter: &Filter) -> &[Filter]
     }
 }
 
-/// Where filters all hold, if they are designators of men of which it is told where they stand.
+/// Where filters all hold, if each is a designator of men whose squares were gathered; else `None`.
 pub fn told_column(
     alloc: Global,
     asking: &Asking,

@@ -1,6 +1,6 @@
 -- A filter of the move that is made of its parts.
 use Rattle.std.proofs.Common.{◌≡◌, ap, ◌∙◌}
-use Rattle.cql_same.proofs.PlayedParts.{played_is}
+use Rattle.cql_syntax.proofs.PlayedParts.{played_is}
 use Rattle.cql_syntax.specs.TreeOf.{played_tree, written_tree}
 use Rattle.cql_syntax.specs.Trees.{move_of}
 use Rattle.cql_syntax.specs.declared.tree.Played.{roll-Played, out-roll-Played}

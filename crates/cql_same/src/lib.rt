@@ -1,6 +1,6 @@
 //! Whether two filters are the same.
 //!
-//! `cql_syntax/specs/Same` says which filters are, `specs/Unplaced` which are but for their places.
+//! `cql_syntax/specs/Same` says which filters are, `cql_syntax/specs/Unplaced` which are but for their places.
 #![tactic(auto)]
 
 mod leaves;

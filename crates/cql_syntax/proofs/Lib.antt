@@ -21,5 +21,6 @@ pub mod FlatHits
 mod FlatRows
 pub mod FlatKept
 pub mod FlatFacts
+pub mod PlayedParts
 pub mod UnplacedSame
 pub mod TabledLines

@@ -5,7 +5,7 @@ use Rattle.cql_syntax.specs.TreeOf.{filter_tree, body_tree, written_tree, filter
 use Rattle.cql_syntax.specs.declared.tree.Played.{out-Played}
 use Rattle.cql_syntax.proofs.Lists.{filter_trees_more, part_trees_more}
 use Rattle.cql_flat_text.specs.FlatText as spec
-use Rattle.cql_flat_text.proofs.PlayedParts.{played_is}
+use Rattle.cql_syntax.proofs.PlayedParts.{played_is}
 use Rattle.cql_flat_text.proofs.Texts.{texts_snoc, part_texts_snoc}
 use Rattle.cql_flat_text.proofs.text.+text.Goals as goal
 

@@ -7,7 +7,7 @@ use Rattle.cql_syntax.specs.Kinds.{filter_kind}
 use Rattle.cql_syntax.specs.Trees.{filter_at, unary, direction, chain, sum_of, pair, if_, square, line, played, transform, sort, any, move_of}
 use Rattle.cql_syntax.specs.declared.tree.Played.{out-Played}
 use Rattle.cql_syntax.proofs.Lists.{filter_trees_more, term_trees_more, part_trees_more}
-use Rattle.cql_same.proofs.PlayedParts.{played_is}
+use Rattle.cql_syntax.proofs.PlayedParts.{played_is}
 use Rattle.cql_rewrite.proofs.Made.{flat_all_snoc, flat_terms_snoc, flat_parts_snoc, members_made, flats, family_flat}
 use Rattle.cql_rewrite.proofs.PlayedParts.{played_rolled}
 use Rattle.cql_rewrite.proofs.flat.+flat.Goals as goal
