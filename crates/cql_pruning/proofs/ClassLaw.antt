@@ -17,6 +17,7 @@ use Rattle.cql_columns.proofs.Chains.{take_whole}
 use Rattle.cql_columns.proofs.Costing.{more, within}
 use Rattle.cql_columns.proofs.Keeping.{written}
 use Rattle.cql_pruning.specs.Classes.{form_class, filter_class, is_of, is_before, is_so_if, are_so, cost_if, cost_of, IsLeft}
+use Rattle.cql_pruning.proofs.Placing.{Placed}
 
 pub and_true : (b : Bool) → b ≡ (b && true)
 and_true true = refl
@@ -177,14 +178,30 @@ so_no tree e fs n = so_all tree e false fs n ∙ none (values tree [] e fs n)
         by true r s e = refl
         by false r s e = e
 
+-- nodes that are given to be narrowed in place, and what comes back
+pub record InPlace : Type 0 where
+  pub left : List Bool
+  pub given : List Bool
+  pub later : List Bool
+  pub len : ℕ
+  pub count : len ≡ length later
+  pub same : given ≡ left
+
+-- the nodes that are left then
+abbrev pub left_after : InPlace → List Bool
+left_after w = take w.len (w.later ++ drop (length w.later) w.left)
+
+pub after_is : (w : InPlace) → left_after w ≡ w.later
+after_is w = written w.len w.later w.left w.count
+
 -- one class more, in place
-pub class_left : (tree : SearchedTree) (e : Names) (want : Bool) (c : ℕ) (fs : FilterTrees) (live left given later : List Bool) (len : ℕ) → len ≡ length later → given ≡ left
-    → IsLeft tree live (are_so (is_before c) tree e want fs) left → IsLeft tree given (are_so (is_of c) tree e want fs) later
-    → IsLeft tree live (are_so (is_before (c + 1)) tree e want fs) (take len (later ++ drop (length later) left))
-class_left tree e want c fs live left given later len count is had asked =
-    subst (IsLeft tree live (are_so (is_before (c + 1)) tree e want fs)) (sym (written len later left count))
-    (is_left_then tree live left later (are_so (is_before c) tree e want fs) (are_so (is_of c) tree e want fs) (are_so (is_before (c + 1)) tree e want fs) had
-    (subst (λ l. IsLeft tree l (are_so (is_of c) tree e want fs) later) is asked) (so_next tree e want c fs))
+pub class_left : (tree : SearchedTree) (e : Names) (want : Bool) (c : ℕ) (fs : FilterTrees) (live : List Bool) (w : InPlace)
+    → IsLeft tree live (are_so (is_before c) tree e want fs) w.left → IsLeft tree w.given (are_so (is_of c) tree e want fs) w.later
+    → IsLeft tree live (are_so (is_before (c + 1)) tree e want fs) (left_after w)
+class_left tree e want c fs live w had asked =
+    subst (IsLeft tree live (are_so (is_before (c + 1)) tree e want fs)) (sym (after_is w))
+    (is_left_then tree live w.left w.later (are_so (is_before c) tree e want fs) (are_so (is_of c) tree e want fs) (are_so (is_before (c + 1)) tree e want fs) had
+    (subst (λ l. IsLeft tree l (are_so (is_of c) tree e want fs) w.later) w.same asked) (so_next tree e want c fs))
 
 pub class_end : (c past : ℕ) → past ≤ c → c ≤ past → c ≡ past
 class_end c past h k = omega (arith, h, k)
@@ -200,17 +217,17 @@ cost_step : (taken : FilterTree → Bool) (nodes : ℕ) (x : Filter) (xs : List 
 unfolding cost_of
 cost_step taken nodes x xs = refl
 
-pub class_cost_more : (taken : FilterTree → Bool) (nodes : ℕ) (xs : List Filter) (i : ℕ) (f : Filter) (before now later : ℕ) → i < length xs → f ≡ get_or xs i f
-    → now + cost_of taken nodes (filter_trees (drop i xs)) ≤ before + cost_of taken nodes (filter_trees xs) → later ≤ now + cost_if taken nodes (filter_tree f)
-    → later + cost_of taken nodes (filter_trees (drop (i + 1) xs)) ≤ before + cost_of taken nodes (filter_trees xs)
-class_cost_more taken nodes xs i f before now later h is had new =
-    more (λ fs. cost_of taken nodes (filter_trees fs)) (λ x. cost_if taken nodes (filter_tree x)) (cost_step taken nodes) xs i f before now later h is had new
+pub class_cost_more : (taken : FilterTree → Bool) (nodes : ℕ) (x : Placed) (before now later : ℕ)
+    → now + cost_of taken nodes (filter_trees (drop x.place x.items)) ≤ before + cost_of taken nodes (filter_trees x.items) → later ≤ now + cost_if taken nodes (filter_tree x.filter)
+    → later + cost_of taken nodes (filter_trees (drop (x.place + 1) x.items)) ≤ before + cost_of taken nodes (filter_trees x.items)
+class_cost_more taken nodes x before now later had new =
+    more (λ fs. cost_of taken nodes (filter_trees fs)) (λ f. cost_if taken nodes (filter_tree f)) (cost_step taken nodes) x.items x.place x.filter before now later x.low x.is had new
 
-pub class_cost_within : (taken : FilterTree → Bool) (nodes : ℕ) (xs : List Filter) (i : ℕ) (f : Filter) (before now later : ℕ) (fs : FilterTrees)
-    → i < length xs → f ≡ get_or xs i f → now + cost_of taken nodes (filter_trees (drop i xs)) ≤ before + cost_of taken nodes (filter_trees xs)
-    → later ≤ now + cost_if taken nodes (filter_tree f) → filter_trees xs ≡ fs → later ≤ before + cost_of taken nodes fs
-class_cost_within taken nodes xs i f before now later fs h is had new same = subst (λ t. later ≤ before + cost_of taken nodes t) same
-    (within (λ gs. cost_of taken nodes (filter_trees gs)) (λ x. cost_if taken nodes (filter_tree x)) (cost_step taken nodes) xs i f before now later h is had new)
+pub class_cost_within : (taken : FilterTree → Bool) (nodes : ℕ) (x : Placed) (before now later : ℕ) (fs : FilterTrees)
+    → now + cost_of taken nodes (filter_trees (drop x.place x.items)) ≤ before + cost_of taken nodes (filter_trees x.items) → later ≤ now + cost_if taken nodes (filter_tree x.filter)
+    → filter_trees x.items ≡ fs → later ≤ before + cost_of taken nodes fs
+class_cost_within taken nodes x before now later fs had new same = subst (λ t. later ≤ before + cost_of taken nodes t) same
+    (within (λ gs. cost_of taken nodes (filter_trees gs)) (λ f. cost_if taken nodes (filter_tree f)) (cost_step taken nodes) x.items x.place x.filter before now later x.low x.is had new)
 
 pub cost_taken : (taken : FilterTree → Bool) (nodes : ℕ) (f : FilterTree) (before later : ℕ) → taken f ≡ true → later ≤ before + filter_cost nodes f
     → later ≤ before + cost_if taken nodes f

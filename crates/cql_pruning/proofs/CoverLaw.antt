@@ -29,10 +29,10 @@ pub record CutTo (live : List Bool) (P : ℕ → ℕ → Type 0) (old : List ℕ
 pub cut_none : (live : List Bool) (P : ℕ → ℕ → Type 0) (old : List ℕ) → CutTo live P old 0 old
 cut_none live P old = record { count = refl; within = λ n s h. h; keeps = λ n s h a p i. absurd (omega (arith, h)); rest = λ n h. refl }
 
-pub cut_more : (live : List Bool) (P : ℕ → ℕ → Type 0) (old now later : List ℕ) (k d x : ℕ) (e : Bool) → k < length now → k < length live → later ≡ slice_set now k x
-    → IsCut (get_or live k e) (P k) (get_or now k d) x → CutTo live P old k now → CutTo live P old (k + 1) later
-cut_more live P old now later k d x e low inside is one had = record {
-  count = ap length is ∙ length-set now k x ∙ had.count;
+pub cut_more : (live : List Bool) (P : ℕ → ℕ → Type 0) (old now : List ℕ) (k d x : ℕ) (e : Bool) → k < length now → k < length live
+    → IsCut (get_or live k e) (P k) (get_or now k d) x → CutTo live P old k now → CutTo live P old (k + 1) (slice_set now k x)
+cut_more live P old now k d x e low inside one had = record {
+  count = length-set now k x ∙ had.count;
   within = λ n s h. ⊎_elim
       (λ same. subst (λ i. is_in (get_or old i 0) s ≡ true) (sym same) (old_there s (one.within s (subst (λ y. is_in y s ≡ true) (at n same) h))))
       (λ away. had.within n s (subst (λ y. is_in y s ≡ true) (other n away) h))
@@ -46,11 +46,11 @@ cut_more live P old now later k d x e low inside is one had = record {
   rest = λ n h. other n (λ e. omega (arith, h, e)) ∙ had.rest n (omega (arith, h));
 }
   where
-    other : (n : ℕ) → (n ≡ k → ⊥) → get_or later n 0 ≡ get_or now n 0
-    other n away = ap (λ l. get_or l n 0) is ∙ get_or-set_other now k n x 0 away
+    other : (n : ℕ) → (n ≡ k → ⊥) → get_or (slice_set now k x) n 0 ≡ get_or now n 0
+    other n away = get_or-set_other now k n x 0 away
 
-    at : (n : ℕ) → n ≡ k → get_or later n 0 ≡ x
-    at n same = ap (λ l. get_or l n 0) is ∙ ap (λ i. get_or (slice_set now k x) i 0) same ∙ get_or-set_same now k x 0 low
+    at : (n : ℕ) → n ≡ k → get_or (slice_set now k x) n 0 ≡ x
+    at n same = ap (λ i. get_or (slice_set now k x) i 0) same ∙ get_or-set_same now k x 0 low
 
     here : get_or now k d ≡ get_or old k 0
     here = any_default now k d 0 low ∙ had.rest k (omega arith)

@@ -16,7 +16,8 @@ use Rattle.cql_columns.specs.Columns.{is_live}
 use Rattle.cql_columns.proofs.Filling.{split_last, live_below, any_default, equal_or, or_left, or_right}
 use Rattle.cql_columns.proofs.Wanting.{in_either}
 use Rattle.cql_pruning.specs.Covers.{AreAdded, AreCut, AreJoined, MayHold}
-use Rattle.cql_pruning.proofs.CoverForms.{form_cut}
+use Rattle.cql_pruning.proofs.CoverForms.{KeepsHolding, Tried, form_cut}
+use Rattle.cql_pruning.proofs.Placing.{Placed}
 
 -- at the first k nodes
 pub record JoinedTo (more old : List ℕ) (k : ℕ) (new : List ℕ) : Type 0 where
@@ -65,26 +66,26 @@ added_by live P sets copy left old new same long cut joined = record {
 }
 
 -- of the first k filters each has its squares added
-pub record AddedFor (tree : SearchedTree) (live : List Bool) (opened outer : Names) (given : List ℕ) (xs : List Filter) (k : ℕ) (sets old new : List ℕ) : Type 0 where
+pub record AddedFor (t : Tried) (xs : List Filter) (k : ℕ) (sets old new : List ℕ) : Type 0 where
   pub count : length new ≡ length old
   pub grows : (n s : ℕ) → is_in (get_or old n 0) s ≡ true → is_in (get_or new n 0) s ≡ true
-  pub adds : (i : ℕ) (f : Filter) (n s : ℕ) → i < k → f ≡ get_or xs i f → is_live live n ≡ true → MayHold opened outer given (λ e. value tree [] e (filter_tree f)) n s
+  pub adds : (i : ℕ) (f : Filter) (n s : ℕ) → i < k → f ≡ get_or xs i f → is_live t.live n ≡ true → MayHold t.opened t.outer t.name (λ e. value t.tree [] e (filter_tree f)) n s
       → is_in (get_or sets n 0) s ≡ true → is_in (get_or new n 0) s ≡ true
 
-pub added_none : (tree : SearchedTree) (live : List Bool) (opened outer : Names) (given : List ℕ) (xs : List Filter) (sets old : List ℕ) → AddedFor tree live opened outer given xs 0 sets old old
-added_none tree live opened outer given xs sets old = record { count = refl; grows = λ n s h. h; adds = λ i f n s low. absurd (omega (arith, low)) }
+pub added_none : (t : Tried) (xs : List Filter) (sets old : List ℕ) → AddedFor t xs 0 sets old old
+added_none t xs sets old = record { count = refl; grows = λ n s h. h; adds = λ i f n s low. absurd (omega (arith, low)) }
 
-pub added_more : (tree : SearchedTree) (live : List Bool) (opened outer : Names) (given : List ℕ) (xs : List Filter) (k : ℕ) (x : Filter) (sets old now later : List ℕ) → x ≡ get_or xs k x → k < length xs
-    → AddedFor tree live opened outer given xs k sets old now → AreAdded live (MayHold opened outer given (λ e. value tree [] e (filter_tree x))) sets now later
-    → AddedFor tree live opened outer given xs (k + 1) sets old later
-added_more tree live opened outer given xs k x sets old now later is low had added = record {
+pub added_more : (t : Tried) (x : Placed) (sets old now later : List ℕ) → AddedFor t x.items x.place sets old now
+    → AreAdded t.live (MayHold t.opened t.outer t.name (λ e. value t.tree [] e (filter_tree x.filter))) sets now later → AddedFor t x.items (x.place + 1) sets old later
+added_more t x sets old now later had added = record {
   count = added.count ∙ had.count;
   grows = λ n s h. added.grows n s (had.grows n s h);
   adds = λ i f n s less at a p h. ⊎_elim
       (λ before. added.grows n s (had.adds i f n s before at a p h))
       (λ same. added.adds n s a
-      (subst (λ g. MayHold opened outer given (λ e. value tree [] e (filter_tree g)) n s) (at ∙ ap (λ j. get_or xs j f) same ∙ filter_default xs k f x low ∙ sym is) p) h)
-      (split_last i k less);
+      (subst (λ g. MayHold t.opened t.outer t.name (λ e. value t.tree [] e (filter_tree g)) n s)
+      (at ∙ ap (λ j. get_or x.items j f) same ∙ filter_default x.items x.place f x.filter x.low ∙ sym x.is) p) h)
+      (split_last i x.place less);
 }
   where
     filter_default : (ys : List Filter) (j : ℕ) (f g : Filter) → j < length ys → get_or ys j f ≡ get_or ys j g
@@ -113,13 +114,13 @@ unfolding value
 holds_in tree e n [] h = cc
 holds_in tree e n (x ∷ xs) h = one_or_later tree e n x xs (holds (value tree [] e (filter_tree x) n)) (list_any holds (values tree [] e (filter_trees xs) n)) refl (holds_in tree e n xs) h
 
-pub added_all : (tree : SearchedTree) (live : List Bool) (opened outer : Names) (given : List ℕ) (xs : List Filter) (k : ℕ) (fs : FilterTrees) (sets old new : List ℕ) → length xs ≤ k → filter_trees xs ≡ fs
-    → AddedFor tree live opened outer given xs k sets old new → AreAdded live (MayHold opened outer given (λ e n. some_holds (values tree [] e fs n))) sets old new
-added_all tree live opened outer given xs k fs sets old new end same had = record {
+pub added_all : (t : Tried) (xs : List Filter) (k : ℕ) (fs : FilterTrees) (sets old new : List ℕ) → length xs ≤ k → filter_trees xs ≡ fs → AddedFor t xs k sets old new
+    → AreAdded t.live (MayHold t.opened t.outer t.name (λ e n. some_holds (values t.tree [] e fs n))) sets old new
+added_all t xs k fs sets old new end same had = record {
   count = had.count;
   grows = had.grows;
   adds = λ n s a p h.
-      let one = holds_in tree p.inner n xs (ap (λ gs. list_any holds (values tree [] p.inner gs n)) same ∙ p.holds_there) in
+      let one = holds_in t.tree p.inner n xs (ap (λ gs. list_any holds (values t.tree [] p.inner gs n)) same ∙ p.holds_there) in
       had.adds one.i one.f n s (omega (arith, one.low, end)) one.is a (record { inner = p.inner; agree = p.agree; binds = p.binds; holds_there = one.holds_there }) h;
 }
 
@@ -127,7 +128,7 @@ added_all tree live opened outer given xs k fs sets old new end same had = recor
 pub some_cut : (live : List Bool) (P : ℕ → ℕ → Type 0) (start kept old new : List ℕ) → AreAdded live P old start kept → AreCut live (λ n s. is_in (get_or kept n 0) s ≡ true) old new → AreCut live P old new
 some_cut live P start kept old new added cut = record { count = cut.count; within = cut.within; keeps = λ n s a p h. cut.keeps n s a (added.adds n s a p h) h }
 
-pub or_cut : (tree : SearchedTree) (live : List Bool) (opened outer : Names) (given : List ℕ) (k : Chain) (fs : FilterTrees) (old new : List ℕ) → k ≡ Or
-    → AreCut live (MayHold opened outer given (λ e n. some_holds (values tree [] e fs n))) old new → AreCut live (MayHold opened outer given (λ e n. chain_of k (values tree [] e fs n))) old new
-or_cut tree live opened outer given k fs old new same =
-    form_cut live opened outer given (λ e n. chain_of k (values tree [] e fs n)) (λ e n. some_holds (values tree [] e fs n)) old new (λ e n. ap (λ c. chain_of c (values tree [] e fs n)) same)
+pub or_cut : (t : Tried) (k : Chain) (fs : FilterTrees) (old new : List ℕ) → k ≡ Or
+    → KeepsHolding t (λ e n. some_holds (values t.tree [] e fs n)) old new → KeepsHolding t (λ e n. chain_of k (values t.tree [] e fs n)) old new
+or_cut t k fs old new same =
+    form_cut t (λ e n. chain_of k (values t.tree [] e fs n)) (λ e n. some_holds (values t.tree [] e fs n)) old new (λ e n. ap (λ c. chain_of c (values t.tree [] e fs n)) same)

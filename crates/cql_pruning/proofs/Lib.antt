@@ -9,4 +9,5 @@ pub mod FreeLaw
 pub mod MoveLaw
 pub mod MovedLaw
 pub mod PairLaw
+pub mod Placing
 pub mod ToldLaw

@@ -113,16 +113,16 @@ left_out false true true is away = cc
 left_out false false promoted is away = cc
 
 -- what holds is found among the nodes that are looked at
-pub met_is : (tree : SearchedTree) (e : Names) (p : Played) (live some : List Bool) (wanted found met : Bool) (n : ℕ) → wanted ≡ is_some (out-Played p).promoted
-    → ArePromoting tree wanted live some → is_live live n ≡ true → found ≡ (is_live some n && met)
-    → (is_live some n ≡ true → as_truth met ≡ as_truth (played_value tree [] e (played_tree p) n)) → as_truth found ≡ as_truth (played_value tree [] e (played_tree p) n)
-met_is tree e p live some wanted found met n asks looked l is there = by_look (is_live some n) refl
+pub met_is : (tree : SearchedTree) (e : Names) (p : Played) (live some : List Bool) (wanted met : Bool) (n : ℕ) → wanted ≡ is_some (out-Played p).promoted
+    → ArePromoting tree wanted live some → is_live live n ≡ true → (is_live some n ≡ true → as_truth met ≡ as_truth (played_value tree [] e (played_tree p) n))
+    → as_truth (is_live some n && met) ≡ as_truth (played_value tree [] e (played_tree p) n)
+met_is tree e p live some wanted met n asks looked l there = by_look (is_live some n) refl
   where
-    by_look : (b : Bool) → is_live some n ≡ b → as_truth found ≡ as_truth (played_value tree [] e (played_tree p) n)
-    by_look true in_ = ap as_truth (is ∙ ap (λ x. x && met) in_) ∙ there in_
+    by_look : (b : Bool) → is_live some n ≡ b → as_truth (is_live some n && met) ≡ as_truth (played_value tree [] e (played_tree p) n)
+    by_look true in_ = ap (λ x. as_truth (x && met)) in_ ∙ there in_
     by_look false out_ =
         let why = left_out (is_live some n) wanted _ (looked.each n ∙ ap (λ x. x && (not wanted || is_promotion (node_at tree.game.nodes n).led_by)) l) out_ in
-        ap as_truth (is ∙ ap (λ x. x && met) out_ ∙ sym (only_promoted tree e p n (sym asks ∙ why.0) why.1))
+        ap as_truth (ap (λ x. x && met) out_ ∙ sym (only_promoted tree e p n (sym asks ∙ why.0) why.1))
 
 pub part_is : (tree : SearchedTree) (e : Names) (live : List Bool) (w : Option (Box Filter Global)) (boxed : Box Filter Global) (f : Filter) (c : FilterColumn) → w ≡ Some boxed → f ≡ boxed.value
     → IsColumn c live (value tree [] e (filter_tree f)) → IsPartColumn tree e live (Some c) (written_tree w)

@@ -18,7 +18,9 @@ use Rattle.cql_syntax.specs.declared.leaves.Chain.TheVariants.{And, All}
 use Rattle.cql_syntax.specs.declared.tree.Played.{Played, out-Played}
 use Rattle.cql_values.proofs.Masks.{above}
 use Rattle.cql_values.proofs.Ranges.{same_any, same_truth, some_square, square_found}
-use Rattle.cql_columns.specs.Columns.{is_live}
+use Rattle.cql_columns.specs.Columns.{is_live, shown}
+use Rattle.cql_columns.specs.Scopes.{tree_in}
+use Rattle.cql_columns.specs.declared.binding.Binding.{Binding}
 use Rattle.cql_columns.proofs.Filling.{split_at}
 use Rattle.cql_columns.proofs.FindLaw.{any_filtered}
 use Rattle.cql_pruning.specs.Covers.{IsFreePart}
@@ -105,47 +107,67 @@ name_part : (tree : SearchedTree) (given : List ℕ) (e : Names) (w : WrittenTre
 unfolding value
 name_part tree given e w s n own = ap (λ x. written_value tree [] ((given, s) ∷ e) x n) own.is ∙ ap Some (own.own.each tree e s n)
 
+-- whether the move to a node is as it is asked for, with a square bound to the name
+abbrev pub went : Binding → Played → ℕ → ℕ → Bool
+went b p n s = played_value (tree_in b.scope.now) [] ((b.name.now, s) ∷ b.scope.now.names.now) (played_tree p) n
+
 -- at a node that is looked at
-moved_is : (tree : SearchedTree) (e : Names) (given : List ℕ) (every : Bool) (p : Played) (x : Value) (set n : ℕ) (met : Bool) (o t q : Option Value)
-    → every ≡ false → AsksGoal ((given, 0) ∷ []) given p → is_in set ≡ has x → o ≡ written_value tree [] e (origin_of p) (before tree n) → t ≡ written_value tree [] e (taken_of p) (before tree n)
-    → q ≡ written_value tree [] e (promoted_of p) n → met ≡ goes_to (led_to tree.game.nodes n) o set t q
-    → as_truth met ≡ square_of every x (λ s. played_value tree [] ((given, s) ∷ e) (played_tree p) n)
-moved_is tree e given true p x set n met o t q some goal same is is_too is_last there = cc
-moved_is tree e given false p x set n met o t q some goal same is is_too is_last there =
-    ap as_truth (there
-    ∙ same_any (λ s. is_in set s && meets_all led o (Some (squares_where (λ u. s == u))) t q) (λ s. has x s && played_value tree [] ((given, s) ∷ e) (played_tree p) n)
-    (λ s low. ap₂ (λ a b. a && b) (ap (λ h. h s) same) (sym (asked s)))
-    ∙ sym (any_filtered (λ s. played_value tree [] ((given, s) ∷ e) (played_tree p) n) (has x) squares))
+moved_is : (b : Binding) (p : Played) (n set : ℕ) (o t q : Option Value) → AsksGoal ((b.name.now, 0) ∷ []) b.name.now p → is_in set ≡ has (shown b.squares.now n)
+    → o ≡ written_value (tree_in b.scope.now) [] b.scope.now.names.now (origin_of p) (before (tree_in b.scope.now) n)
+    → t ≡ written_value (tree_in b.scope.now) [] b.scope.now.names.now (taken_of p) (before (tree_in b.scope.now) n)
+    → q ≡ written_value (tree_in b.scope.now) [] b.scope.now.names.now (promoted_of p) n
+    → as_truth (goes_to (led_to (tree_in b.scope.now).game.nodes n) o set t q) ≡ square_of false (shown b.squares.now n) (went b p n)
+moved_is b p n set o t q goal same is is_too is_last =
+    ap as_truth (same_any (λ s. is_in set s && meets_all led o (Some (squares_where (λ u. s == u))) t q) (λ s. has x s && went b p n s)
+    (λ s low. ap₂ (λ y z. y && z) (ap (λ h. h s) same) (sym (asked s)))
+    ∙ sym (any_filtered (went b p n) (has x) squares))
   where
+    tree : SearchedTree
+    tree = tree_in b.scope.now
+
+    given : List ℕ
+    given = b.name.now
+
+    e : Names
+    e = b.scope.now.names.now
+
+    x : Value
+    x = shown b.squares.now n
+
     led : Option PlainLed
     led = led_to tree.game.nodes n
 
-    asked : (s : ℕ) → played_value tree [] ((given, s) ∷ e) (played_tree p) n ≡ meets_all led o (Some (squares_where (λ u. s == u))) t q
+    asked : (s : ℕ) → went b p n s ≡ meets_all led o (Some (squares_where (λ u. s == u))) t q
     asked s = move_value tree ((given, s) ∷ e) p n
-        ∙ ap₂ (λ a b. meets_all led a b (written_value tree [] ((given, s) ∷ e) (taken_of p) (before tree n)) (written_value tree [] ((given, s) ∷ e) (promoted_of p) n))
+        ∙ ap₂ (λ y z. meets_all led y z (written_value tree [] ((given, s) ∷ e) (taken_of p) (before tree n)) (written_value tree [] ((given, s) ∷ e) (promoted_of p) n))
         (free_part tree given e (origin_of p) s (before tree n) goal.origin ∙ sym is) (name_part tree given e (goal_of p) s n goal.goal)
-        ∙ ap₂ (λ a b. meets_all led o (Some (squares_where (λ u. s == u))) a b)
+        ∙ ap₂ (λ y z. meets_all led o (Some (squares_where (λ u. s == u))) y z)
         (free_part tree given e (taken_of p) s (before tree n) goal.taken ∙ sym is_too) (free_part tree given e (promoted_of p) s n goal.promoted ∙ sym is_last)
 
 none_of : (p : ℕ → Bool) (xs : List ℕ) → ((s : ℕ) → p s ≡ false) → list_any p xs ≡ false
 none_of p [] away = refl
 none_of p (x ∷ xs) away = ap (λ b. b || list_any p xs) (away x) ∙ none_of p xs away
 
-none_asked : (every : Bool) (x : Value) (asked : ℕ → Bool) → every ≡ false → ((s : ℕ) → asked s ≡ false) → as_truth false ≡ square_of every x asked
-none_asked true x asked some away = cc
-none_asked false x asked some away = ap as_truth (sym (none_of asked (filter (has x) squares) away))
+none_asked : (x : Value) (asked : ℕ → Bool) → ((s : ℕ) → asked s ≡ false) → as_truth false ≡ square_of false x asked
+none_asked x asked away = ap as_truth (sym (none_of asked (filter (has x) squares) away))
 
 -- at a node that is asked for, whether or not it is looked at
-pub goal_met_is : (tree : SearchedTree) (e : Names) (given : List ℕ) (every : Bool) (p : Played) (x : Value) (live some : List Bool) (wanted found : Bool) (set n : ℕ) (parts : PartColumns)
-    → every ≡ false → AsksGoal ((given, 0) ∷ []) given p → wanted ≡ is_some (out-Played p).promoted → ArePromoting tree wanted live some
-    → (is_live some n ≡ true → is_in set ≡ has x) → ArePartColumns tree e p some parts → found ≡ (is_live some n && goes_as_asked tree parts set n) → is_live live n ≡ true
-    → as_truth found ≡ square_of every x (λ s. played_value tree [] ((given, s) ∷ e) (played_tree p) n)
-goal_met_is tree e given every p x live some wanted found set n parts one goal asks looked same are is l = by_look (is_live some n) refl
+pub goal_met_is : (b : Binding) (p : Played) (live some : List Bool) (set n : ℕ) (parts : PartColumns) → AsksGoal ((b.name.now, 0) ∷ []) b.name.now p
+    → ArePromoting (tree_in b.scope.now) (is_some (out-Played p).promoted) live some → (is_live some n ≡ true → is_in set ≡ has (shown b.squares.now n))
+    → ArePartColumns (tree_in b.scope.now) b.scope.now.names.now p some parts → is_live live n ≡ true
+    → as_truth (is_live some n && goes_as_asked (tree_in b.scope.now) parts set n) ≡ square_of false (shown b.squares.now n) (went b p n)
+goal_met_is b p live some set n parts goal looked same are l = by_look (is_live some n) refl
   where
-    by_look : (b : Bool) → is_live some n ≡ b → as_truth found ≡ square_of every x (λ s. played_value tree [] ((given, s) ∷ e) (played_tree p) n)
-    by_look true in_ = moved_is tree e given every p x set n found _ _ _ one goal (same in_) (are.origin n in_) (are.taken n in_) (are.promoted n in_)
-        (is ∙ ap (λ b. b && goes_as_asked tree parts set n) in_)
+    tree : SearchedTree
+    tree = tree_in b.scope.now
+
+    wanted : Bool
+    wanted = is_some (out-Played p).promoted
+
+    by_look : (there : Bool) → is_live some n ≡ there → as_truth (is_live some n && goes_as_asked tree parts set n) ≡ square_of false (shown b.squares.now n) (went b p n)
+    by_look true in_ = ap (λ y. as_truth (y && goes_as_asked tree parts set n)) in_
+        ∙ moved_is b p n set _ _ _ goal (same in_) (are.origin n in_) (are.taken n in_) (are.promoted n in_)
     by_look false out_ =
-        let why = left_out (is_live some n) wanted _ (looked.each n ∙ ap (λ b. b && (not wanted || is_promotion (node_at tree.game.nodes n).led_by)) l) out_ in
-        ap as_truth (is ∙ ap (λ b. b && goes_as_asked tree parts set n) out_)
-        ∙ none_asked every x (λ s. played_value tree [] ((given, s) ∷ e) (played_tree p) n) one (λ s. only_promoted tree ((given, s) ∷ e) p n (sym asks ∙ why.0) why.1)
+        let why = left_out (is_live some n) wanted _ (looked.each n ∙ ap (λ y. y && (not wanted || is_promotion (node_at tree.game.nodes n).led_by)) l) out_ in
+        ap (λ y. as_truth (y && goes_as_asked tree parts set n)) out_
+        ∙ none_asked (shown b.squares.now n) (went b p n) (λ s. only_promoted tree ((b.name.now, s) ∷ b.scope.now.names.now) p n why.0 why.1)

@@ -1,4 +1,4 @@
-use Rattle.std.proofs.Common.{arith, refl}
+use Rattle.std.proofs.Common.{arith}
 use Rattle.cql_pruning.proofs.CoverLaw.{cut_none, cut_more, cut_all}
 use Rattle.cql_pruning.proofs.covers.cut.Goals as goal
 
@@ -7,8 +7,8 @@ loop-n-init c = cut_none c.args.live.now _ c.args.sets.now
 
 pub loop-n-preserved : goal.loop-n-preserved
 loop-n-preserved c =
-    cut_more c.args.live.now _ c.args.sets.now c.loop-n.sets _ c.loop-n.n _ c.cut_one.result _
-    (omega (arith, c.loop-n-test.true, c.loop-n.invariant.count, c.requires)) (omega (arith, c.loop-n-test.true)) refl c.cut_one.ensures c.loop-n.invariant
+    cut_more c.args.live.now _ c.args.sets.now c.loop-n.sets c.loop-n.n _ c.cut_one.result _
+    (omega (arith, c.loop-n-test.true, c.loop-n.invariant.count, c.requires)) (omega (arith, c.loop-n-test.true)) c.cut_one.ensures c.loop-n.invariant
 
 pub returns : goal.returns
 returns c = cut_all c.args.live.now _ c.args.sets.now c.loop-n.sets c.loop-n.n (omega (arith, c.loop-n-test.false)) c.loop-n.invariant

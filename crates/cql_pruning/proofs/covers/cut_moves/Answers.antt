@@ -1,4 +1,4 @@
-use Rattle.std.proofs.Common.{arith, refl}
+use Rattle.std.proofs.Common.{arith}
 use Rattle.cql_pruning.proofs.CoverLaw.{cut_none, cut_more, cut_all}
 use Rattle.cql_pruning.proofs.covers.cut_moves.Goals as goal
 
@@ -7,9 +7,9 @@ loop-n-init c = cut_none c.args.live.now _ c.args.sets.now
 
 pub loop-n-preserved : goal.loop-n-preserved
 loop-n-preserved c =
-    cut_more c.args.live.now _ c.args.sets.now c.loop-n.sets _ c.loop-n.n _ c.move_one.result _
+    cut_more c.args.live.now _ c.args.sets.now c.loop-n.sets c.loop-n.n _ c.move_one.result _
     (omega (arith, c.loop-n-test.true, c.len-n-end.ensures.len, c.loop-n.invariant.count, c.requires.count, c.requires.asked.count))
-    (omega (arith, c.loop-n-test.true, c.len-n-end.ensures.len, c.requires.asked.count)) refl c.move_one.ensures c.loop-n.invariant
+    (omega (arith, c.loop-n-test.true, c.len-n-end.ensures.len, c.requires.asked.count)) c.move_one.ensures c.loop-n.invariant
 
 pub returns : goal.returns
 returns c =

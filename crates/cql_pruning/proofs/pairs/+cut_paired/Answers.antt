@@ -1,23 +1,19 @@
 use Rattle.std.proofs.Common.{◌∙◌, ap, ap₂, sym, refl}
 use Rattle.cql_syntax.specs.Trees.{filter_at, pair, square}
 use Rattle.cql_syntax.specs.TreeOf.{filter_tree, form_tree, filters_tree}
-use Rattle.cql_columns.specs.Scopes.{tree_in}
-use Rattle.cql_columns.specs.Columns.{shown}
 use Rattle.cql_pruning.proofs.CoverLaw.{cut_same}
 use Rattle.cql_pruning.proofs.PairLaw.{paired_chain, paired_square, paired_pair, paired_all, paired_one, paired_third}
 use Rattle.cql_pruning.proofs.pairs.+cut_paired.Goals as goal
 
 pub cut_paired-returns-in-Chain-clause-cut : goal.cut_paired-returns-in-Chain-clause-cut
 cut_paired-returns-in-Chain-clause-cut t c =
-    paired_chain (tree_in c.args.paired.now.scope.now) c.args.paired.now.live.now c.args.paired.now.name.now c.args.paired.now.other.now
-    (shown c.args.paired.now.column.now) (filter_tree c.args.asked.now)
+    paired_chain c.args.paired.now (filter_tree c.args.asked.now)
     c.args.asked.now.at c.in-Chain.chain (filters_tree c.in-Chain.parts) c.args.sets.now c.cut_chain.new.sets
     (ap (λ form. filter_at c.args.asked.now.at (form_tree form)) c.in-Chain.is) c.cut_chain.ensures.cut
 
 pub cut_paired-returns-in-Square-clause-cut : goal.cut_paired-returns-in-Square-clause-cut
 cut_paired-returns-in-Square-clause-cut t c =
-    paired_square (tree_in c.args.paired.now.scope.now) c.args.paired.now.live.now c.args.paired.now.name.now c.args.paired.now.other.now
-    (shown c.args.paired.now.column.now) (filter_tree c.args.asked.now)
+    paired_square c.args.paired.now (filter_tree c.args.asked.now)
     (filter_tree c.in-Square.field-2.value) (filter_tree c.deref.result.now) c.args.asked.now.at c.in-Square.every c.as_slice-third.result.now
     c.args.sets.now c.cut_third.new.sets
     (ap (λ form. filter_at c.args.asked.now.at (form_tree form)) c.in-Square.is
@@ -27,8 +23,7 @@ cut_paired-returns-in-Square-clause-cut t c =
 
 pub cut_paired-returns-in-Pair-clause-cut : goal.cut_paired-returns-in-Pair-clause-cut
 cut_paired-returns-in-Pair-clause-cut t c =
-    paired_pair (tree_in c.args.paired.now.scope.now) c.args.paired.now.live.now c.args.paired.now.name.now c.args.paired.now.other.now
-    (shown c.args.paired.now.column.now) (filter_tree c.args.asked.now)
+    paired_pair c.args.paired.now (filter_tree c.args.asked.now)
     (filter_tree c.deref-in-Pair.result.now) (filter_tree c.deref-in-Pair-2.result.now) c.args.asked.now.at c.in-Pair.pair c.args.sets.now c.cut_pair.new.sets
     (ap (λ form. filter_at c.args.asked.now.at (form_tree form)) c.in-Pair.is
     ∙ sym (ap₂ (λ p q. filter_at c.args.asked.now.at (pair c.in-Pair.pair (filter_tree p) (filter_tree q))) c.deref-in-Pair.ensures c.deref-in-Pair-2.ensures))
@@ -36,8 +31,7 @@ cut_paired-returns-in-Pair-clause-cut t c =
 
 pub cut_chain-returns-clause-cut : goal.cut_chain-returns-clause-cut
 cut_chain-returns-clause-cut t c =
-    paired_all (tree_in c.args.paired.now.scope.now) c.args.paired.now.live.now c.args.paired.now.name.now c.args.paired.now.other.now
-    (shown c.args.paired.now.column.now) c.args.chain (filters_tree c.args.parts.now)
+    paired_all c.args.paired.now c.args.chain (filters_tree c.args.parts.now)
     c.args.sets.now c.cut_each.new.sets (c.is_all.ensures c.if-not-is_all.false) c.cut_each.ensures.cut
 
 pub cut_each-loop-part-init : goal.cut_each-loop-part-init
@@ -45,16 +39,20 @@ cut_each-loop-part-init t c = cut_same c.args.paired.now.live.now _ c.args.sets.
 
 pub cut_each-loop-part-preserved : goal.cut_each-loop-part-preserved
 cut_each-loop-part-preserved t c =
-    paired_one (tree_in c.args.paired.now.scope.now) c.args.paired.now.live.now c.args.paired.now.name.now c.args.paired.now.other.now
-    (shown c.args.paired.now.column.now) c.as_slice-part-items.result.now c.loop-part.part-index
-    c.part-item.result (filters_tree c.args.parts.now) c.args.sets.now c.loop-part.sets c.cut_paired.new.sets c.loop-part-test.true c.part-item.is
-    c.as_slice-part-items.ensures.tree
+    paired_one c.args.paired.now
+    (record {
+      items = c.as_slice-part-items.result.now;
+      place = c.loop-part.part-index;
+      filter = c.part-item.result;
+      low = c.loop-part-test.true;
+      is = c.part-item.is;
+    })
+    (filters_tree c.args.parts.now) c.args.sets.now c.loop-part.sets c.cut_paired.new.sets c.as_slice-part-items.ensures.tree
     c.loop-part.invariant c.cut_paired.ensures.cut
 
 pub cut_third-returns-clause-cut : goal.cut_third-returns-clause-cut
 cut_third-returns-clause-cut t c =
-    paired_third (tree_in c.args.paired.now.scope.now) c.args.paired.now.live.now c.args.paired.now.name.now c.args.paired.now.other.now
-    c.args.third.now (shown c.args.paired.now.column.now) (filter_tree c.args.part.now)
+    paired_third c.args.paired.now c.args.third.now (filter_tree c.args.part.now)
     c.args.every c.args.sets.now c.cut_paired.new.sets (c.is_third.ensures.some c.if-not-is_third.false) (c.is_third.ensures.first c.if-not-is_third.false)
     (c.is_third.ensures.second c.if-not-is_third.false) c.cut_paired.ensures.cut
 
