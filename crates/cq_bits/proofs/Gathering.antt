@@ -64,11 +64,18 @@ module _ (left : ℕ) (some : 0 < left) (fits : left < 2 ^ 64) where
 pub smaller : (left square bit : ℕ) → 0 < left → left < 2 ^ 64 → square ≡ trailing_zeros w64 left → bit ≡ square → cleared left bit < left
 smaller left square bit some fits e f = subst (λ q. cleared left q < left) (sym (f ∙ e)) (shorter left some fits)
 
-pub more : (P : ℕ → ℕ → Type 0) (set left found one square bit : ℕ) → 0 < left → left < 2 ^ 64 → square ≡ trailing_zeros w64 left → bit ≡ square
+-- the lowest square of what is left, and its bit
+pub record IsLowest (left square bit : ℕ) : Type 0 where
+  pub some : 0 < left
+  pub fits : left < 2 ^ 64
+  pub lowest : square ≡ trailing_zeros w64 left
+  pub same : bit ≡ square
+
+pub more : (P : ℕ → ℕ → Type 0) (set left found one square bit : ℕ) → IsLowest left square bit
     → IsSetOf one (λ s. P s square) → IsGathered P set left found → IsGathered P set (cleared left bit) (bit_or found one)
-more P set left found one square bit some fits e f new so_far =
-    subst (λ q. IsGathered P set (cleared left q) (bit_or found one)) (sym (f ∙ e))
-    (one_more left some fits P set found one (subst (λ q. IsSetOf one (λ s. P s q)) e new) so_far)
+more P set left found one square bit next new so_far =
+    subst (λ q. IsGathered P set (cleared left q) (bit_or found one)) (sym (next.same ∙ next.lowest))
+    (one_more left next.some next.fits P set found one (subst (λ q. IsSetOf one (λ s. P s q)) next.lowest new) so_far)
 
 pub gathered_all : (P : ℕ → ℕ → Type 0) (set left found : ℕ) → left ≡ 0 → IsGathered P set left found → IsSetOf found (λ s. (t : ℕ) × (t < 64) × Has set t × P s t)
 gathered_all P set left found none so_far s low = (

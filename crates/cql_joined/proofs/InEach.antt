@@ -446,8 +446,8 @@ pub first_alone : (xs : List Filter) (x : Filter) → 0 < length xs → x ≡ ge
 first_alone [] x low is = absurd (omega (arith, low))
 first_alone (y ∷ ys) x low is = ap (λ z. alone (filter_tree z)) (sym is)
 
-pub rests_begun : (xs all : List Filter) (x : Filter) (i j : ℕ) (common parts rest : FilterTrees) → 0 < length xs → x ≡ get_or xs 0 x → xs ≡ all
-    → filter_tree x ≡ filter_at i (chain All parts) → AreDivided parts common rest → AreRests common (filter_trees (take 1 all)) (alone (filter_at j (chain All rest)))
-rests_begun xs all x i j common parts rest low at same is had =
-    let first = ap (λ ys. filter_trees (take 1 ys)) (sym same) ∙ first_alone xs x low at ∙ ap alone is in
+pub rests_begun : (xs : List Filter) (x : Filter) (i j : ℕ) (common parts rest : FilterTrees) → 0 < length xs → x ≡ get_or xs 0 x
+    → filter_tree x ≡ filter_at i (chain All parts) → AreDivided parts common rest → AreRests common (filter_trees (take 1 xs)) (alone (filter_at j (chain All rest)))
+rests_begun xs x i j common parts rest low at is had =
+    let first = first_alone xs x low at ∙ ap alone is in
     subst (λ fs. AreRests common fs (alone (filter_at j (chain All rest)))) (sym first) (rests_first i j common parts rest had)

@@ -51,11 +51,14 @@ pub exact_first : (spots : List Spot) (atoms s : ℕ)
     → s + atoms * searched_count (take (length spots - 0) spots) ≡ s + atoms * searched_count spots
 exact_first spots atoms s = ap (λ l. s + atoms * searched_count l) (take_all (length spots - 0) spots (omega arith))
 
-pub exact_down : (spots : List Spot) (atoms a b s n behind here : ℕ) → n < length spots → behind ≡ n + 1 → here ≡ n
+pub exact_down : (spots : List Spot) (atoms a b s turn n : ℕ) → n + turn + 1 ≡ length spots
     → (is_searched spots n ≡ false → b ≡ a) → (is_searched spots n ≡ true → b ≡ a + atoms)
-    → a + atoms * searched_count (take behind spots) ≡ s + atoms * searched_count spots
-    → b + atoms * searched_count (take here spots) ≡ s + atoms * searched_count spots
-exact_down spots atoms a b s n behind here low e f none each was =
+    → a + atoms * searched_count (take (length spots - turn) spots) ≡ s + atoms * searched_count spots
+    → b + atoms * searched_count (take (length spots - (turn + 1)) spots) ≡ s + atoms * searched_count spots
+exact_down spots atoms a b s turn n all none each was =
+    let low : n < length spots = omega arith in
+    let e : length spots - turn ≡ n + 1 = omega arith in
+    let f : length spots - (turn + 1) ≡ n = omega arith in
     let before : a + atoms * searched_count (take (n + 1) spots) ≡ s + atoms * searched_count spots =
     subst (λ k. a + atoms * searched_count (take k spots) ≡ s + atoms * searched_count spots) e was in
     subst (λ k. b + atoms * searched_count (take k spots) ≡ s + atoms * searched_count spots) (sym f)

@@ -40,10 +40,14 @@ get_either (x ∷ xs) ys (suc i) r e = elim (get_either xs ys i r e) [
   | inr b ↦ inr b
 ]
 
-times_atoms : (row : Next → ℕ → List Rule) (first : ℕ → ℕ) (b : Bool) (len : ℕ) (atoms : ℕ) → ((next : Next) (k i : ℕ) (r : Rule) → slice_get (row next k) i ≡ Some r → r.atom < atoms)
-    → (m n : ℕ) (next : Next) (k i : ℕ) (r : Rule) → slice_get (rows_times row first b len m n next k) i ≡ Some r → r.atom < atoms
-times_atoms row first b len atoms few m zero next k i r e = absurd (cc)
-times_atoms row first b len atoms few m (suc n) next k i r e =
+-- rules ask for the first so many atoms alone
+abbrev RulesBelow : List Rule → ℕ → Type 0
+RulesBelow rules atoms = (i : ℕ) (r : Rule) → slice_get rules i ≡ Some r → r.atom < atoms
+
+times_atoms : (row : Next → ℕ → List Rule) (first : ℕ → ℕ) (b : Bool) (len atoms : ℕ) → ((next : Next) (k : ℕ) → RulesBelow (row next k) atoms)
+    → (m n : ℕ) (next : Next) (k : ℕ) → RulesBelow (rows_times row first b len m n next k) atoms
+times_atoms row first b len atoms few m zero next k = λ i r e. absurd (cc)
+times_atoms row first b len atoms few m (suc n) next k = λ i r e.
     elim (get_either (rows_times row first b len (m - 1) n next k) (row (begins (firsts_times first b len n k) (null_times b (m - 1) n) next) (k + n * len)) i r e) [
       | inl x ↦ times_atoms row first b len atoms few (m - 1) n next k x.0 r x.1
       | inr y ↦ few (begins (firsts_times first b len n k) (null_times b (m - 1) n) next) (k + n * len) y.0 r y.1

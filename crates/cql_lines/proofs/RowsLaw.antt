@@ -18,11 +18,14 @@ zeros zero i = refl
 zeros (suc n) zero = refl
 zeros (suc n) (suc i) = zeros n i
 
+-- the first places of a row have the values of their rules
+abbrev pub HasFirst : List Rule → (value : Rule → ℕ) → ℕ → List ℕ → Type 0
+HasFirst rules value n own = (i : ℕ) (r : Rule) → i < n → slice_get rules i ≡ Some r → at own i ≡ value r
+
 -- a row that is filled place by place
 pub here_more : (rules : List Rule) (own : List ℕ) (n v : ℕ) (value : Rule → ℕ) (d : Rule) → length own ≡ 64 → n < 64 → v ≡ value (get_or rules n d)
-    → ((i : ℕ) (r : Rule) → i < n → slice_get rules i ≡ Some r → at own i ≡ value r)
-    → (i : ℕ) (r : Rule) → i < n + 1 → slice_get rules i ≡ Some r → at (slice_set own n v) i ≡ value r
-here_more rules own n v value d size low is before i r less e = elim (cases_eq i n) [
+    → HasFirst rules value n own → HasFirst rules value (n + 1) (slice_set own n v)
+here_more rules own n v value d size low is before = λ i r less e. elim (cases_eq i n) [
   | inl same ↦ ap (λ k. at (slice_set own n v) k) same ∙ get_or-set_same own n v 0 (omega arith) ∙ is ∙ ap (λ k. value (get_or rules k d)) (sym same) ∙ ap value (get_or_from_slice_get rules i r d e)
   | inr other ↦ get_or-set_other own n i v 0 other ∙ before i r (omega arith) e
 ]

@@ -79,12 +79,14 @@ stands_first Known none words rules primary spots rows size blank = record {
       let both = sym off ∙ l.2 in cc));
 }
 
+-- the nodes whose turn it was, from the last one, have their answers
+abbrev pub HasAnswers : (ℕ → ℕ → Type 0) → (searched : ℕ → Bool) → (size turn : ℕ) → List (Option ℕ) → Type 0
+HasAnswers P searched size turn values = (n : ℕ) → size ≤ n + turn → n < size → AnswerAt (searched n) (P n) (get_or values n None)
+
 -- one answer more
 pub done_more : (P : ℕ → ℕ → Type 0) (searched : ℕ → Bool) (size : ℕ) (values : List (Option ℕ)) (v : Option ℕ) (turn node : ℕ) → length values ≡ size → node + turn + 1 ≡ size
-    → AnswerAt (searched node) (P node) v
-    → ((n : ℕ) → size ≤ n + turn → n < size → AnswerAt (searched n) (P n) (get_or values n None))
-    → (n : ℕ) → size ≤ n + (turn + 1) → n < size → AnswerAt (searched n) (P n) (get_or (slice_set values node v) n None)
-done_more P searched size values v turn node len e here before n late low = elim (cases_eq n node) [
+    → AnswerAt (searched node) (P node) v → HasAnswers P searched size turn values → HasAnswers P searched size (turn + 1) (slice_set values node v)
+done_more P searched size values v turn node len e here before = λ n late low. elim (cases_eq n node) [
   | inl is ↦
       let set : get_or (slice_set values node v) n None ≡ v = ap (λ k. get_or (slice_set values node v) k None) is ∙ get_or-set_same values node v None (omega arith) in
       subst (AnswerAt (searched n) (P n)) (sym set) (subst (λ k. AnswerAt (searched k) (P k) v) (sym is) here)

@@ -17,14 +17,12 @@ chosen_snoc choose [] v a b is here = cc
 chosen_snoc choose (w ∷ vs) v a b is here =
     ap₂ (of_both (λ x y. Some (choose x y))) is (sym here) ∙ sym (fold-append (λ c u. of_both (λ x y. Some (choose x y)) c (amount u)) (amount w) vs (v ∷ []))
 
-pub key_next : (least : Bool) (row : List (Option ℤ)) (nodes : List ℕ) (k n d : ℕ) (key value later : ℤ) → k < length nodes → n ≡ get_or nodes k d → get_or row n None ≡ Some value
-    → later ≡ chosen least key value
-    → Some key ≡ key_in least row (take k nodes) → Some later ≡ key_in least row (take (k + 1) nodes)
-key_next least row nodes k n d key value later low is here more had =
-    ap Some more
-    ∙ chosen_snoc (chosen least) (map shown (take k nodes)) (shown n) key value had here
+pub key_next : (least : Bool) (row : List (Option ℤ)) (nodes : List ℕ) (k d : ℕ) (key value : ℤ) → k < length nodes → get_or row (get_or nodes k d) None ≡ Some value
+    → Some key ≡ key_in least row (take k nodes) → Some (chosen least key value) ≡ key_in least row (take (k + 1) nodes)
+key_next least row nodes k d key value low here had =
+    let n = get_or nodes k d in
+    chosen_snoc (chosen least) (map shown (take k nodes)) (shown n) key value had here
     ∙ ap (chosen_from (chosen least)) (sym (map_snoc shown (take k nodes) n))
-    ∙ ap (λ i. key_in least row (take k nodes ++ i ∷ [])) is
     ∙ ap (key_in least row) (sym (take_more nodes k d low))
   where
     shown : ℕ → Value

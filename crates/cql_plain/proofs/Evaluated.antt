@@ -41,17 +41,15 @@ kept_snoc : {A B : Type 0} (test : A → Bool) (f : A → B) (xs : List A) (x : 
 kept_snoc test f [] x = kept_one f x (test x)
 kept_snoc test f (y ∷ xs) x = kept_after f y (filter test xs) (filter test (xs ++ x ∷ [])) (option_to_list (if test x then Some (f x) else None)) (test y) (kept_snoc test f xs x)
 
-map_more : (xs : List Kept) (o : Option Kept) → map meant (xs ++ option_to_list o) ≡ map meant xs ++ option_to_list (option_map meant o)
+pub map_more : (xs : List Kept) (o : Option Kept) → map meant (xs ++ option_to_list o) ≡ map meant xs ++ option_to_list (option_map meant o)
 map_more xs None = ap (map meant) (append-nil xs) ∙ sym (append-nil (map meant xs))
 map_more xs (Some v) = map_snoc meant xs v
 
 -- one more member, with which the part fits or not
-pub members_more : (tree : SearchedTree) (g : Context) (e : Names) (n : ℕ) (ms : List PlainMapping) (k : ℕ) (h : PlainMapping) (f : FilterTree) (before later : List Kept) (o : Option Kept)
-    → Some h ≡ slice_get ms k → map meant before ≡ values_in_members tree g e (take k ms) f n → option_map meant o ≡ value_in_member tree g e h f n → later ≡ before ++ option_to_list o
-    → map meant later ≡ values_in_members tree g e (take (k + 1) ms) f n
-members_more tree g e n ms k h f before later o is had new more =
-    ap (map meant) more ∙ map_more before o ∙ ap (λ vs. vs ++ option_to_list (option_map meant o)) had ∙ ap (λ w. values_in_members tree g e (take k ms) f n ++ option_to_list w) new
-    ∙ sym (ap (λ xs. values_in_members tree g e xs f n) (take_get ms k h is) ∙ ap (λ l. map (λ x. value tree x e f n) (filter (λ x. fits x f) l)) (map_snoc (λ m. m ∷ g) (take k ms) h)
+pub members_more : (tree : SearchedTree) (g : Context) (e : Names) (n : ℕ) (ms : List PlainMapping) (k : ℕ) (h : PlainMapping) (f : FilterTree) → Some h ≡ slice_get ms k
+    → values_in_members tree g e (take k ms) f n ++ option_to_list (value_in_member tree g e h f n) ≡ values_in_members tree g e (take (k + 1) ms) f n
+members_more tree g e n ms k h f is =
+    sym (ap (λ xs. values_in_members tree g e xs f n) (take_get ms k h is) ∙ ap (λ l. map (λ x. value tree x e f n) (filter (λ x. fits x f) l)) (map_snoc (λ m. m ∷ g) (take k ms) h)
     ∙ kept_snoc (λ x. fits x f) (λ x. value tree x e f n) (map (λ m. m ∷ g) (take k ms)) (h ∷ g))
 
 -- one square settles it, and none so far does
@@ -66,8 +64,8 @@ never_settled every x asked set n is end e =
     sym (by_settling every x asked false (sym (ap (λ h. list_any (settles every h asked) (range_with_len 0 64)) is
     ∙ ap (λ k. list_any (settles every (is_in set) asked) (range_with_len 0 k)) (sym end) ∙ e)))
 
-pub none_more : (test : ℕ → Bool) (n : ℕ) (b : Bool) → b ≡ test n → b ≡ false → list_any test (range_with_len 0 n) ≡ false → list_any test (range_with_len 0 (n + 1)) ≡ false
-none_more test n b is fails had = any_last test n ∙ ap (λ t. t || test n) had ∙ sym is ∙ fails
+pub none_more : (test : ℕ → Bool) (n : ℕ) → test n ≡ false → list_any test (range_with_len 0 n) ≡ false → list_any test (range_with_len 0 (n + 1)) ≡ false
+none_more test n fails had = any_last test n ∙ ap (λ t. t || test n) had ∙ fails
 
 -- a family's filter
 pub family_is : (tree : SearchedTree) (g : Context) (e : Names) (family : Family) (part whole : FilterTree) (at n : ℕ) → whole ≡ filter_at at (transform family part)

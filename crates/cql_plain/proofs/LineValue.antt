@@ -1,12 +1,14 @@
 -- What a line gives, by the type of lines.
-use Rattle.std.proofs.Common.{◌≡◌, ℕ, Bool, true, false, pos, List, ◌∷◌, length, replicate, Option, option_map, subst}
+use Rattle.std.proofs.Common.{◌≡◌, ℕ, Bool, true, false, pos, List, ◌∷◌, length, replicate, Option, option_map, refl, subst}
 use denote.Hole.Carrier as Carrier
 use Rattle.cq_position.specs.Games.{IsTree}
 use Rattle.cq_position.specs.Search.{SearchedTree}
+use Rattle.cq_common.specs.Spelling.{Pattern}
 use Rattle.cql_syntax.specs.Contexts.{Context}
 use Rattle.cql_syntax.specs.Meaning.{Names, pattern, line_value, value}
 use Rattle.cql_syntax.specs.TreeOf.{line_tree, parts_tree}
-use Rattle.cql_syntax.specs.Values.{as_number}
+use Rattle.cql_syntax.specs.Values.{Value, as_number}
+use Rattle.cql_syntax.specs.declared.extents.Extent.{Extent}
 use Rattle.cql_syntax.specs.declared.tree.Line.{Line as OneLine, Line', out-Line}
 use Rattle.cql_plain.specs.Lines.{EndsOf}
 use Rattle.cq_common.specs.Greatest.{IsGreatest}
@@ -14,13 +16,18 @@ use Rattle.cql_plain.specs.Paths.{ArePaths, IsLength}
 use Rattle.cql_plain.specs.declared.paths.Reached.{Reached}
 use Rattle.cql_plain.proofs.LineLaw.{line_law}
 
-pub line_is : (tree : SearchedTree) → IsTree tree.game.nodes
-    → (g : Context) (e : Names) (l : OneLine) (n : ℕ) (steps steps_1 steps_2 : List (Option Reached)) (starts starts_1 ends ends_1 : List Bool) (o : Option ℕ)
-    → ArePaths tree (out-Line l).back (out-Line l).primary n steps → starts ≡ true ∷ replicate (length steps) false → steps_1 ≡ steps → starts_1 ≡ starts
-    → EndsOf steps_1 (pattern tree g e (parts_tree (out-Line l).parts)) starts_1 ends → steps_2 ≡ steps → ends_1 ≡ ends
-    → IsGreatest (IsLength steps_2 ends_1 (out-Line l).extent) o → as_number (option_map pos o) ≡ line_value tree g e (line_tree l) n
+-- the same of equal lists
+pub ends_of : (p : Pattern (ℕ → Value)) (steps same : List (Option Reached)) (starts begun ends : List Bool) → same ≡ steps → begun ≡ starts → EndsOf same p begun ends
+    → EndsOf steps p starts ends
+ends_of p steps same starts begun ends is from found = subst (λ s. EndsOf s p starts ends) is (subst (λ t. EndsOf same p t ends) from found)
+
+pub greatest_of : (extent : Extent) (steps same : List (Option Reached)) (ends found : List Bool) (o : Option ℕ) → same ≡ steps → found ≡ ends → IsGreatest (IsLength same found extent) o
+    → IsGreatest (IsLength steps ends extent) o
+greatest_of extent steps same ends found o is to best = subst (λ s. IsGreatest (IsLength s ends extent) o) is (subst (λ x. IsGreatest (IsLength same x extent) o) to best)
+
+pub line_is : (tree : SearchedTree) → IsTree tree.game.nodes → (g : Context) (e : Names) (l : OneLine) (n : ℕ) (steps : List (Option Reached)) (ends : List Bool) (o : Option ℕ)
+    → ArePaths tree (out-Line l).back (out-Line l).primary n steps → EndsOf steps (pattern tree g e (parts_tree (out-Line l).parts)) (true ∷ replicate (length steps) false) ends
+    → IsGreatest (IsLength steps ends (out-Line l).extent) o → as_number (option_map pos o) ≡ line_value tree g e (line_tree l) n
 unfolding value out-Line Carrier.out
-line_is tree is_tree g e (Line' back primary extent cs) n steps steps_1 steps_2 starts starts_1 ends ends_1 o all is s1 t1 found s2 e1 best =
-    let found_here = subst (λ s. EndsOf s (pattern tree g e (parts_tree cs)) starts ends) s1 (subst (λ t. EndsOf steps_1 (pattern tree g e (parts_tree cs)) t ends) t1 found) in
-    let best_here = subst (λ s. IsGreatest (IsLength s ends extent) o) s2 (subst (λ x. IsGreatest (IsLength steps_2 x extent) o) e1 best) in
-    line_law tree is_tree back primary n steps all extent (pattern tree g e (parts_tree cs)) starts ends is found_here o best_here
+line_is tree is_tree g e (Line' back primary extent cs) n steps ends o all found best =
+    line_law tree is_tree back primary n steps all extent (pattern tree g e (parts_tree cs)) (true ∷ replicate (length steps) false) ends refl found o best

@@ -1,7 +1,6 @@
 //! What a filter gives at a node, by recursion on the filter.
-ghost use Rattle.std.specs.Prelude.{◌≡◌, ◌<◌, ◌∷◌, length, map, All, IfOk, OnOk, option_map, option_to_list, ◌++◌};
+ghost use Rattle.std.specs.Prelude.{◌≡◌, ◌<◌, ◌∷◌, true, length, map, All, IfOk, OnOk, option_map, option_to_list, ◌++◌};
 ghost use Rattle.cq_position.specs.Games.{IsTree};
-ghost use Rattle.cq_symmetry.specs.Images.{is_in};
 ghost use Rattle.cq_symmetry.specs.Families.{members};
 ghost use Rattle.cql_syntax.specs.Contexts as contexts;
 ghost use Rattle.cql_syntax.specs.Headers as headers;
@@ -285,20 +284,19 @@ fn square_at(
     let set = squares.squares();
     for number in 0..64 {
         let square = Square::new(number);
-        if decides(alloc, every, name, set, square, asked, scope, node)? {
+        if has_square(set, square) && decides(alloc, every, name, square, asked, scope, node)? {
             return Ok(Value::Truth(!every));
         }
     }
     Ok(Value::Truth(every))
 }
 
-// Whether a square is one of a set and settles what is asked of every square of it, or of some.
+// Whether a square settles what is asked of every square, or of some.
 #[cycle(evaluate)]
 fn decides(
     alloc: Global,
     every: bool,
     name: &[u8],
-    set: u64,
     square: Square,
     asked: &Filter,
     scope: &Scope,
@@ -306,13 +304,10 @@ fn decides(
 ) -> Result<bool, NoMemory>
     requires tree { IsTree scope.now.game.now.nodes }
     requires node { node < length scope.now.game.now.nodes }
-    ensures { IfOk result (λ b. b ≡ settles every (is_in set)
+    ensures { IfOk result (λ b. b ≡ settles every (λ s. true)
         (λ s. spec.holds (meaning.value (tree_in scope.now) scope.now.context.now
         ((name.now, s) ∷ scope.now.names.now) (filter_tree asked.now) node)) square) }
 {
-    if !has_square(set, square) {
-        return Ok(false);
-    }
     let names = scope.names.with(alloc, name, square)?;
     let inner = Scope {
         names: &names,

@@ -90,14 +90,22 @@ pub row_key : (tree : SearchedTree) (nodes : List ℕ) (row : List (Option ℤ))
     → key_in least row nodes ≡ key_of least (map (value tree [] [] f) nodes)
 row_key tree nodes row f least is = chosen_same (chosen least) (λ n. as_number (get_or row n None)) (value tree [] [] f) nodes is.entries
 
-pub key_added : (tree : SearchedTree) (nodes : List ℕ) (rows : List (List (Option ℤ))) (old new : List ℤ) (key : ℤ) (item part : FilterTree) (at : ℕ) (least : Bool) (text : List ℕ)
-    → item ≡ filter_at at (sort least text part)
-    → AreRowsFrom tree nodes rows (length old) (item_numbers item) → new ≡ old ++ key ∷ [] → Some key ≡ key_in least (get_or rows (length old) []) nodes
-    → map Some new ≡ map Some old ++ item_keys tree nodes item
-key_added tree nodes rows old new key item part at least text is are more found =
-    let row = subst (λ g. AreRowsFrom tree nodes rows (length old) (item_numbers g)) is are in
-    ap (map Some) more ∙ map_snoc old key ∙ ap (λ o. map Some old ++ o ∷ []) (found ∙ row_key tree nodes (get_or rows (length old) []) part least row.1)
-    ∙ ap (λ g. map Some old ++ item_keys tree nodes g) (sym is)
+-- an item that sorts by a part, by its least value or its greatest
+pub record IsSort (item part : FilterTree) (least : Bool) : Type 0 where
+  pub at : ℕ
+  pub text : List ℕ
+  pub is : item ≡ filter_at at (sort least text part)
+
+pub sorts_by : (item part : FilterTree) (at : ℕ) (least : Bool) (text : List ℕ) → item ≡ filter_at at (sort least text part) → IsSort item part least
+sorts_by item part at least text is = record { at = at; text = text; is = is }
+
+pub key_added : (tree : SearchedTree) (nodes : List ℕ) (rows : List (List (Option ℤ))) (old : List ℤ) (key : ℤ) (item part : FilterTree) (least : Bool) → IsSort item part least
+    → AreRowsFrom tree nodes rows (length old) (item_numbers item) → Some key ≡ key_in least (get_or rows (length old) []) nodes
+    → map Some (old ++ key ∷ []) ≡ map Some old ++ item_keys tree nodes item
+key_added tree nodes rows old key item part least sorts are found =
+    let row = subst (λ g. AreRowsFrom tree nodes rows (length old) (item_numbers g)) sorts.is are in
+    map_snoc old key ∙ ap (λ o. map Some old ++ o ∷ []) (found ∙ row_key tree nodes (get_or rows (length old) []) part least row.1)
+    ∙ ap (λ g. map Some old ++ item_keys tree nodes g) (sym sorts.is)
   where
     map_snoc : (xs : List ℤ) (x : ℤ) → map Some (xs ++ x ∷ []) ≡ map Some xs ++ Some x ∷ []
     map_snoc [] x = refl
@@ -113,20 +121,17 @@ hits_told tree items hits nodes is are = subst (All (λ n. get_or hits n false �
     column_hit tree items hits n is low ∙ ap₂ (λ a b. a && b) (hit_searched tree items i d below) (hits_hit tree items i d below))
 
 -- the row of a sort item
-pub sort_row : (tree : SearchedTree) (nodes : List ℕ) (rows : List (List (Option ℤ))) (k : ℕ) (item part : FilterTree) (at : ℕ) (least : Bool) (text : List ℕ)
-    → item ≡ filter_at at (sort least text part)
+pub sort_row : (tree : SearchedTree) (nodes : List ℕ) (rows : List (List (Option ℤ))) (k : ℕ) (item part : FilterTree) (least : Bool) → IsSort item part least
     → AreRowsFrom tree nodes rows k (item_numbers item) → (k < length rows) × IsRowOf tree nodes (get_or rows k []) part
-sort_row tree nodes rows k item part at least text is are = let row = subst (λ g. AreRowsFrom tree nodes rows k (item_numbers g)) is are in (row.0, row.1)
+sort_row tree nodes rows k item part least sorts are = let row = subst (λ g. AreRowsFrom tree nodes rows k (item_numbers g)) sorts.is are in (row.0, row.1)
 
-pub row_given : (tree : SearchedTree) (nodes : List ℕ) (rows : List (List (Option ℤ))) (k : ℕ) (item part : FilterTree) (at : ℕ) (least : Bool) (text : List ℕ) (row : List (Option ℤ))
-    → item ≡ filter_at at (sort least text part)
+pub row_given : (tree : SearchedTree) (nodes : List ℕ) (rows : List (List (Option ℤ))) (k : ℕ) (item part : FilterTree) (least : Bool) (row : List (Option ℤ)) → IsSort item part least
     → AreRowsFrom tree nodes rows k (item_numbers item) → row ≡ get_or rows k [] → IsRowOf tree nodes row part
-row_given tree nodes rows k item part at least text row is are given = subst (λ r. IsRowOf tree nodes r part) (sym given) (sort_row tree nodes rows k item part at least text is are).1
+row_given tree nodes rows k item part least row sorts are given = subst (λ r. IsRowOf tree nodes r part) (sym given) (sort_row tree nodes rows k item part least sorts are).1
 
-pub entries_there : (tree : SearchedTree) (nodes : List ℕ) (row : List (Option ℤ)) (item part : FilterTree) (at : ℕ) (least : Bool) (text : List ℕ)
-    → item ≡ filter_at at (sort least text part) → IsRowOf tree nodes row part
+pub entries_there : (tree : SearchedTree) (nodes : List ℕ) (row : List (Option ℤ)) (item part : FilterTree) (least : Bool) → IsSort item part least → IsRowOf tree nodes row part
     → All (λ n. holds (value tree [] [] item n) ≡ true) nodes → All (λ n. is_some (get_or row n None) ≡ true) nodes
 unfolding value
-entries_there tree nodes row item part at least text is row_is hold = λ i d below.
+entries_there tree nodes row item part least sorts row_is hold = λ i d below.
     let n = get_or nodes i d in
-    ap is_some (row_is.entries i d below) ∙ ap (λ g. holds (value tree [] [] g n)) (sym is) ∙ hold i d below
+    ap is_some (row_is.entries i d below) ∙ ap (λ g. holds (value tree [] [] g n)) (sym sorts.is) ∙ hold i d below

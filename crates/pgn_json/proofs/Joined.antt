@@ -5,37 +5,28 @@ use Rattle.std.specs.List.{flat_map}
 use Rattle.std.specs.Prelude.{if◌then◌else◌, ◌==◌}
 use Rattle.pgn_json.specs.Values.{array, array_member, member, next, object, plain, separated}
 
-in_a_row : (line l1 l2 l3 l4 l5 l6 l7 a b c d e f g : List ℕ) → l1 ≡ line ++ a → l2 ≡ l1 ++ b → l3 ≡ l2 ++ c → l4 ≡ l3 ++ d → l5 ≡ l4 ++ e
-    → l6 ≡ l5 ++ f → l7 ≡ l6 ++ g → l7 ≡ line ++ (a ++ (b ++ (c ++ (d ++ (e ++ (f ++ g))))))
-in_a_row line l1 l2 l3 l4 l5 l6 l7 a b c d e f g o p q r s t u =
-    u ∙ ap (λ l. l ++ g) (t ∙ ap (λ l. l ++ f) (s ∙ ap (λ l. l ++ e) (r ∙ ap (λ l. l ++ d) (q ∙ ap (λ l. l ++ c) (p ∙ ap (λ l. l ++ b) o)))))
-    ∙ simp append_assoc
+regrouped : (line o g b t s r n m x e : List ℕ)
+    → ((((((line ++ (o ++ (g ++ b))) ++ t) ++ (s ++ r)) ++ n) ++ m) ++ x) ++ e ≡ line ++ (o ++ ((g ++ (b ++ (t ++ (s ++ (r ++ (n ++ (m ++ (x ++ [])))))))) ++ e))
+regrouped line o g b t s r n m x e = simp (append_assoc, append-nil)
 
-regrouped : (o g b t s r n m x e : List ℕ)
-    → (o ++ (g ++ b)) ++ (t ++ ((s ++ r) ++ (n ++ (m ++ (x ++ e))))) ≡ o ++ ((g ++ (b ++ (t ++ (s ++ (r ++ (n ++ (m ++ (x ++ [])))))))) ++ e)
-regrouped o g b t s r n m x e = simp (append_assoc, append-nil)
-
-pub game_joined : (line l1 l2 l3 l4 l5 l6 l7 g b t s r x : List ℕ) (notes marks : List (List ℕ))
-    → l1 ≡ line ++ (codes "{" ++ (g ++ next b)) → l2 ≡ l1 ++ next t → l3 ≡ l2 ++ (next s ++ next r) → l4 ≡ l3 ++ flat_map next notes
-    → l5 ≡ l4 ++ flat_map next marks → l6 ≡ l5 ++ next x → l7 ≡ l6 ++ codes "}"
-    → l7 ≡ line ++ object (g ∷ b ∷ t ∷ s ∷ r ∷ (notes ++ (marks ++ (x ∷ []))))
-game_joined line l1 l2 l3 l4 l5 l6 l7 g b t s r x notes marks o p q u v w z =
+pub game_joined : (line g b t s r x : List ℕ) (notes marks : List (List ℕ))
+    → ((((((line ++ (codes "{" ++ (g ++ next b))) ++ next t) ++ (next s ++ next r)) ++ flat_map next notes) ++ flat_map next marks) ++ next x) ++ codes "}"
+    ≡ line ++ object (g ∷ b ∷ t ∷ s ∷ r ∷ (notes ++ (marks ++ (x ∷ []))))
+game_joined line g b t s r x notes marks =
     let ends : flat_map next (notes ++ (marks ++ (x ∷ []))) ≡ flat_map next notes ++ (flat_map next marks ++ (next x ++ []))
     = flat_map-append next notes (marks ++ (x ∷ [])) ∙ ap (λ l. flat_map next notes ++ l) (flat_map-append next marks (x ∷ [])) in
-    in_a_row line l1 l2 l3 l4 l5 l6 l7 _ _ _ _ _ _ _ o p q u v w z
-    ∙ ap (λ l. line ++ l) (regrouped (codes "{") g (next b) (next t) (next s) (next r) (flat_map next notes) (flat_map next marks) (next x) (codes "}")
-    ∙ ap (λ l. codes "{" ++ ((g ++ (next b ++ (next t ++ (next s ++ (next r ++ l))))) ++ codes "}")) (sym ends))
+    regrouped line (codes "{") g (next b) (next t) (next s) (next r) (flat_map next notes) (flat_map next marks) (next x) (codes "}")
+    ∙ ap (λ l. line ++ (codes "{" ++ ((g ++ (next b ++ (next t ++ (next s ++ (next r ++ l))))) ++ codes "}"))) (sym ends)
 
 node_regrouped : (line o p l u s n f e : List ℕ)
     → ((((line ++ (o ++ (p ++ l))) ++ (u ++ s)) ++ n) ++ f) ++ e ≡ line ++ (o ++ ((p ++ (l ++ (u ++ (s ++ (n ++ f))))) ++ e))
 node_regrouped line o p l u s n f e = simp append_assoc
 
-pub node_joined : (line l1 l2 l3 l4 l5 p l u s : List ℕ) (notes fens : List (List ℕ))
-    → l1 ≡ line ++ (codes "{" ++ (p ++ next l)) → l2 ≡ l1 ++ (next u ++ next s) → l3 ≡ l2 ++ flat_map next notes → l4 ≡ l3 ++ flat_map next fens
-    → l5 ≡ l4 ++ codes "}" → l5 ≡ line ++ object (p ∷ l ∷ u ∷ s ∷ (notes ++ fens))
-node_joined line l1 l2 l3 l4 l5 p l u s notes fens a b c d e =
-    e ∙ ap (λ x. x ++ codes "}") (d ∙ ap (λ x. x ++ flat_map next fens) (c ∙ ap (λ x. x ++ flat_map next notes) (b ∙ ap (λ x. x ++ (next u ++ next s)) a)))
-    ∙ node_regrouped line (codes "{") p (next l) (next u) (next s) (flat_map next notes) (flat_map next fens) (codes "}")
+pub node_joined : (line p l u s : List ℕ) (notes fens : List (List ℕ))
+    → ((((line ++ (codes "{" ++ (p ++ next l))) ++ (next u ++ next s)) ++ flat_map next notes) ++ flat_map next fens) ++ codes "}"
+    ≡ line ++ object (p ∷ l ∷ u ∷ s ∷ (notes ++ fens))
+node_joined line p l u s notes fens =
+    node_regrouped line (codes "{") p (next l) (next u) (next s) (flat_map next notes) (flat_map next fens) (codes "}")
     ∙ ap (λ x. line ++ (codes "{" ++ ((p ++ (next l ++ (next u ++ (next s ++ x)))) ++ codes "}"))) (sym (flat_map-append next notes fens))
 
 bracketed : (line c p k s e : List ℕ) → ((line ++ (c ++ (p ++ k))) ++ s) ++ e ≡ line ++ ((c ++ (p ++ (k ++ (s ++ e)))) ++ [])

@@ -30,11 +30,11 @@ left_some zero x xs = refl
 left_some (suc i) x xs = refl
 
 -- one more is written
-pub node_written : (f : ℕ → List ℕ) (nodes : List Node) (i : ℕ) (all line comma middle later : List ℕ) → i < length nodes - 1
-    → comma ≡ comma_after i → middle ≡ line ++ comma → later ≡ middle ++ f (i + 1)
+pub node_written : (f : ℕ → List ℕ) (nodes : List Node) (i : ℕ) (all line middle later : List ℕ) → i < length nodes - 1
+    → middle ≡ line ++ comma_after i → later ≡ middle ++ f (i + 1)
     → line ++ left i (map f (drop i (others nodes))) ≡ all
     → later ++ left (i + 1) (map f (drop (i + 1) (others nodes))) ≡ all
-node_written f nodes i all line comma middle later low is_comma is_middle is_later so_far =
+node_written f nodes i all line middle later low is_middle is_later so_far =
     let more : suc i ≡ i + 1 = omega arith in
     let rest = map f (drop (suc i) (others nodes)) in
     let here = f (i + 1) in
@@ -42,7 +42,7 @@ node_written f nodes i all line comma middle later low is_comma is_middle is_lat
     = ap (map f) (drop-cons (others nodes) i 0 (omega (arith, low, others_many nodes))) ∙ ap (λ n. f n ∷ rest) (other_at nodes i low) in
     let some_ : comma_after i ++ (here ++ left (suc i) rest) ≡ left i (map f (drop i (others nodes)))
     = left_some i here rest ∙ ap (left i) (sym listed) in
-    let line_is : later ≡ (line ++ comma_after i) ++ here = is_later ∙ ap (λ l. l ++ here) (is_middle ∙ ap (λ l. line ++ l) is_comma) in
+    let line_is : later ≡ (line ++ comma_after i) ++ here = is_later ∙ ap (λ l. l ++ here) is_middle in
     subst (λ n. later ++ left n (map f (drop n (others nodes))) ≡ all) more
     (ap (λ l. l ++ left (suc i) rest) line_is
     ∙ append_assoc (line ++ comma_after i) here (left (suc i) rest)

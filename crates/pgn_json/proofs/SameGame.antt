@@ -237,14 +237,20 @@ same_nodes mark mark' nodes nodes' kept kept' fen notes same =
     ∙ node_same (node_at nodes k) (node_at nodes' k) (same_places (length nodes) nodes nodes' kept kept' many start told k low low) (noted k low)
     ∙ sym (get_or-map node_read nodes' k no_node (node_read no_node) (omega (arith, low, many))))
 
-pub same_line : (mark mark' : List ℕ) (ordinal ordinal' byte byte' : ℕ) (g h : Game) → HasKeptNodes g.nodes → HasKeptNodes h.nodes
-    → ordinal < 2 ^ 64 → ordinal' < 2 ^ 64 → byte < 2 ^ 64 → byte' < 2 ^ 64 → json_text mark ordinal byte g ≡ json_text mark' ordinal' byte' h
+-- a game of which a line is written, and its place in an archive
+pub record IsPlaced (ordinal byte : ℕ) (g : Game) : Type 0 where
+  pub kept : HasKeptNodes g.nodes
+  pub number : ordinal < 2 ^ 64
+  pub begins : byte < 2 ^ 64
+
+pub same_line : (mark mark' : List ℕ) (ordinal ordinal' byte byte' : ℕ) (g h : Game) → IsPlaced ordinal byte g → IsPlaced ordinal' byte' h
+    → json_text mark ordinal byte g ≡ json_text mark' ordinal' byte' h
     → (ordinal ≡ ordinal') × (byte ≡ byte') × (game_read g ≡ game_read h)
-same_line mark mark' ordinal ordinal' byte byte' g h kept kept' a b c d same =
+same_line mark mark' ordinal ordinal' byte byte' g h first second same =
     let text = append_cancel_right (game_text mark ordinal byte g) (game_text mark' ordinal' byte' h) (codes "\n") same in
-    let one = game_written mark ordinal byte g kept a c in
-    let other = game_written mark' ordinal' byte' h kept' b d in
+    let one = game_written mark ordinal byte g first.kept first.number first.begins in
+    let other = game_written mark' ordinal' byte' h second.kept second.number second.begins in
     let value = one_spelled (json_of mark ordinal byte g) (json_of mark' ordinal' byte' h) one.text other.text (one.encoded ∙ text ∙ sym other.encoded) one.spelled other.spelled in
     let told = same_value mark mark' ordinal ordinal' byte byte' g h value in
-    let nodes = same_nodes mark mark' g.nodes h.nodes kept kept' told.start told.notes told.nodes in
+    let nodes = same_nodes mark mark' g.nodes h.nodes first.kept second.kept told.start told.notes told.nodes in
     (told.counted, told.begins, λ i. record { tags = told.tags i; result = told.result i; nodes = nodes i })

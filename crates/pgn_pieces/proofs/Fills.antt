@@ -92,9 +92,9 @@ adds_to_open least was now g text here games end short = record {
 }
 
 -- a game with which it is full
-pub adds_full : (least : ℕ) (was now : OpenPiece) (g : Span) (p : Piece) (text longer : List ℕ) → p ≡ piece_to was.here g.end (was.games + 1) → now.here ≡ after p
-    → now.games ≡ 0 → now.end ≡ g.end → was.here.from + least ≤ g.end → longer ≡ text ++ line p → AddsGames least was now (g ∷ []) text longer
-adds_full least was now g p text longer is here games end long adds = record {
+pub adds_full : (least : ℕ) (was now : OpenPiece) (g : Span) (text longer : List ℕ) → now.here ≡ after (piece_to was.here g.end (was.games + 1))
+    → now.games ≡ 0 → now.end ≡ g.end → was.here.from + least ≤ g.end → longer ≡ text ++ line (piece_to was.here g.end (was.games + 1)) → AddsGames least was now (g ∷ []) text longer
+adds_full least was now g text longer here games end long adds = let p = piece_to was.here g.end (was.games + 1) in record {
   more = p ∷ [];
   lines = adds ∙ ap (λ (l : List ℕ). text ++ l) (sym (append-nil (line p)));
   shows = λ before pieces shows.
@@ -105,7 +105,7 @@ adds_full least was now g p text longer is here games end long adds = record {
       let some : 0 < least = omega (arith, f.short, shows.end, begun) in
       let count : was.games + 1 ≡ length mine = omega (arith, length-append f.rest (g ∷ []), shows.count) in
       let long_ : IsLongEnough least was.here.from mine = record { fewer = f.rest; last = g; are = refl; short = f.short; long = long } in
-      let same : p ≡ piece_to was.here (end_of was.here.from mine) (length mine) = is ∙ ap₂ (λ (to n : ℕ). piece_to was.here to n) (sym last) count in
+      let same : p ≡ piece_to was.here (end_of was.here.from mine) (length mine) = ap₂ (λ (to n : ℕ). piece_to was.here to n) (sym last) count in
       let from : now.here.from ≡ g.end = ap (λ (h : Place). h.from) here ∙ next_from least was.here p mine long_ same ∙ last in
       record {
         fill = record {
@@ -146,12 +146,9 @@ adds_both least was mid now xs ys text longer longest one two = record {
 }
 
 -- the next of some games
-pub adds_next : (least : ℕ) (was mid now : OpenPiece) (games : List Span) (i : ℕ) (d : Span) (text longer longest : List ℕ) → i < length games
-    → AddsGames least was mid (take i games) text longer → AddsGames least mid now (get_or games i d ∷ []) longer longest
-    → AddsGames least was now (take (i + 1) games) text longest
-adds_next least was mid now games i d text longer longest less one two =
-    subst (λ (gs : List Span). AddsGames least was now gs text longest) (sym (take_more games i d less))
-    (adds_both least was mid now (take i games) (get_or games i d ∷ []) text longer longest one two)
+pub adds_next : (least : ℕ) (was now : OpenPiece) (games : List Span) (i : ℕ) (d : Span) (text longer : List ℕ) → i < length games
+    → AddsGames least was now (take i games ++ get_or games i d ∷ []) text longer → AddsGames least was now (take (i + 1) games) text longer
+adds_next least was now games i d text longer less adds = subst (λ (gs : List Span). AddsGames least was now gs text longer) (sym (take_more games i d less)) adds
 
 pub end_next : (from : ℕ) (games : List Span) (i : ℕ) (d : Span) → i < length games → (get_or games i d).end ≡ end_of from (take (i + 1) games)
 end_next from games i d less = sym (ap (end_of from) (take_more games i d less) ∙ end_append from (take i games) (get_or games i d ∷ []))

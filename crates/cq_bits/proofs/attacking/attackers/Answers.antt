@@ -19,7 +19,7 @@ loop-left-preserved c =
     let some : 0 < c.loop-left.left = omega arith in
     let fits : c.loop-left.left < 2 ^ 64 = search rules in
     more (λ s t. attacks men s t ≡ true) c.args.to c.loop-left.left c.loop-left.found c.attackers_of-found.result c.lowest_square-square.result c.number.result
-    some fits c.lowest_square-square.ensures.value c.number.ensures.value
+    (record { some = some; fits = fits; lowest = c.lowest_square-square.ensures.value; same = c.number.ensures.value })
     (bitboard_has c.attackers_of-found.result (λ s. attacks men s c.lowest_square-square.result) (rw c.men.ensures.men at c.attackers_of-found.ensures)) c.loop-left.invariant
 
 pub returns : goal.returns

@@ -17,7 +17,7 @@ loop-left-preserved c =
     let some : 0 < c.loop-left.left = omega arith in
     let fits : c.loop-left.left < 2 ^ 64 = search rules in
     more (λ s t. (s ≡ t) × IsAttacker c.args.position.now.men c.args.to t) c.args.among c.loop-left.left c.loop-left.found
-    c.attacker_alone-found.result c.lowest_square-square.result c.number.result some fits c.lowest_square-square.ensures.value c.number.ensures.value
+    c.attacker_alone-found.result c.lowest_square-square.result c.number.result (record { some = some; fits = fits; lowest = c.lowest_square-square.ensures.value; same = c.number.ensures.value })
     c.attacker_alone-found.ensures c.loop-left.invariant
 
 pub returns : goal.returns

@@ -19,7 +19,7 @@ loop-left-preserved c =
     let some : 0 < c.loop-left.left = omega arith in
     let fits : c.loop-left.left < 2 ^ 64 = search rules in
     more (λ s t. attacks men t s ≡ true) c.args.from c.loop-left.left c.loop-left.reached c.attacks_from-reached.result c.lowest_square-square.result c.number.result
-    some fits c.lowest_square-square.ensures.value c.number.ensures.value
+    (record { some = some; fits = fits; lowest = c.lowest_square-square.ensures.value; same = c.number.ensures.value })
     (bitboard_has c.attacks_from-reached.result (attacks men c.lowest_square-square.result) c.attacks_from-reached.ensures) c.loop-left.invariant
 
 pub returns : goal.returns

@@ -17,7 +17,7 @@ loop-left-preserved c =
     let some : 0 < c.loop-left.left = omega arith in
     let fits : c.loop-left.left < 2 ^ 64 = search rules in
     more (λ s t. IsBetweenOne c.args.b t s) c.args.a c.loop-left.left c.loop-left.found _ c.lowest_square-from.result c.number.result
-    some fits c.lowest_square-from.ensures.value c.number.ensures.value c.between_one-found.ensures c.loop-left.invariant
+    (record { some = some; fits = fits; lowest = c.lowest_square-from.ensures.value; same = c.number.ensures.value }) c.between_one-found.ensures c.loop-left.invariant
 
 pub returns : goal.returns
 returns c = gathered_all (λ s t. IsBetweenOne c.args.b t s) c.args.a c.loop-left.left c.loop-left.found c.loop-left-test.false c.loop-left.invariant

@@ -17,7 +17,7 @@ loop-left-preserved c =
     let some : 0 < c.loop-left.left = omega arith in
     let fits : c.loop-left.left < 2 ^ 64 = search rules in
     more (λ s t. lies_between c.args.from t s ≡ true) c.args.b c.loop-left.left c.loop-left.found _ c.lowest_square-to.result c.number.result
-    some fits c.lowest_square-to.ensures.value c.number.ensures.value c.between_two-found.ensures c.loop-left.invariant
+    (record { some = some; fits = fits; lowest = c.lowest_square-to.ensures.value; same = c.number.ensures.value }) c.between_two-found.ensures c.loop-left.invariant
 
 pub returns : goal.returns
 returns c = gathered_all (λ s t. lies_between c.args.from t s ≡ true) c.args.b c.loop-left.left c.loop-left.found c.loop-left-test.false c.loop-left.invariant

@@ -31,12 +31,6 @@ next_of size nodes turn e low = omega arith
 node_of : (size nodes turn : ℕ) → nodes ≡ size → turn < nodes → nodes - 1 - turn + turn + 1 ≡ size
 node_of size nodes turn e low = omega arith
 
-first_of : (size nodes turn : ℕ) → nodes ≡ size → turn < nodes → size - turn ≡ nodes - 1 - turn + 1
-first_of size nodes turn e low = omega arith
-
-before_of : (size nodes turn : ℕ) → nodes ≡ size → turn < nodes → size - (turn + 1) ≡ nodes - 1 - turn
-before_of size nodes turn e low = omega arith
-
 within_spots : (size nodes turn : ℕ) → nodes ≡ size → turn < nodes → nodes - 1 - turn < size
 within_spots size nodes turn e low = omega arith
 
@@ -70,9 +64,8 @@ loop-turn-preserved g c = record {
       (is_searched c.args.shape.now.spots.items) (length c.args.shape.now.spots.items) c.loop-turn.values.items c.visit_down.result c.loop-turn.turn (c.len-nodes.result - 1 - c.loop-turn.turn)
       c.loop-turn.invariant.size (node_of (length c.args.shape.now.spots.items) c.len-nodes.result c.loop-turn.turn c.len-nodes.ensures c.loop-turn-test.true)
       c.visit_down.ensures.value c.loop-turn.invariant.done;
-  exact = exact_down c.args.shape.now.spots.items c.args.table.now.atoms _ _ _ (c.len-nodes.result - 1 - c.loop-turn.turn) _ _
-      (within_spots _ _ _ c.len-nodes.ensures c.loop-turn-test.true) (first_of _ _ _ c.len-nodes.ensures c.loop-turn-test.true)
-      (before_of _ _ _ c.len-nodes.ensures c.loop-turn-test.true)
+  exact = exact_down c.args.shape.now.spots.items c.args.table.now.atoms _ _ _ c.loop-turn.turn (c.len-nodes.result - 1 - c.loop-turn.turn)
+      (node_of (length c.args.shape.now.spots.items) c.len-nodes.result c.loop-turn.turn c.len-nodes.ensures c.loop-turn-test.true)
       c.visit_down.ensures.unsearched c.visit_down.ensures.searched c.loop-turn.invariant.exact;
 }
 

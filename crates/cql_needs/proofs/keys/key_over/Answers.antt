@@ -14,11 +14,10 @@ pub loop-k-preserved : goal.loop-k-preserved
 loop-k-preserved c =
     let fits : SFits w64 c.chosen-key.result = search rules in
     let value_fits : SFits w64 c.entry_at-value.result = search rules in
-    ap Some (to_z-of_z {w = w64} {z = c.chosen-key.result} fits)
-    ∙ key_next c.args.least c.args.row.now c.args.nodes.now c.loop-k.k _ _ (to_z w64 c.loop-k.key-bits) c.entry_at-value.result c.chosen-key.result c.loop-k-test.true refl
-    c.entry_at-value.ensures
-    (c.chosen-key.ensures ∙ ap (chosen c.args.least (to_z w64 c.loop-k.key-bits)) (to_z-of_z {w = w64} {z = c.entry_at-value.result} value_fits))
-    c.loop-k.invariant
+    ap Some (to_z-of_z {w = w64} {z = c.chosen-key.result} fits
+    ∙ c.chosen-key.ensures ∙ ap (chosen c.args.least (to_z w64 c.loop-k.key-bits)) (to_z-of_z {w = w64} {z = c.entry_at-value.result} value_fits))
+    ∙ key_next c.args.least c.args.row.now c.args.nodes.now c.loop-k.k _ (to_z w64 c.loop-k.key-bits) c.entry_at-value.result c.loop-k-test.true
+    c.entry_at-value.ensures c.loop-k.invariant
 
 pub returns : goal.returns
 returns c = key_all c.args.least c.args.row.now c.args.nodes.now c.loop-k.k (to_z w64 c.loop-k.key-bits) c.loop-k-test.false c.loop-k.invariant

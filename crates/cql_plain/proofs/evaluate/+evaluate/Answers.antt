@@ -1,5 +1,5 @@
-use Rattle.std.proofs.Common.{rules, ◌≡◌, ◌<◌, ◌∷◌, ◌∙◌, ℕ, Bool, length, map, ap, ap₂, sym, subst, arith, ◌+◌, true, false, replicate, Some, None}
-use Rattle.std.specs.Prelude.{All, IfOk, is_some}
+use Rattle.std.proofs.Common.{rules, ◌≡◌, ◌<◌, ◌∷◌, ◌++◌, ◌&&◌, ◌∙◌, ℕ, Bool, length, map, ap, ap₂, sym, subst, arith, ◌+◌, true, false, replicate, Some, None}
+use Rattle.std.specs.Prelude.{All, IfOk, is_some, option_to_list}
 use Rattle.cq_symmetry.specs.Families.{members}
 use Rattle.cql_syntax.specs.Contexts as contexts
 use Rattle.cql_syntax.specs.Headers as headers
@@ -14,7 +14,7 @@ use Rattle.cql_syntax.specs.Kinds.{filter_kind}
 use Rattle.cql_syntax.specs.declared.tree.Body.TheFolds.{the_lemmas}
 use Rattle.cql_plain.specs.Lines.{EndsOf}
 use Rattle.cql_plain.specs.Scopes.{tree_in, value_in, looked_at}
-use Rattle.cql_plain.proofs.Evaluated.{any_found, any_passed, members_more, settled, never_settled, none_more, family_is}
+use Rattle.cql_plain.proofs.Evaluated.{any_found, any_passed, map_more, members_more, settled, never_settled, none_more, family_is}
 use Rattle.cql_values.proofs.Evaluated.{values_more, terms_more}
 use Rattle.cql_plain.proofs.Forms.{designator_value, number_value, name_value, word_value, tagged_value, outcome_value, elo_value, comment_value, unary_value, steps_value, chain_value, sum_value, pair_value, if_value, square_value, line_form_value, move_value, sort_value, any_value, atom_pattern, group_pattern}
 use Rattle.cql_plain.proofs.Looked.{looked_inside, word_alone}
@@ -22,8 +22,9 @@ use Rattle.std.specs.List.{list_any}
 use Rattle.std.proofs.lemmas.Bool.{leb-true, le-leb}
 use Rattle.std.proofs.lemmas.List.{take_all}
 use Rattle.std.proofs.lemmas.Result.{IfOk-weaker}
-use Rattle.cql_plain.proofs.LineValue.{line_is}
+use Rattle.cql_plain.proofs.LineValue.{ends_of, greatest_of, line_is}
 use Rattle.cql_plain.proofs.PartEnds.{AreTurns, parts_begun, parts_more, parts_end, turns_begun, turns_next, turns_end, turns_stop, atom_law, atom_more}
+use Rattle.cql_plain.proofs.evaluate.+evaluate.Goals.{square_at-else-has_square-via-then-has_square+in_ok-decides+else-branch, square_at-else-has_square-via-else-has_square}
 use Rattle.cql_plain.proofs.evaluate.+evaluate.Goals as goal
 
 pub values_at-loop-filter-preserved : goal.values_at-loop-filter-preserved
@@ -38,8 +39,10 @@ terms_at-loop-term-preserved t c =
 
 pub member_values-loop-k-preserved : goal.member_values-loop-k-preserved
 member_values-loop-k-preserved t c =
-    members_more (tree_in c.args.scope.now) c.args.scope.now.context.now c.args.scope.now.names.now c.args.node (members c.args.family) c.loop-k.k c.member.result (filter_tree c.args.part.now)
-    c.loop-k.values.items c.push_if_some.new.values.items c.in_ok-value.value c.member.ensures c.loop-k.invariant c.in_ok-value.ensures c.in_ok-push_if_some.ensures
+    ap (map meant) c.in_ok-push_if_some.ensures ∙ map_more c.loop-k.values.items c.in_ok-value.value
+    ∙ ap₂ (λ vs v. vs ++ option_to_list v) c.loop-k.invariant c.in_ok-value.ensures
+    ∙ members_more (tree_in c.args.scope.now) c.args.scope.now.context.now c.args.scope.now.names.now c.args.node (members c.args.family) c.loop-k.k c.member.result
+    (filter_tree c.args.part.now) c.member.ensures
 
 pub evaluate-returns-in-Transform : goal.evaluate-returns-in-Transform
 evaluate-returns-in-Transform t c =
@@ -56,14 +59,22 @@ square_at-returns-then-branch t c =
     let asked : ℕ → Bool = λ s. spec.holds (meaning.value (tree_in c.args.scope.now) c.args.scope.now.context.now
     ((c.args.name.now, s) ∷ c.args.scope.now.names.now) (filter_tree c.args.asked.now) c.args.node) in
     let low : c.new-square.result < 64 = omega (arith, c.new-square.ensures, c.loop-number-test.true) in
-    settled c.args.every (meant c.args.squares) asked c.squares-set.result c.new-square.result c.squares-set.ensures low (sym c.in_ok-decides.ensures ∙ c.if-branch.true)
+    let settles_it : settles c.args.every (is_in c.squares-set.result) asked c.new-square.result ≡ true =
+    ap₂ (λ a b. a && b) (sym c.has_square.ensures ∙ c.if-has_square.true) (sym c.in_ok-decides.ensures ∙ c.if-branch.true) in
+    settled c.args.every (meant c.args.squares) asked c.squares-set.result c.new-square.result c.squares-set.ensures low settles_it
 
 pub square_at-loop-number-preserved : goal.square_at-loop-number-preserved
 square_at-loop-number-preserved t c =
     let asked : ℕ → Bool = λ s. spec.holds (meaning.value (tree_in c.args.scope.now) c.args.scope.now.context.now
     ((c.args.name.now, s) ∷ c.args.scope.now.names.now) (filter_tree c.args.asked.now) c.args.node) in
     let test : ℕ → Bool = settles c.args.every (is_in c.squares-set.result) asked in
-    none_more test c.loop-number.number c.in_ok-decides.field-0 (c.in_ok-decides.ensures ∙ ap test c.new-square.ensures) c.if-branch.false c.loop-number.invariant
+    let fails : test c.new-square.result ≡ false =
+    elim c.else-has_square.branch [
+      | square_at-else-has_square-via-then-has_square+in_ok-decides+else-branch w ↦
+          ap₂ (λ a b. a && b) (sym c.has_square.ensures ∙ w.if-has_square.true) (sym w.in_ok-decides.ensures ∙ w.if-branch.false)
+      | square_at-else-has_square-via-else-has_square w ↦ ap (λ a. a && settles c.args.every (λ s. true) asked c.new-square.result) (sym c.has_square.ensures ∙ w.if-has_square.false)
+    ] in
+    none_more test c.loop-number.number (ap test (sym c.new-square.ensures) ∙ fails) c.loop-number.invariant
 
 pub square_at-returns : goal.square_at-returns
 square_at-returns t c =
@@ -88,11 +99,15 @@ unary_at-returns-in_ok-value-in-None t c =
     ∙ word_alone tree c.args.word at c.args.node (meant c.in_ok-value-in-None.value) none c.in_ok-value-in-None.ensures
 
 pub lines::line_at-returns : goal.lines::line_at-returns
-lines::line_at-returns t c = c.number_of.ensures ∙ line_is (tree_in c.args.scope.now) c.requires.tree c.args.scope.now.context.now c.args.scope.now.names.now c.args.line.now c.args.node
-    c.in_ok-steps.steps.items c.as_slice.result.now c.as_slice-3.result.now c.in_ok-starts.starts.items c.as_slice-2.result.now c.in_ok-ends.ends.items c.as_slice-4.result.now c.longest.result
-    c.in_ok-steps.ensures (c.in_ok-starts.ensures ∙ ap (λ n. true ∷ replicate n false)
-    (c.len.ensures.len ∙ sym c.in_ok-steps.ensures.count)) c.as_slice.ensures.value c.as_slice-2.ensures.value c.in_ok-ends.ensures
-    c.as_slice-3.ensures.value c.as_slice-4.ensures.value c.longest.ensures
+lines::line_at-returns t c =
+    let steps = c.in_ok-steps.steps.items in
+    let starts = true ∷ replicate (length steps) false in
+    let ends = c.in_ok-ends.ends.items in
+    let begun = c.as_slice-2.ensures.value ∙ c.in_ok-starts.ensures ∙ ap (λ n. true ∷ replicate n false) (c.len.ensures.len ∙ sym c.in_ok-steps.ensures.count) in
+    c.number_of.ensures
+    ∙ line_is (tree_in c.args.scope.now) c.requires.tree c.args.scope.now.context.now c.args.scope.now.names.now c.args.line.now c.args.node steps ends c.longest.result c.in_ok-steps.ensures
+    (ends_of _ steps c.as_slice.result.now starts c.as_slice-2.result.now ends c.as_slice.ensures.value begun c.in_ok-ends.ensures)
+    (greatest_of _ steps c.as_slice-3.result.now ends c.as_slice-4.result.now c.longest.result c.as_slice-3.ensures.value c.as_slice-4.ensures.value c.longest.ensures)
 
 pub lines::parts_ends-loop-part-init : goal.lines::parts_ends-loop-part-init
 lines::parts_ends-loop-part-init t c =
