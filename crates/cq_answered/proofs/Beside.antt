@@ -16,7 +16,6 @@ use Rattle.pgn_reader.specs.Verdict.{IsRead}
 use Rattle.cq_answered.specs.declared.answers.GameAnswer.{GameAnswer}
 use Rattle.cq_answered.specs.Order.{AreApart, IsEarlier}
 use Rattle.cq_answered.specs.Answers.{AnswersBatch, AreAnswersOf, AreInGameOrder, IsAnswerAmong, answer_of, answers_at, answers_from}
-use Rattle.cq_answered.specs.Outcomes.{Outcome}
 
 abbrev one_if : Bool → ℕ
 one_if true = 1
@@ -80,22 +79,18 @@ first_number query n games a ys at pairs once (inl some) =
     absurd (omega (arith, none, once))
 
 -- an answer of a later game
-later_if : (query : QueryTree) (n : ℕ) (g : KeptGame) (gs : KeptGames) (a : GameAnswer) (number : ℕ) (game : KeptGame) (r : Outcome) → slice_get (g ∷ gs) number ≡ Some game
-    → (at : IsAnswerAmong query n (g ∷ gs) a) → at.0 ≡ number → at.1.game ≡ game → at.1.outcome ≡ r → (a.index ≡ n → ⊥) → IsAnswerAmong query (n + 1) gs a
-later_if query n g gs a zero game r got at is same_game same_outcome apart = absurd (apart (let i = index_of query n (g ∷ gs) a at in omega (arith, i, is)))
-later_if query n g gs a (suc j) game r got at is same_game same_outcome apart = (
+pub later_answer : (query : QueryTree) (n : ℕ) (g : KeptGame) (gs : KeptGames) (a : GameAnswer) → IsAnswerAmong query n (g ∷ gs) a → (a.index ≡ n → ⊥) → IsAnswerAmong query (n + 1) gs a
+later_answer query n g gs a (zero, here) apart = absurd (apart (let i = index_of query n (g ∷ gs) a (zero, here) in omega (arith, i)))
+later_answer query n g gs a (suc j, later) apart = (
   j,
   record {
-    game = at.1.game;
-    outcome = at.1.outcome;
-    at = got ∙ ap Some (sym same_game);
-    read = at.1.read;
-    is = at.1.is ∙ ap (λ k. answer_of query k at.1.outcome) (let e : n + at.0 ≡ (n + 1) + j = omega (arith, is) in e);
+    game = later.game;
+    outcome = later.outcome;
+    at = later.at;
+    read = later.read;
+    is = later.is ∙ ap (λ k. answer_of query k later.outcome) (let e : n + suc j ≡ (n + 1) + j = omega arith in e);
   },
 )
-
-pub later_answer : (query : QueryTree) (n : ℕ) (g : KeptGame) (gs : KeptGames) (a : GameAnswer) → IsAnswerAmong query n (g ∷ gs) a → (a.index ≡ n → ⊥) → IsAnswerAmong query (n + 1) gs a
-later_answer query n g gs a at apart = later_if query n g gs a at.0 at.1.game at.1.outcome at.1.at at refl refl refl apart
 
 pub first_game : (query : QueryTree) (n : ℕ) (g : KeptGame) (gs : KeptGames) (a : GameAnswer) → (at : IsAnswerAmong query n (g ∷ gs) a) → at.0 ≡ 0 → g ≡ at.1.game
 first_game query n g gs a at is = let e : slice_get (g ∷ gs) 0 ≡ Some at.1.game = ap (slice_get (g ∷ gs)) (sym is) ∙ at.1.at in cc

@@ -11,12 +11,12 @@ use Rattle.std.specs.Prelude.{slice_get}
 use Rattle.cq_answered.specs.Comparing.{answer_cmp, keys_cmp, value_cmp}
 use Rattle.cq_answered.specs.Order.{keys_in}
 
-decided : (o rest : Ordering) → is_ne o ≡ true → ordering_then o rest ≡ o
+pub decided : (o rest : Ordering) → is_ne o ≡ true → ordering_then o rest ≡ o
 decided Less rest e = refl
 decided Equal rest e = absurd (true≢false (sym e))
 decided Greater rest e = refl
 
-tied : (o rest : Ordering) → is_ne o ≡ false → ordering_then o rest ≡ rest
+pub tied : (o rest : Ordering) → is_ne o ≡ false → ordering_then o rest ≡ rest
 tied Less rest e = absurd (true≢false e)
 tied Equal rest e = refl
 tied Greater rest e = absurd (true≢false e)
@@ -30,25 +30,13 @@ by_item items xs ys i d inside = at_drop_more (λ rest. keys_cmp i rest xs ys) i
 pub no_item : (items : List Bool) (xs ys : List ℤ) (i : ℕ) → length items ≤ i → keys_cmp i (drop i items) xs ys ≡ Equal
 no_item items xs ys i outside = at_drop_all (λ rest. keys_cmp i rest xs ys) items i outside
 
-here : (items : List Bool) (xs ys : List ℤ) (i : ℕ) (d : Bool) (x y : Option ℤ) (order : Ordering) → i < length items → x ≡ slice_get xs i → y ≡ slice_get ys i
+pub here : (items : List Bool) (xs ys : List ℤ) (i : ℕ) (d : Bool) (x y : Option ℤ) (order : Ordering) → i < length items → x ≡ slice_get xs i → y ≡ slice_get ys i
     → order ≡ value_cmp (get_or items i d) x y
     → keys_cmp i (drop i items) xs ys ≡ ordering_then order (keys_cmp (i + 1) (drop (i + 1) items) xs ys)
 here items xs ys i d x y order inside first second is =
     by_item items xs ys i d inside
     ∙ ap (λ o. ordering_then o (keys_cmp (i + 1) (drop (i + 1) items) xs ys))
     (sym (is ∙ ap (λ v. value_cmp (get_or items i d) v y) first ∙ ap (value_cmp (get_or items i d) (slice_get xs i)) second))
-
-pub decided_here : (items : List Bool) (xs ys : List ℤ) (i : ℕ) (d : Bool) (x y : Option ℤ) (order : Ordering) → i < length items
-    → x ≡ slice_get xs i → y ≡ slice_get ys i → order ≡ value_cmp (get_or items i d) x y → is_ne order ≡ true
-    → keys_cmp i (drop i items) xs ys ≡ order
-decided_here items xs ys i d x y order inside first second is differ =
-    here items xs ys i d x y order inside first second is ∙ decided order _ differ
-
-pub tied_here : (items : List Bool) (xs ys : List ℤ) (i : ℕ) (d : Bool) (x y : Option ℤ) (order : Ordering) → i < length items
-    → x ≡ slice_get xs i → y ≡ slice_get ys i → order ≡ value_cmp (get_or items i d) x y → is_ne order ≡ false
-    → keys_cmp i (drop i items) xs ys ≡ keys_cmp (i + 1) (drop (i + 1) items) xs ys
-tied_here items xs ys i d x y order inside first second is same =
-    here items xs ys i d x y order inside first second is ∙ tied order _ same
 
 value_total : (least : Bool) → IsTotalOrder (value_cmp least)
 value_total true = options_total int_cmp_total

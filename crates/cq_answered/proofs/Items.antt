@@ -1,7 +1,6 @@
 -- The directions of the items so far.
-use Rattle.std.proofs.Common.{◌≡◌, ℕ, ◌+◌, ◌<◌, List, [], ◌∷◌, ◌++◌, length, take, get_or, Bool, Option, Some, None, ap, ap₂, subst, sym, ◌∙◌, append_assoc, append-nil}
+use Rattle.std.proofs.Common.{◌≡◌, ℕ, ◌+◌, ◌<◌, List, [], ◌∷◌, ◌++◌, length, take, get_or, Bool, ap, ap₂, sym, ◌∙◌, append_assoc, append-nil}
 use Rattle.std.proofs.lemmas.List.{take_more}
-use Rattle.std.specs.Prelude.{MatchOption}
 use Rattle.cql_syntax.specs.TreeOf.{filter_tree, filter_trees}
 use Rattle.cql_syntax.specs.declared.tree.Filter.{Filter}
 use Rattle.cq_answered.specs.Order.{directions, filter_directions}
@@ -16,20 +15,14 @@ one_more : (fs : List Filter) (i : ℕ) (d : Filter) → i < length fs
     → directions (filter_trees (take (i + 1) fs)) ≡ directions (filter_trees (take i fs)) ++ filter_directions (filter_tree (get_or fs i d))
 one_more fs i d inside = ap (λ gs. directions (filter_trees gs)) (take_more fs i d inside) ∙ directions_push (take i fs) (get_or fs i d)
 
--- what a filter is found to be
-abbrev pub IsDirection : Filter → Option Bool → Type 0
-IsDirection f found = MatchOption found (filter_directions (filter_tree f) ≡ []) (λ least. filter_directions (filter_tree f) ≡ least ∷ [])
-
-pub one_found : (fs : List Filter) (i : ℕ) (f : Filter) (found : Option Bool) (least : Bool) (before after : List Bool) → i < length fs
-    → f ≡ get_or fs i f → IsDirection f found → found ≡ Some least → before ≡ directions (filter_trees (take i fs)) → after ≡ before ++ least ∷ []
+pub one_found : (fs : List Filter) (i : ℕ) (f : Filter) (least : Bool) (before after : List Bool) → i < length fs
+    → f ≡ get_or fs i f → filter_directions (filter_tree f) ≡ least ∷ [] → before ≡ directions (filter_trees (take i fs)) → after ≡ before ++ least ∷ []
     → after ≡ directions (filter_trees (take (i + 1) fs))
-one_found fs i f found least before after inside at is some so_far grown =
-    let here : filter_directions (filter_tree f) ≡ least ∷ [] = subst (IsDirection f) some is in
+one_found fs i f least before after inside at here so_far grown =
     grown ∙ ap₂ (λ xs ys. xs ++ ys) so_far (sym here ∙ ap (λ g. filter_directions (filter_tree g)) at) ∙ sym (one_more fs i f inside)
 
-pub none_found : (fs : List Filter) (i : ℕ) (f : Filter) (found : Option Bool) (before after : List Bool) → i < length fs
-    → f ≡ get_or fs i f → IsDirection f found → found ≡ None → before ≡ directions (filter_trees (take i fs)) → after ≡ before
+pub none_found : (fs : List Filter) (i : ℕ) (f : Filter) (before after : List Bool) → i < length fs
+    → f ≡ get_or fs i f → filter_directions (filter_tree f) ≡ [] → before ≡ directions (filter_trees (take i fs)) → after ≡ before
     → after ≡ directions (filter_trees (take (i + 1) fs))
-none_found fs i f found before after inside at is none so_far kept =
-    let here : filter_directions (filter_tree f) ≡ [] = subst (IsDirection f) none is in
+none_found fs i f before after inside at here so_far kept =
     kept ∙ sym (append-nil before) ∙ ap₂ (λ xs ys. xs ++ ys) so_far (sym here ∙ ap (λ g. filter_directions (filter_tree g)) at) ∙ sym (one_more fs i f inside)

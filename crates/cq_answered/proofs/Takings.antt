@@ -53,7 +53,9 @@ takes (q ∷ qs) k batch rows left answers some are none nothing = record {
 }
 
 -- a row is taken, and its last answer is taken off
-pub record TookRow (was rows : List GameRow) (row now : GameRow) (a : GameAnswer) (left left' : List GameRow) (answers answers' : List GameAnswer) : Type 0 where
+pub record TookRow (was rows : List GameRow) (now : GameRow) (left left' : List GameRow) (answers answers' : List GameAnswer) : Type 0 where
+  pub row : GameRow
+  pub a : GameAnswer
   pub rows_ : was ≡ rows ++ row ∷ []
   pub index : now.index ≡ row.index
   pub off : row.answers.items ≡ now.answers.items ++ a ∷ []
@@ -71,9 +73,11 @@ not_none queries batch was rows left answers row before taken none =
     let e = ap length (some_back queries before.later before.first batch row before.are is) in
     let n = length-append (answers_back before.later (number_of batch + is.0) is.1.outcome) (answer_of before.first (number_of batch + is.0) is.1.outcome ∷ []) in omega (arith, none, e, n)
 
-pub takes_one : (queries : List QueryTree) (batch : Batch) (was rows : List GameRow) (row now : GameRow) (a : GameAnswer) (left left' : List GameRow) (answers answers' : List GameAnswer)
-    → IsTaking queries batch was left answers → TookRow was rows row now a left left' answers answers' → IsTaking queries batch rows left' answers'
-takes_one queries batch was rows row now a left left' answers answers' before took =
+pub takes_one : (queries : List QueryTree) (batch : Batch) (was rows : List GameRow) (now : GameRow) (left left' : List GameRow) (answers answers' : List GameAnswer)
+    → IsTaking queries batch was left answers → TookRow was rows now left left' answers answers' → IsTaking queries batch rows left' answers'
+takes_one queries batch was rows now left left' answers answers' before took =
+    let row = took.row in
+    let a = took.a in
     let p = All-pop (IsRowIn queries batch) was rows (Some row) took.rows_ before.rows_ in
     let is : IsRowIn queries batch row = p.1 in
     let same = snoc_same now.answers.items (answers_back before.later (number_of batch + is.0) is.1.outcome) a (answer_of before.first (number_of batch + is.0) is.1.outcome)

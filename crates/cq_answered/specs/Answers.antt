@@ -1,5 +1,6 @@
 -- The answers of the games of a batch.
 use Rattle.std.specs.Prelude.{◌≡◌, ℕ, ◌+◌, ◌<◌, Bool, not, List, [], ◌∷◌, All, Some, Ok, Err, ◌==◌, count_by, length, slice_get, if◌then◌else◌}
+use Rattle.cq_batches.specs.Games.{games_of, number_of}
 use Rattle.cq_batches.specs.Kept.{KeptGames}
 use Rattle.cq_batches.specs.declared.batch.Batch.{Batch}
 use Rattle.cq_batches.specs.declared.kept.KeptGame.{KeptGame}
@@ -40,13 +41,6 @@ text_of Miss = []
 text_of (Match text keys) = text
 
 -- ---- batches
-
--- the games of a batch, and the number of the first
-abbrev pub games_of : Batch → KeptGames
-games_of batch = batch.games.items
-
-abbrev pub number_of : Batch → ℕ
-number_of batch = batch.index
 
 -- the answer of a game
 abbrev pub IsAnswerOf : QueryTree → (index : ℕ) → KeptGame → GameAnswer → Type 0

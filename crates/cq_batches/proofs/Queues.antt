@@ -48,13 +48,21 @@ if_false : {A : Type 0} (b : Bool) (x y : A) → b ≡ false → (if b then x el
 if_false true x y is = absurd (grind arith)
 if_false false x y is = refl
 
+-- with the game the batch under way joins the full ones, and the next one is empty
+pub record ClosesBatch (q now : Queue) (g : KeptGame) (batch : Batch) : Type 0 where
+  pub more : now.full.items ≡ q.full.items ++ batch ∷ []
+  pub has : batch.games.items ≡ q.open.items ++ g ∷ []
+  pub at : batch.index ≡ q.index
+  pub none : now.open.items ≡ []
+  pub empty : now.size ≡ 0
+  pub count : now.index ≡ q.index + length batch.games.items
+
 -- the batch under way becomes full with the game
 pub filled : (q now : Queue) (g : KeptGame) (batch : Batch) (games : KeptGames) (m : ℕ) → Fills q games m → is_full (left_over games ++ g ∷ []) ≡ true
-    → now.full.items ≡ q.full.items ++ batch ∷ [] → batch.games.items ≡ q.open.items ++ g ∷ [] → batch.index ≡ q.index
-    → now.open.items ≡ [] → now.size ≡ 0 → now.index ≡ q.index + length batch.games.items → Fills now (games ++ g ∷ []) m
-filled q now g batch games m was full_ more has at none empty count =
+    → ClosesBatch q now g batch → Fills now (games ++ g ∷ []) m
+filled q now g batch games m was full_ closes =
     let b : KeptGames = left_over games ++ g ∷ [] in
-    let hb : batch.games.items ≡ b = has ∙ ap (λ (l : KeptGames). l ++ g ∷ []) was.open_ in
+    let hb : batch.games.items ≡ b = closes.has ∙ ap (λ (l : KeptGames). l ++ g ∷ []) was.open_ in
     let f : full_batches (games ++ g ∷ []) ≡ full_batches games ++ b ∷ [] =
     full_push games g ∙ ap (λ (l : List KeptGames). full_batches games ++ l) (if_true (is_full b) (b ∷ []) [] full_) in
     let l : left_over (games ++ g ∷ []) ≡ [] = left_push games g ∙ if_true (is_full b) [] b full_ in
@@ -65,11 +73,11 @@ filled q now g batch games m was full_ more has at none empty count =
       waiting = was.waiting ++ b ∷ [];
       count = was.count;
       full = f ∙ ap (λ (l : List KeptGames). l ++ b ∷ []) was.full ∙ append_assoc was.given was.waiting (b ∷ []);
-      are = subst (AreBatches (length (flat was.given)) (was.waiting ++ b ∷ [])) (sym more)
-          (are_more (length (flat was.given)) was.waiting q.full.items b batch was.are (record { games_ = hb; index = at ∙ was.index ∙ n }));
-      open_ = none ∙ sym l;
-      size = empty ∙ sym (ap size_of l);
-      index = count ∙ ap₂ (λ (x y : ℕ). x + y) was.index (ap length hb)
+      are = subst (AreBatches (length (flat was.given)) (was.waiting ++ b ∷ [])) (sym closes.more)
+          (are_more (length (flat was.given)) was.waiting q.full.items b batch was.are (record { games_ = hb; index = closes.at ∙ was.index ∙ n }));
+      open_ = closes.none ∙ sym l;
+      size = closes.empty ∙ sym (ap size_of l);
+      index = closes.count ∙ ap₂ (λ (x y : ℕ). x + y) was.index (ap length hb)
           ∙ sym (ap (λ (bs : List KeptGames). length (flat bs)) f ∙ ap length (flat_append (full_batches games) (b ∷ [])) ∙ length-append (flat (full_batches games)) (b ++ [])
           ∙ ap (λ (l : KeptGames). length (flat (full_batches games)) + length l) (append-nil b));
     }
@@ -114,11 +122,11 @@ at_seam : (xs : List KeptGames) (y : KeptGames) (ys : List KeptGames) → slice_
 at_seam [] y ys = refl
 at_seam (x ∷ xs) y ys = at_seam xs y ys
 
-leaves : (q now : Queue) (batch : Batch) (games : KeptGames) (m : ℕ) (given waiting : List KeptGames) → length given ≡ m → full_batches games ≡ given ++ waiting
+leaves : (now : Queue) (batch : Batch) (games : KeptGames) (m : ℕ) (given waiting : List KeptGames) → length given ≡ m → full_batches games ≡ given ++ waiting
     → AreBatches (length (flat given)) waiting (batch ∷ now.full.items) → now.open.items ≡ left_over games → now.size ≡ size_of (left_over games)
     → now.index ≡ length (flat (full_batches games)) → IsNextBatch games m batch × Fills now games (m + 1)
-leaves q now batch games m given [] count full are open_ size index = absurd are
-leaves q now batch games m given (b ∷ bs) count full are open_ size index =
+leaves now batch games m given [] count full are open_ size index = absurd are
+leaves now batch games m given (b ∷ bs) count full are open_ size index =
     let has = are.0 in (
       record {
         is = ap₂ slice_get full (sym count) ∙ at_seam given b bs ∙ ap Some (sym has.games_);
@@ -140,7 +148,7 @@ leaves q now batch games m given (b ∷ bs) count full are open_ size index =
 -- a batch leaves
 pub left : (q now : Queue) (batch : Batch) (games : KeptGames) (m : ℕ) → Fills q games m → q.full.items ≡ batch ∷ now.full.items → now.open.items ≡ q.open.items → now.size ≡ q.size
     → now.index ≡ q.index → IsNextBatch games m batch × Fills now games (m + 1)
-left q now batch games m was first open_ size index = leaves q now batch games m was.given was.waiting was.count was.full (subst (AreBatches (length (flat was.given)) was.waiting) first was.are)
+left q now batch games m was first open_ size index = leaves now batch games m was.given was.waiting was.count was.full (subst (AreBatches (length (flat was.given)) was.waiting) first was.are)
     (open_ ∙ was.open_) (size ∙ was.size) (index ∙ was.index)
 
 pub left_some : (q now : Queue) (r : Option Batch) → q.full.items ≡ option_to_list r ++ now.full.items → now.open.items ≡ q.open.items → now.size ≡ q.size → now.index ≡ q.index
@@ -172,20 +180,27 @@ last_none q now games m (inr done) none nothing full open_ = record { all = done
 last_of : (q : Queue) (g : KeptGame) (gs games : KeptGames) (m : ℕ) → Fills q games m → q.full.items ≡ [] → q.open.items ≡ g ∷ gs → batches games ≡ full_batches games ++ (g ∷ gs) ∷ []
 last_of q g gs games m was none some = ap (λ (l : KeptGames). full_batches games ++ as_last l) (sym was.open_ ∙ some)
 
+-- the games that are left go as one batch
+pub record TakesLeft (q now : Queue) (batch : Batch) : Type 0 where
+  pub has : batch.games.items ≡ q.open.items
+  pub at : batch.index ≡ q.index
+  pub full : now.full.items ≡ q.full.items
+  pub open_ : now.open.items ≡ []
+
 -- some games are left
 pub last_some : (q now : Queue) (batch : Batch) (open_games games : KeptGames) (m : ℕ) → Fills q games m ⊎ IsDone q games m → q.full.items ≡ [] → 0 < length open_games → q.open.items ≡ open_games
-    → batch.games.items ≡ open_games → batch.index ≡ q.index → now.full.items ≡ q.full.items → now.open.items ≡ [] → IsBatchAt games m batch × IsDone now games (m + 1)
-last_some q now batch [] games m was none some is has at full open_ = absurd (omega arith)
-last_some q now batch (g ∷ gs) games m (inl was) none some is has at full open_ =
+    → TakesLeft q now batch → IsBatchAt games m batch × IsDone now games (m + 1)
+last_some q now batch [] games m was none some is last = absurd (omega arith)
+last_some q now batch (g ∷ gs) games m (inl was) none some is last =
     let bs = last_of q g gs games m was none is in
     let n = all_given q games m was none in (
       record {
-        is = ap₂ slice_get bs (sym n) ∙ at_seam (full_batches games) (g ∷ gs) [] ∙ ap Some (sym has);
-        index = at ∙ was.index ∙ sym (ap (λ (l : List KeptGames). length (flat l)) (ap₂ take (sym n) bs ∙ take-append_seam (full_batches games) ((g ∷ gs) ∷ [])));
+        is = ap₂ slice_get bs (sym n) ∙ at_seam (full_batches games) (g ∷ gs) [] ∙ ap Some (sym (last.has ∙ is));
+        index = last.at ∙ was.index ∙ sym (ap (λ (l : List KeptGames). length (flat l)) (ap₂ take (sym n) bs ∙ take-append_seam (full_batches games) ((g ∷ gs) ∷ [])));
       },
-      record { all = ap length bs ∙ (let l = length-append (full_batches games) ((g ∷ gs) ∷ []) in omega arith); none = full ∙ none; nothing = open_ },
+      record { all = ap length bs ∙ (let l = length-append (full_batches games) ((g ∷ gs) ∷ []) in omega arith); none = last.full ∙ none; nothing = last.open_ },
     )
-last_some q now batch (g ∷ gs) games m (inr done) none some is has at full open_ = absurd (let e : length (g ∷ gs) ≡ 0 = ap length (sym is ∙ done.nothing) in omega arith)
+last_some q now batch (g ∷ gs) games m (inr done) none some is last = absurd (let e : length (g ∷ gs) ≡ 0 = ap length (sym is ∙ done.nothing) in omega arith)
 
 get_within : (xs ys : List KeptGames) (m : ℕ) (b : KeptGames) → slice_get xs m ≡ Some b → (slice_get (xs ++ ys) m ≡ Some b) × (take m (xs ++ ys) ≡ take m xs)
 get_within xs ys m b at =

@@ -118,48 +118,65 @@ goes_after : (now : Window) (at size end p : ℕ) (s : Span) → end ≡ at + si
 goes_after now at size end p s long is from (inl beyond) = inr (omega (arith, long, is, beyond))
 goes_after now at size end p s long is from (inr within) = inl (let m : min p (at + size) ≡ p = grind (arith, within) in is ∙ sym (from ∙ m))
 
-begins_by : (was now : Window) (at size end p : ℕ) (s : Span) → end ≡ at + size → s.start ≡ p → (p < at → now.from ≡ was.from) → (at ≤ p → now.from ≡ min p (at + size))
-    → BeginsThere was at s → (p < at) ⊎ (at ≤ p) → BeginsThere now end s
-begins_by was now at size end p s long is same moved old (inl low) = goes_before was now at size end p s is low same old
-begins_by was now at size end p s long is same moved old (inr high) = goes_after now at size end p s long is (moved high) (cases_lt (at + size) p)
+-- the window moves to where a game is open, or to the end of the piece
+pub record MovesTo (was now : Window) (o : Option ℕ) (at size : ℕ) : Type 0 where
+  pub place : ℕ
+  pub is : place ≡ unwrap_or o (at + size)
+  pub same : place < at → now.from ≡ was.from
+  pub moved : at ≤ place → now.from ≡ min place (at + size)
 
-begins : (was now : Window) (o : Option ℕ) (at size end place : ℕ) (s : Span) → end ≡ at + size → place ≡ unwrap_or o (at + size) → (place < at → now.from ≡ was.from)
-    → (at ≤ place → now.from ≡ min place (at + size)) → BeginsThere was at s → IsAtPlace o end s → BeginsThere now end s
-begins was now None at size end place s long is same moved old new = inr new
-begins was now (Some p) at size end place s long is same moved old (inr new) = inr new
-begins was now (Some p) at size end place s long is same moved old (inl new) =
-    begins_by was now at size end place s long (new ∙ sym is) same moved old (cases_lt place at)
+begins_by : (was now : Window) (o : Option ℕ) (at size end : ℕ) (s : Span) → (moves : MovesTo was now o at size) → end ≡ at + size → s.start ≡ moves.place
+    → BeginsThere was at s → (moves.place < at) ⊎ (at ≤ moves.place) → BeginsThere now end s
+begins_by was now o at size end s moves long is old (inl low) = goes_before was now at size end moves.place s is low moves.same old
+begins_by was now o at size end s moves long is old (inr high) = goes_after now at size end moves.place s long is (moves.moved high) (cases_lt (at + size) moves.place)
 
-pub opened : Grow → (was now : Window) (o : Option ℕ) (front piece : List ℕ) (at place : ℕ) → at ≡ length front → HasOpen was front → IsOpenAt o (front ++ piece)
-    → place ≡ unwrap_or o (at + length piece) → (place < at → now.from ≡ was.from) → (at ≤ place → now.from ≡ min place (at + length piece)) → HasOpen now (front ++ piece)
-opened grow was now o front piece at place here old open_ is same moved = λ more i d below.
+begins : (was now : Window) (o : Option ℕ) (at size end : ℕ) (s : Span) → MovesTo was now o at size → end ≡ at + size → BeginsThere was at s → IsAtPlace o end s → BeginsThere now end s
+begins was now None at size end s moves long old new = inr new
+begins was now (Some p) at size end s moves long old (inr new) = inr new
+begins was now (Some p) at size end s moves long old (inl new) = begins_by was now (Some p) at size end s moves long (new ∙ sym moves.is) old (cases_lt moves.place at)
+
+pub opened : Grow → (was now : Window) (o : Option ℕ) (front piece : List ℕ) (at : ℕ) → at ≡ length front → HasOpen was front → IsOpenAt o (front ++ piece)
+    → MovesTo was now o at (length piece) → HasOpen now (front ++ piece)
+opened grow was now o front piece at here old open_ moves = λ more i d below.
     let l = length-append front piece in
     let olds = later_on grow front piece more (BeginsThere was (length front)) (old (piece ++ more)) i d below in
     let news = at_place o (front ++ piece) more (later_games (front ++ piece) more) (open_ more) i d below in
     let s = get_or (later_games (front ++ piece) more) i d in
-    begins was now o at (length piece) (length (front ++ piece)) place s (l ∙ ap (λ (k : ℕ). k + length piece) (sym here)) is same moved
+    begins was now o at (length piece) (length (front ++ piece)) s moves (l ∙ ap (λ (k : ℕ). k + length piece) (sym here))
     (subst (λ (k : ℕ). BeginsThere was k s) (sym here) olds) news
 
 -- ---- what stands
 
+-- the queue was given the games of these spans
+abbrev pub AreQueued : Batches → Batches → List ℕ → List Span → Type 0
+AreQueued b now archive news = (games : KeptGames) (m : ℕ) → Fills b.queue games m → Fills now.queue (games ++ map (kept archive) news) m
+
+-- what is kept once a piece was taken, with the games of these spans
+pub record TookPiece (b now : Batches) (front piece : List ℕ) (news : List Span) : Type 0 where
+  pub cutter : CutterStands now.cutter (front ++ piece)
+  pub taken : now.taken ≡ b.taken + length piece
+  pub few : length (front ++ piece) ≤ now.limit + 1
+  pub shows : Shows now.window (front ++ piece)
+  pub opens : HasOpen now.window (front ++ piece)
+  pub open_ : b.ended ≡ false
+  pub still : now.ended ≡ false
+  pub fills : AreQueued b now (front ++ piece) news
+
 -- a piece was taken
 pub goes_on : Within → Split → (b now : Batches) (front piece : List ℕ) (m : ℕ) (news : List Span) → Stands b front m → IsFed front piece news
-    → CutterStands now.cutter (front ++ piece) → now.taken ≡ b.taken + length piece → length (front ++ piece) ≤ now.limit + 1
-    → Shows now.window (front ++ piece) → HasOpen now.window (front ++ piece) → b.ended ≡ false → now.ended ≡ false
-    → ((games : KeptGames) (m : ℕ) → Fills b.queue games m → Fills now.queue (games ++ map (kept (front ++ piece)) news) m)
-    → Stands now (front ++ piece) m
-goes_on within whole_ b now front piece m news was is cutter taken few shows opens open_ still fills =
+    → TookPiece b now front piece news → Stands now (front ++ piece) m
+goes_on within whole_ b now front piece m news was is took =
     let games : closed_games (front ++ piece) ≡ closed_games front ++ map (kept (front ++ piece)) news =
     ap (map (kept (front ++ piece))) is.closes ∙ map-append (kept (front ++ piece)) (closed front) news
     ∙ ap (λ (x : KeptGames). x ++ map (kept (front ++ piece)) news) (all_stay front piece (closed front) (closed_within within whole_ front)) in
     record {
-      cutter = cutter;
-      taken = taken ∙ ap (λ (n : ℕ). n + length piece) was.taken ∙ sym (length-append front piece);
-      few = few;
-      window = shows;
-      opens = opens;
-      open_ = λ o. subst (λ (gs : KeptGames). Fills now.queue gs m) (sym games) (fills (closed_games front) m (was.open_ open_));
-      at_end = λ e. absurd (grind arith);
+      cutter = took.cutter;
+      taken = took.taken ∙ ap (λ (n : ℕ). n + length piece) was.taken ∙ sym (length-append front piece);
+      few = took.few;
+      window = took.shows;
+      opens = took.opens;
+      open_ = λ o. subst (λ (gs : KeptGames). Fills now.queue gs m) (sym games) (took.fills (closed_games front) m (was.open_ took.open_));
+      at_end = λ e. let still = took.still in absurd (grind arith);
     }
 
 -- nothing is closed where nothing was taken
@@ -180,19 +197,25 @@ starts within whole_ b cutter taken window fills reads =
       at_end = λ e. absurd (grind arith);
     }
 
+-- no byte was taken
+pub record TookNone (b now : Batches) : Type 0 where
+  pub cutter : now.cutter ≡ b.cutter
+  pub taken : now.taken ≡ b.taken
+  pub limit : now.limit ≡ b.limit
+  pub window : now.window ≡ b.window
+
 -- the end was reached
-pub comes_to_end : (b now : Batches) (front : List ℕ) (m : ℕ) (news : List Span) → Stands b front m → cut front ≡ closed front ++ news → now.cutter ≡ b.cutter → now.taken ≡ b.taken
-    → now.limit ≡ b.limit → now.window ≡ b.window → b.ended ≡ false → now.ended ≡ true
-    → ((games : KeptGames) (m : ℕ) → Fills b.queue games m → Fills now.queue (games ++ map (kept (front ++ [])) news) m) → Stands now front m
-comes_to_end b now front m news was is cutter taken limit window reads over fills =
+pub comes_to_end : (b now : Batches) (front : List ℕ) (m : ℕ) (news : List Span) → Stands b front m → cut front ≡ closed front ++ news → TookNone b now → b.ended ≡ false
+    → now.ended ≡ true → AreQueued b now (front ++ []) news → Stands now front m
+comes_to_end b now front m news was is same reads over fills =
     let games : cut_games front ≡ closed_games front ++ map (kept (front ++ [])) news =
     ap (map (kept front)) is ∙ map-append (kept front) (closed front) news ∙ ap (λ (f : List ℕ). closed_games front ++ map (kept f) news) (sym (append-nil front)) in
     record {
-      cutter = subst (λ (k : Cutter). CutterStands k front) (sym cutter) was.cutter;
-      taken = taken ∙ was.taken;
-      few = subst (λ (n : ℕ). length front ≤ n + 1) (sym limit) was.few;
-      window = subst (λ (w : Window). Shows w front) (sym window) was.window;
-      opens = subst (λ (w : Window). HasOpen w front) (sym window) was.opens;
+      cutter = subst (λ (k : Cutter). CutterStands k front) (sym same.cutter) was.cutter;
+      taken = same.taken ∙ was.taken;
+      few = subst (λ (n : ℕ). length front ≤ n + 1) (sym same.limit) was.few;
+      window = subst (λ (w : Window). Shows w front) (sym same.window) was.window;
+      opens = subst (λ (w : Window). HasOpen w front) (sym same.window) was.opens;
       open_ = λ o. absurd (grind arith);
       at_end = λ e. inl (subst (λ (gs : KeptGames). Fills now.queue gs m) (sym games) (fills (closed_games front) m (was.open_ reads)));
     }

@@ -123,12 +123,12 @@ from_piece most from at start last archive piece long inside after some within =
     drop_append start archive piece ∙ ap₂ (λ (x y : List ℕ). x ++ y) (drop_all start archive (omega (arith, long))) (ap (λ (n : ℕ). drop (start - n) piece) long) in
     ap₂ (λ (x y : List ℕ). x ++ y) none some_ ∙ ap (take (last - start)) (sym d)
 
-begun : (most from at start last : ℕ) (archive piece : List ℕ) → length archive ≡ at → from ≤ at → (start ≡ from) ⊎ (at ≤ start) → start ≤ last → last - start ≤ most
-    → start ≤ at + length piece → part_of (take most (drop from archive)) from start last ++ part_of piece at start last ≡ take (last - start) (drop start (archive ++ piece))
-begun most from at start last archive piece long inside (inl is) some few within =
-    subst (λ (s : ℕ). part_of (take most (drop from archive)) from s last ++ part_of piece at s last ≡ take (last - s) (drop s (archive ++ piece))) (sym is)
-    (from_window most from at last archive piece long inside (omega (arith, is, some)) (omega (arith, is, few)))
-begun most from at start last archive piece long inside (inr after) some few within = from_piece most from at start last archive piece long inside after some within
+begun : (from at start last : ℕ) (archive piece : List ℕ) → length archive ≡ at → from ≤ at → (start ≡ from) ⊎ (at ≤ start) → start ≤ last → last - start ≤ most_kept
+    → start ≤ at + length piece → part_of (take most_kept (drop from archive)) from start last ++ part_of piece at start last ≡ take (last - start) (drop start (archive ++ piece))
+begun from at start last archive piece long inside (inl is) some few within =
+    subst (λ (s : ℕ). part_of (take most_kept (drop from archive)) from s last ++ part_of piece at s last ≡ take (last - s) (drop s (archive ++ piece))) (sym is)
+    (from_window most_kept from at last archive piece long inside (omega (arith, is, some)) (omega (arith, is, few)))
+begun from at start last archive piece long inside (inr after) some few within = from_piece most_kept from at start last archive piece long inside after some within
 
 -- what the code takes of a game is what is kept of it
 pub cut_out : (w : Window) (at : ℕ) (piece archive : List ℕ) (s : Span) (last : ℕ) → Shows w archive → length archive ≡ at → IsInside w at (length piece) s → last ≡ min s.end (s.start + most_kept)
@@ -138,7 +138,7 @@ cut_out w at piece archive s last shows long inside is =
     let b = inside.to in
     let c = shows.within in
     subst (λ (l : List ℕ). part_of l w.from s.start last ++ part_of piece at s.start last ≡ take most_kept (slice_range (archive ++ piece) s.start s.end)) (sym shows.is)
-    (begun most_kept w.from at s.start last archive piece long (omega (arith, c, long)) inside.begins (grind (arith, is, a)) (grind (arith, is, a)) (omega (arith, a, b))
+    (begun w.from at s.start last archive piece long (omega (arith, c, long)) inside.begins (grind (arith, is, a)) (grind (arith, is, a)) (omega (arith, a, b))
     ∙ ap (λ (k : ℕ). take (k - s.start) (drop s.start (archive ++ piece))) is ∙ range_case (nat_le most_kept (s.end - s.start)) most_kept s.start s.end (drop s.start (archive ++ piece)) refl)
 
 -- what is kept of a game that stands in a list

@@ -36,7 +36,10 @@ starts HasMade board w fresh = record {
 }
 
 -- what a worker draws, and makes of it
-pub record DrewOne {K X : Type 0} (HasMade : K → List ℕ → List X → Type 0) (board : Board) (s t : ClaimSeat) (kept kept' : K) (was now : List X) (number : ℕ) (one : Option X) : Type 0 where
+pub record DrewOne {K X : Type 0} (HasMade : K → List ℕ → List X → Type 0) (board : Board) (s : ClaimSeat) (kept kept' : K) (was now : List X) : Type 0 where
+  pub t : ClaimSeat
+  pub number : ℕ
+  pub one : Option X
   pub seat : IsSeatOf board t
   pub may_draw : HasEnded t → ⊥
   pub drew : drawn t ≡ drawn s ++ number ∷ []
@@ -45,61 +48,66 @@ pub record DrewOne {K X : Type 0} (HasMade : K → List ℕ → List X → Type 
   pub adds : AddsOne HasMade number kept kept' one
   pub more : now ≡ was ++ those one
 
-pub goes_on : {K X : Type 0} (HasMade : K → List ℕ → List X → Type 0) (board : Board) (s t : ClaimSeat) (kept kept' : K) (was now : List X) (number turn : ℕ) (one : Option X)
-    → IsDrawing HasMade board s kept was turn → DrewOne HasMade board s t kept kept' was now number one → IsDrawing HasMade board t kept' now (turn + 1)
-goes_on HasMade board s t kept kept' was now number turn one before drew_one = record {
+pub goes_on : {K X : Type 0} (HasMade : K → List ℕ → List X → Type 0) (board : Board) (s : ClaimSeat) (kept kept' : K) (was now : List X) (turn : ℕ)
+    → IsDrawing HasMade board s kept was turn → (drew_one : DrewOne HasMade board s kept kept' was now) → IsDrawing HasMade board drew_one.t kept' now (turn + 1)
+goes_on HasMade board s kept kept' was now turn before drew_one = record {
   seat = drew_one.seat;
   may_draw = drew_one.may_draw;
   turns =
-      let l = length-append (drawn s) (number ∷ []) in let a = before.turns in
-      let e : length (drawn t) ≡ length (drawn s ++ number ∷ []) = ap length drew_one.drew in omega arith;
+      let l = length-append (drawn s) (drew_one.number ∷ []) in let a = before.turns in
+      let e : length (drawn drew_one.t) ≡ length (drawn s ++ drew_one.number ∷ []) = ap length drew_one.drew in omega arith;
   few = let a = before.turns in let b = drew_one.late in let c = drew_one.inside in omega arith;
   has_made =
-      subst (λ made. HasMade kept' (drawn t) made) (sym drew_one.more)
-      (subst (λ numbers. HasMade kept' numbers (was ++ those one)) (sym drew_one.drew) (drew_one.adds (drawn s) was before.has_made));
+      subst (λ made. HasMade kept' (drawn drew_one.t) made) (sym drew_one.more)
+      (subst (λ numbers. HasMade kept' numbers (was ++ those drew_one.one)) (sym drew_one.drew) (drew_one.adds (drawn s) was before.has_made));
 }
 
 -- the worker with this seat
 abbrev pub with_seat : {K X : Type 0} → Worker K X → ClaimSeat → Worker K X
 with_seat w s = record { seat = s; kept = w.kept; made = w.made; starved = w.starved }
 
-pub ends : {K X : Type 0} (HasMade : K → List ℕ → List X → Type 0) (board : Board) (w : Worker K X) (s : ClaimSeat) (number turn : ℕ)
-    → IsDrawing HasMade board w.seat w.kept w.made.items turn → IsSeatOf board s → HasEnded s → drawn s ≡ drawn w.seat ++ number ∷ [] → numbers_of board ≤ number
+pub ends : {K X : Type 0} (HasMade : K → List ℕ → List X → Type 0) (board : Board) (w : Worker K X) (s : ClaimSeat) (number : ℕ)
+    → HasMade w.kept (drawn w.seat) w.made.items → IsSeatOf board s → HasEnded s → drawn s ≡ drawn w.seat ++ number ∷ [] → numbers_of board ≤ number
     → IsThrough HasMade board (with_seat w s)
-ends HasMade board w s number turn before seat ended drew past = record {
+ends HasMade board w s number made seat ended drew past = record {
   seat = seat;
   ended = ended;
   numbers = drawn w.seat;
   last = number;
   drew = drew;
   past = past;
-  made = before.has_made;
+  made = made;
 }
 
 -- ---- gathering
 
+-- what is gathered of workers
+pub record Gathered (K X : Type 0) : Type 0 where
+  pub seats : List ClaimSeat
+  pub kept : List K
+  pub made : List X
+
 -- what is gathered of the workers that are taken so far, while these are left
-pub record IsGathering {K X : Type 0} (HasMade : K → List ℕ → List X → Type 0) (board : Board) (left : List (Worker K X)) (seats : List ClaimSeat) (kept : List K)
-    (made : List X) : Type 0 where
+pub record IsGathering {K X : Type 0} (HasMade : K → List ℕ → List X → Type 0) (board : Board) (left : List (Worker K X)) (all : Gathered K X) : Type 0 where
   pub worked : All (HasWorked HasMade board) left
-  pub taken : All (IsSeatOf board) seats
-  pub ended : All HasEnded seats
-  pub count : length seats + length left ≡ seats_of board
-  pub count_kept : length kept + length left ≡ seats_of board
+  pub taken : All (IsSeatOf board) all.seats
+  pub ended : All HasEnded all.seats
+  pub count : length all.seats + length left ≡ seats_of board
+  pub count_kept : length all.kept + length left ≡ seats_of board
   pub shares : List (Share K X)
   pub each : All (λ s. HasMade s.kept s.numbers s.made) shares
-  pub drawn_ : (x : ℕ) → x < numbers_of board → times_in x (all_drawn seats) ≡ times_in x (map (λ s. s.numbers) shares)
-  pub kept_ : kept ≡ map (λ s. s.kept) shares
-  pub made_ : made ≡ flat_map (λ s. s.made) shares
+  pub drawn_ : (x : ℕ) → x < numbers_of board → times_in x (all_drawn all.seats) ≡ times_in x (map (λ s. s.numbers) shares)
+  pub kept_ : all.kept ≡ map (λ s. s.kept) shares
+  pub made_ : all.made ≡ flat_map (λ s. s.made) shares
 
-pub gathers : {K X : Type 0} (HasMade : K → List ℕ → List X → Type 0) (board : Board) (left : List (Worker K X)) (seats : List ClaimSeat) (kept : List K) (made : List X)
-    → All (HasWorked HasMade board) left → length left ≡ seats_of board → seats ≡ [] → kept ≡ [] → made ≡ [] → IsGathering HasMade board left seats kept made
-gathers {K} {X} HasMade board left seats kept made worked count none nothing_kept nothing = record {
+pub gathers : {K X : Type 0} (HasMade : K → List ℕ → List X → Type 0) (board : Board) (left : List (Worker K X)) (all : Gathered K X)
+    → All (HasWorked HasMade board) left → length left ≡ seats_of board → all.seats ≡ [] → all.kept ≡ [] → all.made ≡ [] → IsGathering HasMade board left all
+gathers {K} {X} HasMade board left all worked count none nothing_kept nothing = record {
   worked = worked;
   taken = subst (All (IsSeatOf board)) (sym none) (All-nil (IsSeatOf board));
   ended = subst (All HasEnded) (sym none) (All-nil HasEnded);
-  count = let e : length seats ≡ 0 = ap length none in omega (arith, e, count);
-  count_kept = let e : length kept ≡ 0 = ap length nothing_kept in omega (arith, e, count);
+  count = let e : length all.seats ≡ 0 = ap length none in omega (arith, e, count);
+  count_kept = let e : length all.kept ≡ 0 = ap length nothing_kept in omega (arith, e, count);
   shares = [];
   each = All-nil (λ (s : Share K X). HasMade s.kept s.numbers s.made);
   drawn_ = λ x less. ap (λ l. times_in x (all_drawn l)) none;
@@ -120,28 +128,27 @@ other_test : (k x n : ℕ) → x < n → n ≤ k → one_if (k == x) ≡ 0
 other_test k x n less more = ap one_if (not_same k x (λ e. absurd (omega (arith, e, less, more))))
 
 -- one worker more is taken
-pub record TookOne {K X : Type 0} (left rest : List (Worker K X)) (w : Worker K X) (seats seats' : List ClaimSeat) (kept kept' : List K) (made made' : List X) : Type 0 where
+pub record TookOne {K X : Type 0} (left rest : List (Worker K X)) (w : Worker K X) (all now : Gathered K X) : Type 0 where
   pub left_ : left ≡ rest ++ w ∷ []
-  pub seat : seats' ≡ seats ++ w.seat ∷ []
-  pub own : kept' ≡ kept ++ w.kept ∷ []
-  pub more : made' ≡ made ++ w.made.items
+  pub seat : now.seats ≡ all.seats ++ w.seat ∷ []
+  pub own : now.kept ≡ all.kept ++ w.kept ∷ []
+  pub more : now.made ≡ all.made ++ w.made.items
 
-pub gathers_one : {K X : Type 0} (HasMade : K → List ℕ → List X → Type 0) (board : Board) (left rest : List (Worker K X)) (w : Worker K X)
-    (seats seats' : List ClaimSeat) (kept kept' : List K) (made made' : List X) → IsGathering HasMade board left seats kept made
-    → TookOne left rest w seats seats' kept kept' made made' → w.starved ≡ false → IsGathering HasMade board rest seats' kept' made'
-gathers_one {K} {X} HasMade board left rest w seats seats' kept kept' made made' was one fed =
+pub gathers_one : {K X : Type 0} (HasMade : K → List ℕ → List X → Type 0) (board : Board) (left rest : List (Worker K X)) (w : Worker K X) (all now : Gathered K X)
+    → IsGathering HasMade board left all → TookOne left rest w all now → w.starved ≡ false → IsGathering HasMade board rest now
+gathers_one {K} {X} HasMade board left rest w all now was one fed =
     let p = All-pop (HasWorked HasMade board) left rest (Some w) one.left_ was.worked in
     let through : IsThrough HasMade board w = p.1 fed in
     let share : Share K X = record { numbers = through.numbers; kept = w.kept; made = w.made.items } in record {
       worked = p.0;
-      taken = subst (All (IsSeatOf board)) (sym one.seat) (All-push (IsSeatOf board) seats w.seat was.taken through.seat);
-      ended = subst (All HasEnded) (sym one.seat) (All-push HasEnded seats w.seat was.ended through.ended);
-      count = let a = longer seats seats' w.seat one.seat in let b = longer rest left w one.left_ in let c = was.count in omega (arith, a, b, c);
-      count_kept = let a = longer kept kept' w.kept one.own in let b = longer rest left w one.left_ in let c = was.count_kept in omega (arith, a, b, c);
+      taken = subst (All (IsSeatOf board)) (sym one.seat) (All-push (IsSeatOf board) all.seats w.seat was.taken through.seat);
+      ended = subst (All HasEnded) (sym one.seat) (All-push HasEnded all.seats w.seat was.ended through.ended);
+      count = let a = longer all.seats now.seats w.seat one.seat in let b = longer rest left w one.left_ in let c = was.count in omega (arith, a, b, c);
+      count_kept = let a = longer all.kept now.kept w.kept one.own in let b = longer rest left w one.left_ in let c = was.count_kept in omega (arith, a, b, c);
       shares = was.shares ++ share ∷ [];
       each = All-push (λ (s : Share K X). HasMade s.kept s.numbers s.made) was.shares share was.each through.made;
       drawn_ = λ x less.
-          let a = in_more drawn x seats seats' w.seat one.seat in
+          let a = in_more drawn x all.seats now.seats w.seat one.seat in
           let b = was.drawn_ x less in
           let c = in_more (λ (s : Share K X). s.numbers) x was.shares (was.shares ++ share ∷ []) share refl in
           let d = times_more x through.numbers (drawn w.seat) through.last through.drew in
@@ -150,32 +157,37 @@ gathers_one {K} {X} HasMade board left rest w seats seats' kept kept' made made'
       made_ = one.more ∙ (ap (λ l. l ++ w.made.items) was.made_ ∙ sym (flat_more (λ (s : Share K X). s.made) was.shares share));
     }
 
-pub gathered : {K X : Type 0} (HasMade : K → List ℕ → List X → Type 0) (board : Board) (n : ℕ) (left : List (Worker K X)) (seats : List ClaimSeat) (kept : List K) (made : List X)
-    → IsGathering HasMade board left seats kept made → left ≡ [] → 0 < seats_of board → numbers_of board ≡ n
-    → ((s : ClaimSeat) → Contains seats s → HasEnded s → (x : ℕ) → x < numbers_of board → times_in x (all_drawn seats) ≡ 1) → AreMadeOf HasMade n kept made
-gathered HasMade board n left [] kept made was none some count whole =
-    let c : 0 + length left ≡ seats_of board = was.count in let empty : length left ≡ 0 = ap length none in absurd (omega (arith, c, empty, some))
-gathered HasMade board n left (s ∷ seats) kept made was none some count whole = record {
-  shares = was.shares;
-  each = was.each;
-  once = λ number less.
-      let inside : number < numbers_of board = omega (arith, less, count) in
-      sym (was.drawn_ number inside) ∙ whole s (0, omega arith, refl) (All-head HasEnded s seats was.ended) number inside;
-  kept_ = was.kept_;
-  made_ = was.made_;
-}
+an_ended : (seats : List ClaimSeat) → 0 < length seats → All HasEnded seats → (s : ClaimSeat) × Contains seats s × HasEnded s
+an_ended [] some ended = absurd (omega (arith, some))
+an_ended (s ∷ seats) some ended = (s, (0, omega arith, refl), All-head HasEnded s seats ended)
+
+pub gathered : {K X : Type 0} (HasMade : K → List ℕ → List X → Type 0) (board : Board) (n : ℕ) (left : List (Worker K X)) (all : Gathered K X)
+    → IsGathering HasMade board left all → left ≡ [] → 0 < seats_of board → numbers_of board ≡ n
+    → ((s : ClaimSeat) → Contains all.seats s → HasEnded s → (x : ℕ) → x < numbers_of board → times_in x (all_drawn all.seats) ≡ 1) → AreMadeOf HasMade n all.kept all.made
+gathered HasMade board n left all was none some count whole =
+    let long = was.count in
+    let empty : length left ≡ 0 = ap length none in
+    let one = an_ended all.seats (omega (arith, long, empty, some)) was.ended in record {
+      shares = was.shares;
+      each = was.each;
+      once = λ number less.
+          let inside : number < numbers_of board = omega (arith, less, count) in
+          sym (was.drawn_ number inside) ∙ whole one.0 one.1 one.2 number inside;
+      kept_ = was.kept_;
+      made_ = was.made_;
+    }
 
 -- ---- before the first draw
 
-pub fresh_more : {K X : Type 0} (HasMade : K → List ℕ → List X → Type 0) (board : Board) (was now : List (Worker K X)) (w : Worker K X) (s : ClaimSeat) (k : K)
-    → All (IsFresh HasMade board) was → IsSeatOf board s × (drawn s ≡ []) × (HasEnded s → ⊥) → HasMade k [] []
-    → w.seat ≡ s → w.kept ≡ k → w.made.items ≡ [] → now ≡ was ++ w ∷ [] → All (IsFresh HasMade board) now
-fresh_more HasMade board was now w s k before (of_board, nothing, may) begins seat own none more =
+pub fresh_more : {K X : Type 0} (HasMade : K → List ℕ → List X → Type 0) (board : Board) (was now : List (Worker K X)) (w : Worker K X)
+    → All (IsFresh HasMade board) was → now ≡ was ++ w ∷ [] → IsSeatOf board w.seat × (drawn w.seat ≡ []) × (HasEnded w.seat → ⊥) → HasMade w.kept [] [] → w.made.items ≡ []
+    → All (IsFresh HasMade board) now
+fresh_more HasMade board was now w before more (seat, nothing, may) begins none =
     subst (All (IsFresh HasMade board)) (sym more) (All-push (IsFresh HasMade board) was w before record {
-      seat = subst (IsSeatOf board) (sym seat) of_board;
-      nothing = ap drawn seat ∙ nothing;
-      may_draw = λ ended. may (subst HasEnded seat ended);
-      made = subst (λ made. HasMade w.kept [] made) (sym none) (subst (λ own. HasMade own [] []) (sym own) begins);
+      seat = seat;
+      nothing = nothing;
+      may_draw = may;
+      made = subst (λ made. HasMade w.kept [] made) (sym none) begins;
     })
 
 pub count_more : {K X : Type 0} (was now : List (Worker K X)) (w : Worker K X) (left rest : List ClaimSeat) (s : ClaimSeat) (n : ℕ)

@@ -1,5 +1,5 @@
 -- Parts that are added one by one.
-use Rattle.std.proofs.Common.{◌≡◌, ℕ, zero, suc, ◌+◌, ◌<◌, ◌≤◌, Bool, true, false, ◌&&◌, ◌||◌, List, [], ◌∷◌, ◌++◌, length, map, take, drop, get_or, refl, sym, ap, ap₂, ◌∙◌, subst, arith}
+use Rattle.std.proofs.Common.{◌≡◌, ℕ, zero, suc, ◌+◌, ◌<◌, ◌≤◌, Bool, true, false, ◌&&◌, ◌||◌, List, [], ◌∷◌, ◌++◌, length, map, take, drop, get_or, refl, sym, ap, ◌∙◌, subst, arith}
 use Rattle.std.specs.List.{list_all}
 use Rattle.std.specs.Prelude.{◌==◌}
 use Rattle.std.proofs.lemmas.Bool.{and_parts}
@@ -12,7 +12,7 @@ use Rattle.cq_parts.specs.Parts.{PartTree, parts_with, is_at, are_at, Keeps}
 use Rattle.cq_parts.specs.Singles.{part_tree}
 use Rattle.cq_parts.specs.Places.{is_among}
 use Rattle.cq_parts.proofs.Gaining.{asked_more}
-use Rattle.cq_parts.proofs.Seeking.{all_kept, all_more, keeps_with}
+use Rattle.cq_parts.proofs.Seeking.{all_more, keeps_with}
 
 -- a filter of a list can stand by itself where all can
 pub one_stands : (fs : List Filter) (i : ℕ) (f : Filter) → list_all stands_alone (map filter_tree fs) ≡ true → i < length fs → f ≡ get_or fs i f → stands_alone (filter_tree f) ≡ true
@@ -38,13 +38,12 @@ unfolding with_parts
 added_parts v fs i f ps now all low reads more had =
     ap (λ qs. with_parts qs (trees v (drop (i + 1) fs))) more ∙ sym (ap (λ gs. with_parts ps (trees v gs)) (dropped fs i f low reads)) ∙ had
 
-pub added_numbers : (v : Bool) (fs : List Filter) (i : ℕ) (f : Filter) (ps now : List PartTree) (ks later : List ℕ) (k : ℕ) → i < length fs → f ≡ get_or fs i f → Keeps ps now
-    → is_at now k (part_tree v (filter_tree f)) ≡ true → later ≡ ks ++ k ∷ [] → are_at ps ks (parts_with v (map filter_tree (take i fs))) ≡ true
-    → are_at now later (parts_with v (map filter_tree (take (i + 1) fs))) ≡ true
-added_numbers v fs i f ps now ks later k low reads keeps here more had =
-    ap₂ (λ js gs. are_at now js (trees v gs)) more (take_more fs i f low ∙ ap (λ x. take i fs ++ x ∷ []) (sym reads))
-    ∙ ap (are_at now (ks ++ k ∷ [])) (trees_more (take i fs) f)
-    ∙ all_more now ks (trees v (take i fs)) k (part_tree v (filter_tree f)) (all_kept ps now ks (trees v (take i fs)) keeps had) here
+pub added_numbers : (v : Bool) (fs : List Filter) (i : ℕ) (f : Filter) (now : List PartTree) (ks : List ℕ) (k : ℕ) → i < length fs → f ≡ get_or fs i f
+    → is_at now k (part_tree v (filter_tree f)) ≡ true → are_at now ks (parts_with v (map filter_tree (take i fs))) ≡ true
+    → are_at now (ks ++ k ∷ []) (parts_with v (map filter_tree (take (i + 1) fs))) ≡ true
+added_numbers v fs i f now ks k low reads here had =
+    ap (λ gs. are_at now (ks ++ k ∷ []) (trees v gs)) (take_more fs i f low ∙ ap (λ x. take i fs ++ x ∷ []) (sym reads))
+    ∙ ap (are_at now (ks ++ k ∷ [])) (trees_more (take i fs) f) ∙ all_more now ks (trees v (take i fs)) k (part_tree v (filter_tree f)) had here
   where
     trees_more : (gs : List Filter) (g : Filter) → trees v (gs ++ g ∷ []) ≡ trees v gs ++ part_tree v (filter_tree g) ∷ []
     trees_more [] g = refl

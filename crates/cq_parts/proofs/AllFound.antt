@@ -1,14 +1,11 @@
 -- What is found of all queries.
-use Rattle.std.proofs.Common.{◌≡◌, ℕ, suc, ◌+◌, ◌<◌, ◌≤◌, List, [], ◌∷◌, ◌++◌, length, map, take, get_or, ℤ, refl, sym, ap, ap₂, ◌∙◌, subst, arith, All, AllPairs}
+use Rattle.std.proofs.Common.{◌≡◌, ℕ, suc, ◌+◌, ◌<◌, ◌≤◌, List, [], ◌∷◌, ◌++◌, length, map, take, get_or, ℤ, refl, sym, ap, ap₂, ◌∙◌, subst, All, AllPairs}
 use Rattle.std.specs.Prelude.{slice_index_or}
-use Rattle.std.specs.List.{filter, range_with_len}
 use Rattle.std.proofs.lemmas.List.{take_more, take_all}
 use Rattle.std.proofs.lemmas.List.Elements.{All-map}
-use Rattle.std.proofs.lemmas.List.FromFn.{length-range_with_len, get_or-range_with_len}
-use Rattle.std.proofs.lemmas.List.Kept.{AllPairs-filter}
-use Rattle.cq_position.specs.Games.{Game, numbers, is_searched, searched}
-use Rattle.cql_syntax.specs.Hits.{hits, is_hit, tree_of}
-use Rattle.cql_syntax.specs.Trees.{QueryTree}
+use Rattle.cq_position.specs.Games.{Game}
+use Rattle.cql_needs.proofs.Items.{hits_increase}
+use Rattle.cql_syntax.specs.Hits.{hits, tree_of}
 use Rattle.cq_parts.specs.Askers.{asked_query}
 use Rattle.cq_parts.specs.Verdicts.{IsKeyed, HaveKeys}
 use Rattle.cq_parts.specs.declared.part.Asker.{Asker}
@@ -41,38 +38,27 @@ keyed_snoc game [] (g ∷ found) a f had is = absurd had
 keyed_snoc game (b ∷ askers) [] a f had is = absurd had
 keyed_snoc game (b ∷ askers) (g ∷ found) a f had is = (had.0, keyed_snoc game askers found a f had.1 is)
 
-pub found_more : (game : Game) (askers : List Asker) (q : ℕ) (a : Asker) (found later : List Found) (f : Found) → q < length askers → a ≡ get_or askers q a → later ≡ found ++ f ∷ []
-    → f.nodes.items ≡ hits (asked_query a) game → IsKeyed game (asked_query a) f.nodes.items f.keys.items → AllFound game (take q askers) found → AllFound game (take (q + 1) askers) later
-found_more game askers q a found later f low reads more nodes keyed had =
-    subst (AllFound game (take (q + 1) askers)) (sym more)
-    (subst (λ xs. AllFound game xs (found ++ f ∷ [])) (ap (λ y. take q askers ++ y ∷ []) reads ∙ sym (take_more askers q a low))
+pub found_more : (game : Game) (askers : List Asker) (q : ℕ) (a : Asker) (found : List Found) (f : Found) → q < length askers → a ≡ get_or askers q a
+    → f.nodes.items ≡ hits (asked_query a) game → IsKeyed game (asked_query a) f.nodes.items f.keys.items → AllFound game (take q askers) found
+    → AllFound game (take (q + 1) askers) (found ++ f ∷ [])
+found_more game askers q a found f low reads nodes keyed had =
+    subst (λ xs. AllFound game xs (found ++ f ∷ [])) (ap (λ y. take q askers ++ y ∷ []) reads ∙ sym (take_more askers q a low))
     (record {
       nodes = map_snoc (λ (g : Found). g.nodes.items) found f ∙ ap₂ (λ xs x. xs ++ x ∷ []) had.nodes nodes ∙ sym (map_snoc (λ b. hits (asked_query b) game) (take q askers) a);
       keys = keyed_snoc game (take q askers) found a f had.keys keyed;
-    }))
+    })
 
 pub found_all : (game : Game) (askers : List Asker) (q : ℕ) (found : List Found) → length askers ≤ q → AllFound game (take q askers) found → AllFound game askers found
 found_all game askers q found past had = subst (λ xs. AllFound game xs found) (take_all q askers past) had
 
 -- hits increase
 
-range_increases : (n : ℕ) → AllPairs (λ i j. i < j) (range_with_len 0 n)
-range_increases n = λ i j d before below.
-    let inside : j < n = omega (arith, below, length-range_with_len 0 n) in
-    omega (arith, before, get_or-range_with_len 0 n i d (omega (arith, before, inside)), get_or-range_with_len 0 n j d inside)
-
-hits_increase : (q : QueryTree) (game : Game) → AllPairs (λ m n. m < n) (hits q game)
-unfolding hits searched
-hits_increase q game =
-    let kept = is_searched q.variations game.nodes in
-    AllPairs-filter (λ m n. m < n) (is_hit (tree_of q game) q.items) (filter kept (numbers game.nodes))
-    (AllPairs-filter (λ m n. m < n) kept (numbers game.nodes) (range_increases (length game.nodes)))
-
 pub all_increase : (game : Game) (askers : List Asker) (found : List Found) → nodes_in_all found ≡ map (λ a. hits (asked_query a) game) askers
     → All (λ nodes. AllPairs (λ m n. m < n) nodes) (nodes_in_all found)
+unfolding hits
 all_increase game askers found is =
     subst (All (λ nodes. AllPairs (λ m n. m < n) nodes)) (sym is)
-    (All-map (λ nodes. AllPairs (λ m n. m < n) nodes) (λ a. hits (asked_query a) game) askers (λ i d below. hits_increase (asked_query (slice_index_or askers i d)) game))
+    (All-map (λ nodes. AllPairs (λ m n. m < n) nodes) (λ a. hits (asked_query a) game) askers (λ i d below. let q = asked_query (slice_index_or askers i d) in hits_increase (tree_of q game) q.items))
 
 pub keys_count : (found : List Found) → length (keys_in_all found) ≡ length (nodes_in_all found)
 keys_count [] = refl

@@ -31,13 +31,13 @@ map_snoc f (y ∷ xs) x = ap (λ l. f y ∷ l) (map_snoc f xs x)
 pub keys_none : (row_of : ℕ → Option ℤ) (ks : List ℕ) (old : List ℤ) → old ≡ [] → map Some old ++ map row_of ks ≡ map row_of ks
 keys_none row_of ks old none = ap (λ xs. map Some xs ++ map row_of ks) none
 
-pub keys_more : (row_of : ℕ → Option ℤ) (ks : List ℕ) (i k : ℕ) (old new : List ℤ) (key : ℤ) (all : List (Option ℤ)) → i < length ks → k ≡ get_or ks i k → new ≡ old ++ key ∷ []
-    → Some key ≡ row_of k → map Some old ++ map row_of (drop i ks) ≡ all → map Some new ++ map row_of (drop (i + 1) ks) ≡ all
-keys_more row_of ks i k old new key all low at more is had =
+pub keys_more : (row_of : ℕ → Option ℤ) (ks : List ℕ) (i k : ℕ) (old new : List ℤ) (key : ℤ) → i < length ks → k ≡ get_or ks i k → new ≡ old ++ key ∷ []
+    → Some key ≡ row_of k → map Some new ++ map row_of (drop (i + 1) ks) ≡ map Some old ++ map row_of (drop i ks)
+keys_more row_of ks i k old new key low at more is =
     let rest = map row_of (drop (i + 1) ks) in
     ap (λ xs. map Some xs ++ rest) more ∙ ap (λ o. o ++ rest) (map_snoc Some old key) ∙ append_assoc (map Some old) (Some key ∷ []) rest
     ∙ ap (λ o. map Some old ++ (o ∷ rest)) (is ∙ ap row_of at)
-    ∙ ap (λ l. map Some old ++ map row_of l) (sym (drop_more ks i k low)) ∙ had
+    ∙ ap (λ l. map Some old ++ map row_of l) (sym (drop_more ks i k low))
 
 pub keys_all : (row_of : ℕ → Option ℤ) (ks : List ℕ) (i : ℕ) (old : List ℤ) (all : List (Option ℤ)) → length ks ≤ i → map Some old ++ map row_of (drop i ks) ≡ all → map Some old ≡ all
 keys_all row_of ks i old all past had = sym (append-nil (map Some old)) ∙ ap (λ l. map Some old ++ map row_of l) (sym (drop_all i ks past)) ∙ had

@@ -124,11 +124,19 @@ hits_found q game there law is = by (query_passes q game) refl
         (λ n. is n ∙ false_and (nat_lt n (length game.nodes)) (query_passes q game) (is_searched q.variations game.nodes n) (is_hit (tree_of q game) (flat_query q).items n) refused)
         ∙ sym (none (hits q game) law refused)
 
+-- what is left to all queries, and the rows of their parts
+pub record AreSought (game : Game) (parts : List Part) (askers : List Asker) (left : List Nodes) (rows : List Row) : Type 0 where
+  pub askers_ : AreAskers parts askers
+  pub found : AreFound game askers left
+  pub rows_ : HaveRows game left parts rows
+
 -- what is left and the rows, of one query
-pub found_by : (game : Game) (parts : List Part) (askers : List Asker) (left : List Nodes) (rows : List Row) (q : ℕ) (a : Asker) (x : Nodes) → AreAskers parts askers
-    → AreFound game askers left → HaveRows game left parts rows → q < length askers → a ≡ get_or askers q a → x ≡ get_or left q x → IsFoundBy game parts a x rows
-found_by game parts askers left rows q a x are found had low reads here =
-    let is = are.each q a low reads in
+pub found_by : (game : Game) (parts : List Part) (askers : List Asker) (left : List Nodes) (rows : List Row) (q : ℕ) (a : Asker) (x : Nodes) → AreSought game parts askers left rows
+    → q < length askers → a ≡ get_or askers q a → x ≡ get_or left q x → IsFoundBy game parts a x rows
+found_by game parts askers left rows q a x are low reads here =
+    let is = are.askers_.each q a low reads in
+    let found = are.found in
+    let had = are.rows_ in
     let inside : q < length left = omega (arith, low, found.count) in
     record {
       numbers = is.numbers;

@@ -165,34 +165,40 @@ by_truth false wants b t told = refl
 by_truth true false b t told = refl
 by_truth true true b t told = told refl refl
 
-pub narrowed_more : (game : Game) (p : Part) (left later now : List Nodes) (live truths : List Bool) (k : ℕ) (x y : Nodes)
-    → IsTold game p live truths → CoversWanted p left live → k < length left → x ≡ get_or left k x
-    → ((n : ℕ) → get_or y.there.items n false ≡ (get_or x.there.items n false && (not (is_asked_by k p) || get_or truths n false))) → now ≡ later ++ y ∷ []
-    → AreNarrowed game p left later k → AreNarrowed game p left now (k + 1)
-narrowed_more game p left later now live truths k x y told covers inside at made more had = record {
-  count = ap length more ∙ length-append later (y ∷ []) ∙ ap (λ i. i + 1) had.count;
+-- whether a part holds, told at all nodes at which a query wants to know
+pub record TruthsOf (game : Game) (p : Part) (left : List Nodes) : Type 0 where
+  pub live : List Bool
+  pub truths : List Bool
+  pub told : IsTold game p live truths
+  pub covers : CoversWanted p left live
+
+-- of some nodes these are left, if the part is asked for
+abbrev pub AreLeftOf : Bool → List Bool → Nodes → Nodes → Type 0
+AreLeftOf wants truths x y = (n : ℕ) → get_or y.there.items n false ≡ (get_or x.there.items n false && (not wants || get_or truths n false))
+
+narrowed_more : (game : Game) (p : Part) (left : List Nodes) (t : TruthsOf game p left) (later : List Nodes) (k : ℕ) (x y : Nodes) → k < length left → x ≡ get_or left k x
+    → AreLeftOf (is_asked_by k p) t.truths x y → AreNarrowed game p left later k → AreNarrowed game p left (later ++ y ∷ []) (k + 1)
+narrowed_more game p left t later k x y inside at made had = record {
+  count = length-append later (y ∷ []) ∙ ap (λ i. i + 1) had.count;
   each = λ q n less. ⊎_elim
-      (λ before. ap (λ l. is_left l q n) more ∙ left_before later y q n (omega (arith, before, had.count)) ∙ had.each q n before)
-      (λ past. let e : q ≡ k = omega (arith, past, less) in subst (λ (j : ℕ). is_left now j n ≡ (is_left left j n && meets game j n p)) (sym e) (here n))
+      (λ before. left_before later y q n (omega (arith, before, had.count)) ∙ had.each q n before)
+      (λ past. let e : q ≡ k = omega (arith, past, less) in subst (λ (j : ℕ). is_left (later ++ y ∷ []) j n ≡ (is_left left j n && meets game j n p)) (sym e) (here n))
       (inside_or_past q k);
 }
   where
-    here : (n : ℕ) → is_left now k n ≡ (is_left left k n && meets game k n p)
+    here : (n : ℕ) → is_left (later ++ y ∷ []) k n ≡ (is_left left k n && meets game k n p)
     here n =
-        ap (λ l. is_left l k n) more ∙ left_last later y k n (sym had.count) ∙ made n ∙ ap (λ b. b && (not (is_asked_by k p) || get_or truths n false)) (sym (left_here left x k n inside at))
-        ∙ by_truth (is_left left k n) (is_asked_by k p) (get_or truths n false) (part_holds game p n) (λ has there. told.each n (covers.each k n has there))
+        left_last later y k n (sym had.count) ∙ made n ∙ ap (λ b. b && (not (is_asked_by k p) || get_or t.truths n false)) (sym (left_here left x k n inside at))
+        ∙ by_truth (is_left left k n) (is_asked_by k p) (get_or t.truths n false) (part_holds game p n) (λ has there. t.told.each n (t.covers.each k n has there))
 
 -- the next query's nodes, where those of the queries before are there
-pub narrowed_next : (game : Game) (p : Part) (left ys more later now : List Nodes) (live truths : List Bool) (x y : Nodes) (len : ℕ) (wants : Bool)
-    → IsTold game p live truths → CoversWanted p left live → left ≡ ys ++ x ∷ more → len ≡ length later → wants ≡ is_asked_by len p
-    → ((n : ℕ) → get_or y.there.items n false ≡ (get_or x.there.items n false && (not wants || get_or truths n false))) → now ≡ later ++ y ∷ []
-    → AreNarrowed game p left later (length ys) → AreNarrowed game p left now (length (ys ++ x ∷ []))
-narrowed_next game p left ys more later now live truths x y len wants told covers is len_is has made added had =
-    subst (AreNarrowed game p left now) (sym (length-append ys (x ∷ [])))
-    (narrowed_more game p left later now live truths (length ys) x y told covers
+pub narrowed_next : (game : Game) (p : Part) (left : List Nodes) (t : TruthsOf game p left) (ys more later : List Nodes) (x y : Nodes) → left ≡ ys ++ x ∷ more
+    → AreLeftOf (is_asked_by (length ys) p) t.truths x y → AreNarrowed game p left later (length ys) → AreNarrowed game p left (later ++ y ∷ []) (length (ys ++ x ∷ []))
+narrowed_next game p left t ys more later x y is made had =
+    subst (AreNarrowed game p left (later ++ y ∷ [])) (sym (length-append ys (x ∷ [])))
+    (narrowed_more game p left t later (length ys) x y
     (let e : length left ≡ length ys + length (x ∷ more) = ap length is ∙ length-append ys (x ∷ more) in omega (arith, e))
-    (sym (ap (λ l. get_or l (length ys) x) is ∙ get_or-append_seam ys x more x))
-    (λ n. made n ∙ ap (λ b. get_or x.there.items n false && (not b || get_or truths n false)) (has ∙ ap (λ j. is_asked_by j p) (len_is ∙ had.count))) added had)
+    (sym (ap (λ l. get_or l (length ys) x) is ∙ get_or-append_seam ys x more x)) made had)
 
 pub narrowed_all : (game : Game) (p : Part) (left later : List Nodes) (k : ℕ) → k ≡ length left → AreNarrowed game p left later k → IsNarrowedBy game p left later
 narrowed_all game p left later k all had = record {

@@ -207,20 +207,26 @@ text_complete text query Accepted good status call only answers (text_accepted q
 text_complete text query Accepted good status call only answers (text_refused fault faulty does same) = absurd (only.none fault faulty)
 text_complete text query Accepted good status call only answers (text_out_of_memory is same) = subst (λ s. IsOneOf s good.statuses) (sym is) good.memory
 
-file_complete : {Q F : Type 0} (reading : Reading Q F) (name text : List ℕ) (found : Q) (Accepted : Q → Status → Call → Type 0) (good : Good) (status : Status) (call : Call)
-    → (asks : IsInFile call reading.most name text) → Only reading text found
+-- what is taken of a file is accepted as this, and as nothing else
+record IsFoundIn {Q F : Type 0} (reading : Reading Q F) (name : List ℕ) (found : Q) (call : Call) : Type 0 where
+  text : List ℕ
+  asks : IsInFile call reading.most name text
+  only : Only reading text found
+
+file_complete : {Q F : Type 0} (reading : Reading Q F) (name : List ℕ) (found : Q) (Accepted : Q → Status → Call → Type 0) (good : Good) (status : Status) (call : Call)
+    → IsFoundIn reading name found call
     → ((mid : DeskView) (taken : List ℕ) → TakesQuery reading.most name call.desk mid taken → Accepted found status (from_desk mid call) → IsOneOf status good.statuses)
     → OverFile reading name Accepted status call → IsOneOf status good.statuses
-file_complete reading name text found Accepted good status call asks only answers (file_accepted taken other mid takes is does) =
-    let same = read_text call reading.most name text taken mid asks takes in
-    answers mid taken takes (subst (λ q. Accepted q status (from_desk mid call)) (only.one other (subst (λ t. reading.Is t other) same is)) does)
-file_complete reading name text found Accepted good status call asks only answers (file_refused taken fault takes faulty does) =
-    let same = read_text call reading.most name text taken call.desk_after asks takes in
-    absurd (only.none fault (subst (λ t. reading.Has t fault) same faulty))
-file_complete reading name text found Accepted good status call asks only answers (file_unopened is fails same) = absurd (asks.opens fails.rose)
-file_complete reading name text found Accepted good status call asks only answers (file_unread is fails same) =
-    absurd (asks.reads (subst (λ n. Rose n call.desk_after.file.faults) fails.opened.faults fails.rose))
-file_complete reading name text found Accepted good status call asks only answers (file_out_of_memory is lacks same) =
+file_complete reading name found Accepted good status call file answers (file_accepted taken other mid takes is does) =
+    let same = read_text call reading.most name file.text taken mid file.asks takes in
+    answers mid taken takes (subst (λ q. Accepted q status (from_desk mid call)) (file.only.one other (subst (λ t. reading.Is t other) same is)) does)
+file_complete reading name found Accepted good status call file answers (file_refused taken fault takes faulty does) =
+    let same = read_text call reading.most name file.text taken call.desk_after file.asks takes in
+    absurd (file.only.none fault (subst (λ t. reading.Has t fault) same faulty))
+file_complete reading name found Accepted good status call file answers (file_unopened is fails same) = absurd (file.asks.opens fails.rose)
+file_complete reading name found Accepted good status call file answers (file_unread is fails same) =
+    absurd (file.asks.reads (subst (λ n. Rose n call.desk_after.file.faults) fails.opened.faults fails.rose))
+file_complete reading name found Accepted good status call file answers (file_out_of_memory is lacks same) =
     subst (λ s. IsOneOf s good.statuses) (sym is) good.memory
 
 -- the same for the archive, from a desk in between on
@@ -243,18 +249,17 @@ none_later most name mid text call takes none =
     }
 
 -- What is taken of a file is accepted as this, and as nothing else, the archive is short enough for it, and no count rose.
-record IsAnswerable {Q F : Type 0} (reading : Reading Q F) (name text : List ℕ) (found : Q) (archive : List ℕ) (limit : ℕ) (asked_of : Wanted) (call : Call) : Type 0 where
-  has : IsInFile call reading.most name text
-  only : Only reading text found
+record IsAnswerable {Q F : Type 0} (reading : Reading Q F) (name : List ℕ) (found : Q) (archive : List ℕ) (limit : ℕ) (asked_of : Wanted) (call : Call) : Type 0 where
+  file : IsFoundIn reading name found call
   short : IsShort call archive limit asked_of
   none : NothingRose call
 
 -- what a file is asked for is answered over an archive
-over_archive : {Q F : Type 0} (reading : Reading Q F) (name text : List ℕ) (found : Q) (archive : List ℕ) (limit : ℕ) (asks : Q → Wanted) (status : Status) (call : Call)
-    → IsAnswerable reading name text found archive limit (asks found) call
+over_archive : {Q F : Type 0} (reading : Reading Q F) (name : List ℕ) (found : Q) (archive : List ℕ) (limit : ℕ) (asks : Q → Wanted) (status : Status) (call : Call)
+    → IsAnswerable reading name found archive limit (asks found) call
     → OverFile reading name (λ q. AnswersFile archive limit (asks q)) status call → IsOneOf status (Done ∷ DoneWithRefusals ∷ NoMemory ∷ [])
-over_archive reading name text found archive limit asks status call can does =
-    file_complete reading name text found (λ q. AnswersFile archive limit (asks q)) counted_or_refused status call can.has can.only
+over_archive reading name found archive limit asks status call can does =
+    file_complete reading name found (λ q. AnswersFile archive limit (asks q)) counted_or_refused status call can.file
     (λ mid taken takes a.
     archive_complete archive limit (asks found) status (from_desk mid call)
     (short_later reading.most name archive limit (asks found) mid taken call takes can.short) (none_later reading.most name mid taken call takes can.none) a)
@@ -302,15 +307,15 @@ made_is_one archive q status call none (made_out_of_memory is same) = inr (inr (
 job_complete : (job : Job) (text : List ℕ) (query : QueryTree) (status : Status) (call : Call) → HasText call job text → Only a_query text query
     → IsWithin call job query → NothingRose call → DoesJob job status call → IsOneOf status (good_answers job)
 job_complete (Run name archive settings) text query status call has only short none does =
-    over_archive a_query name text query archive settings.limit (wanted settings.first) status call (record { has = has; only = only; short = short; none = none }) does
+    over_archive a_query name query archive settings.limit (wanted settings.first) status call (record { file = record { text = text; asks = has; only = only }; short = short; none = none }) does
 job_complete (Eval word archive settings) text query status call has only short none does =
     text_complete text query (λ asks. AnswersFile archive settings.limit (wanted settings.first asks)) counted_or_refused status call only
     (λ a. archive_complete archive settings.limit (wanted settings.first query) status call short none a)
     (subst (λ t. OverText t (λ asks. AnswersFile archive settings.limit (wanted settings.first asks)) status call) has does)
 job_complete (Check name) text query status call has only short none does =
-    file_complete a_query name text query SaysAccepted done_alone status call has only (λ mid taken takes a. acceptance_is_one status call none a.0) does
+    file_complete a_query name query SaysAccepted done_alone status call (record { text = text; asks = has; only = only }) (λ mid taken takes a. acceptance_is_one status call none a.0) does
 job_complete (Explain name) text query status call has only short none does =
-    file_complete a_query name text query Explains done_alone status call has only (λ mid taken takes a. explanation_is_one query status call none a.0) does
+    file_complete a_query name query Explains done_alone status call (record { text = text; asks = has; only = only }) (λ mid taken takes a. explanation_is_one query status call none a.0) does
 job_complete (SelfRun word settings) text query status call has only short none does =
     text_complete text query (RunsMade settings.seed settings.games) counted_or_refused status call only
     (λ a. made_is_one (made settings.seed settings.games) query status call none a.0) (subst (λ t. OverText t (RunsMade settings.seed settings.games) status call) has does)
@@ -319,7 +324,7 @@ job_complete (Many name archive settings) text query status call has only short 
 all_complete : (job : Job) (text : List ℕ) (queries : List QueryTree) (status : Status) (call : Call) → HasQueriesText call job text → Only some_queries text queries
     → IsWithinForAll call job queries → NothingRose call → DoesJob job status call → IsOneOf status (good_answers job)
 all_complete (Many name archive settings) text queries status call has only short none does =
-    over_archive some_queries name text queries archive settings.limit texts_of_all status call (record { has = has; only = only; short = short; none = none }) does
+    over_archive some_queries name queries archive settings.limit texts_of_all status call (record { file = record { text = text; asks = has; only = only }; short = short; none = none }) does
 all_complete (Run name archive settings) text queries status call has only short none does = absurd has
 all_complete (Eval word archive settings) text queries status call has only short none does = absurd has
 all_complete (Check name) text queries status call has only short none does = absurd has
@@ -476,7 +481,7 @@ told_why reading name Accepted Unopened status desk after sinks reads tells = fi
 told_why reading name Accepted Unread status desk after sinks reads tells = file_unread tells.0 reads tells.1
 told_why reading name Accepted OutOfMemory status desk after sinks reads tells = file_out_of_memory tells.0 reads tells.1
 
-pub file_answered : {Q F : Type 0} (reading : Reading Q F) (name : List ℕ) (Accepted : Q → Status → Call → Type 0) (found : Q) (status : Status) (desk mid after : DeskView)
-    (sinks : Sinks) → ((text : List ℕ) × TakesQuery reading.most name desk mid text × reading.Is text found) → Accepted found status (call_of mid after sinks)
-    → OverFile reading name Accepted status (call_of desk after sinks)
-file_answered reading name Accepted found status desk mid after sinks (text, takes, is) does = file_accepted text found mid takes is does
+pub file_answered : {Q F : Type 0} (reading : Reading Q F) (name : List ℕ) (Accepted : Q → Status → Call → Type 0) (found : Q) (status : Status) (mid : DeskView) (call : Call)
+    → ((text : List ℕ) × TakesQuery reading.most name call.desk mid text × reading.Is text found) → Accepted found status (from_desk mid call)
+    → OverFile reading name Accepted status call
+file_answered reading name Accepted found status mid call (text, takes, is) does = file_accepted text found mid takes is does

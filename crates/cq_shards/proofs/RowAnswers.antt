@@ -40,8 +40,18 @@ keyed_at game (q ∷ qs) [] [] k d have inside = absurd have
 keyed_at game (q ∷ qs) [] (ks ∷ kss) k d have inside = absurd have
 keyed_at game (q ∷ qs) (ns ∷ nss) [] k d have inside = absurd have
 
-pub keys_at : (game : Game) (queries : List QueryTree) (found : List (List ℕ)) (kss : List (List ℤ)) (k : ℕ) (q : QueryTree) (nodes : List ℕ) (values : List ℤ)
-    → HaveKeys game queries found kss → k < length queries → q ≡ get_or queries k q → nodes ≡ get_or found k [] → values ≡ get_or kss k [] → nodes ≢ [] → map Some values ≡ keys q game
-keys_at game queries found kss k q nodes values have inside at are these some =
-    let keyed = keyed_at game queries found kss k q have inside in
-    ap (map Some) these ∙ keyed.keys (λ none. some (are ∙ none)) ∙ ap (λ p. keys p game) (sym at)
+-- the query of this number, and what was found of it
+pub record FoundAt (queries : List QueryTree) (found : List (List ℕ)) (kss : List (List ℤ)) (k : ℕ) : Type 0 where
+  pub query : QueryTree
+  pub nodes : List ℕ
+  pub values : List ℤ
+  pub inside : k < length queries
+  pub at : query ≡ get_or queries k query
+  pub are : nodes ≡ get_or found k []
+  pub these : values ≡ get_or kss k []
+
+pub keys_at : (game : Game) (queries : List QueryTree) (found : List (List ℕ)) (kss : List (List ℤ)) (k : ℕ) → HaveKeys game queries found kss → (one : FoundAt queries found kss k)
+    → one.nodes ≢ [] → map Some one.values ≡ keys one.query game
+keys_at game queries found kss k have one some =
+    let keyed = keyed_at game queries found kss k one.query have one.inside in
+    ap (map Some) one.these ∙ keyed.keys (λ none. some (one.are ∙ none)) ∙ ap (λ p. keys p game) (sym one.at)

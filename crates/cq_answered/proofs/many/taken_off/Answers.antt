@@ -7,8 +7,10 @@ loop-row-init g c = takes (g.A.AllAsked.queries c.args.asked.now) c.args.query c
 
 pub loop-row-preserved : goal.loop-row-preserved
 loop-row-preserved g c =
-    takes_one (drop c.args.query (g.A.AllAsked.queries c.args.asked.now)) c.args.batch.now c.loop-row.rows.items c.pop.new.self.items c.in-Some.row _ c.in-Some-pop.answer
+    takes_one (drop c.args.query (g.A.AllAsked.queries c.args.asked.now)) c.args.batch.now c.loop-row.rows.items c.pop.new.self.items _
     c.loop-row.left.items _ c.loop-row.answers.items _ c.loop-row.invariant (record {
+      row = c.in-Some.row;
+      a = c.in-Some-pop.answer;
       rows_ = c.in-Some.ensures.items;
       index = refl;
       off = c.in-Some-pop.ensures.items;

@@ -8,7 +8,7 @@ loop-turn-init g c = starts (g.M.Maker.has_made c.args.maker.now) c.args.board.n
 pub returns-in_default : goal.returns-in_default
 returns-in_default g c =
     let past = c.claim.ensures.none (search rules) in
-    ends (g.M.Maker.has_made c.args.maker.now) c.args.board.now c.loop-turn.worker c.claim.new.seat past.0 c.loop-turn._turn c.loop-turn.invariant c.claim.ensures.seat past.3 past.2 past.1
+    ends (g.M.Maker.has_made c.args.maker.now) c.args.board.now c.loop-turn.worker c.claim.new.seat past.0 c.loop-turn.invariant.has_made c.claim.ensures.seat past.3 past.2 past.1
 
 pub make-requires-clause-before : goal.make-requires-clause-before
 make-requires-clause-before g c = (_, _, c.loop-turn.invariant.has_made)
@@ -17,8 +17,11 @@ pub loop-turn-preserved : goal.loop-turn-preserved
 loop-turn-preserved g c =
     let some = c.in-Some.ensures.some in
     let less = some.0 in
-    goes_on (g.M.Maker.has_made c.args.maker.now) c.args.board.now c.loop-turn.worker.seat _ c.loop-turn.worker.kept _ c.loop-turn.worker.made.items _ c.in-Some.number c.loop-turn._turn c.in_ok-one.one
-    c.loop-turn.invariant (record {
+    goes_on (g.M.Maker.has_made c.args.maker.now) c.args.board.now c.loop-turn.worker.seat c.loop-turn.worker.kept _ c.loop-turn.worker.made.items _ c.loop-turn._turn c.loop-turn.invariant
+    (record {
+      t = c.claim.new.seat;
+      number = c.in-Some.number;
+      one = c.in_ok-one.one;
       seat = c.claim.ensures.seat;
       may_draw = some.2;
       drew = some.1;

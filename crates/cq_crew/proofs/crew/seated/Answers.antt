@@ -1,4 +1,4 @@
-use Rattle.std.proofs.Common.{Some, ◌≡◌, [], refl, rules}
+use Rattle.std.proofs.Common.{Some, ◌≡◌, [], rules}
 use Rattle.std.proofs.lemmas.List.Elements.{All-pop}
 use Rattle.cq_board.specs.Seats.{IsSeatOf, drawn, HasEnded}
 use Rattle.cq_crew.proofs.CrewDraws.{count_more, fresh_more}
@@ -12,8 +12,8 @@ loop-seat-preserved g c =
     c.loop-seat.invariant.1 in (
       seats.0,
       kept.0,
-      fresh_more (g.M.Maker.has_made c.args.maker.now) c.args.board.now c.loop-seat.slots.items c.push.new.self.items _ c.in-Some.seat c.in-Some-pop.own c.loop-seat.invariant.2
-          seats.1 kept.1 refl refl (search rules) c.in_ok-push.ensures.items,
+      fresh_more (g.M.Maker.has_made c.args.maker.now) c.args.board.now c.loop-seat.slots.items c.push.new.self.items _ c.loop-seat.invariant.2
+          c.in_ok-push.ensures.items seats.1 kept.1 (search rules),
       count_more c.loop-seat.slots.items c.push.new.self.items _ c.loop-seat.seats.items c.pop.new.self.items c.in-Some.seat _
           c.in_ok-push.ensures.items c.in-Some.ensures.items c.loop-seat.invariant.3,
       search rules,

@@ -1,7 +1,7 @@
-use Rattle.std.proofs.Common.{sym, subst, arith, rules}
+use Rattle.std.proofs.Common.{◌+◌, sym, subst, take, arith, rules}
 use Rattle.cq_parts.specs.Reading.{IsFoundBy}
 use Rattle.cq_parts.proofs.Readings.{found_by}
-use Rattle.cq_parts.proofs.AllFound.{found_none, found_more, found_all, all_increase, keys_count}
+use Rattle.cq_parts.proofs.AllFound.{AllFound, found_none, found_more, found_all, all_increase, keys_count}
 use Rattle.cq_parts.proofs.found.found_all.Goals as goal
 
 pub loop-q-init : goal.loop-q-init
@@ -11,12 +11,13 @@ pub found_of-requires : goal.found_of-requires
 found_of-requires c =
     subst (IsFoundBy c.args.game.now c.args.parts.now c.index-askers-q.result c.index.result.now) (sym c.as_slice-rows.ensures.value)
     (found_by c.args.game.now c.args.parts.now c.args.askers.now c.args.sorted.now.left.items c.args.sorted.now.rows.items c.loop-q.q c.index-askers-q.result c.index.result.now
-    c.requires.askers c.requires.found c.requires.rows c.loop-q-test.true c.index-askers-q.is (search rules))
+    (record { askers_ = c.requires.askers; found = c.requires.found; rows_ = c.requires.rows }) c.loop-q-test.true c.index-askers-q.is (search rules))
 
 pub loop-q-preserved : goal.loop-q-preserved
 loop-q-preserved c =
-    found_more c.args.game.now c.args.askers.now c.loop-q.q c.index-askers-q.result c.loop-q.found.items c.push.new.self.items c.in_ok-one.one c.loop-q-test.true c.index-askers-q.is
-    c.in_ok-push.ensures.items c.in_ok-one.ensures.nodes c.in_ok-one.ensures.keys c.loop-q.invariant
+    subst (AllFound c.args.game.now (take (c.loop-q.q + 1) c.args.askers.now)) (sym c.in_ok-push.ensures.items)
+    (found_more c.args.game.now c.args.askers.now c.loop-q.q c.index-askers-q.result c.loop-q.found.items c.in_ok-one.one c.loop-q-test.true c.index-askers-q.is
+    c.in_ok-one.ensures.nodes c.in_ok-one.ensures.keys c.loop-q.invariant)
 
 pub returns : goal.returns
 returns c =

@@ -30,6 +30,6 @@ pub loop-i-preserved : goal.loop-i-preserved
 loop-i-preserved c = let fits : SFits w64 c.key_of-key.result = search rules in record {
   low = omega (arith, c.loop-i.invariant.low);
   keys = keys_more (row_key c.args.parts.now c.args.rows.now c.args.nodes.now) c.args.asker.now.numbers.items c.loop-i.i c.index-number.result.now c.loop-i.keys.items c.push.new.self.items
-      _ _ (omega arith) (search rules) c.in_ok-push.ensures.items (ap Some (to_z-of_z {w = w64} {z = c.key_of-key.result} fits) ∙ c.key_of-key.ensures)
-      c.loop-i.invariant.keys;
+      _ (omega arith) (search rules) c.in_ok-push.ensures.items (ap Some (to_z-of_z {w = w64} {z = c.key_of-key.result} fits) ∙ c.key_of-key.ensures)
+      ∙ c.loop-i.invariant.keys;
 }

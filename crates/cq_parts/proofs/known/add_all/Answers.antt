@@ -1,4 +1,4 @@
-use Rattle.std.proofs.Common.{◌≡◌, ◌∙◌, true, map, ap, subst, refl}
+use Rattle.std.proofs.Common.{◌≡◌, ◌+◌, ◌∙◌, true, map, take, ap, subst, refl}
 use Rattle.std.specs.Prelude.{◌==◌}
 use Rattle.std.proofs.lemmas.List.{take_all}
 use Rattle.cql_syntax.specs.TreeOf.{filter_tree}
@@ -6,7 +6,7 @@ use Rattle.cq_parts.specs.Known.{all_shown, is_asked, with_part}
 use Rattle.cq_parts.specs.Parts.{is_at, are_at, parts_with}
 use Rattle.cq_parts.specs.Singles.{part_tree}
 use Rattle.cq_parts.proofs.Adding.{one_stands, added_parts, added_numbers, added_all, none_at, none_asked, keeps_more, asked_push}
-use Rattle.cq_parts.proofs.Seeking.{keeps_same, keeps_then}
+use Rattle.cq_parts.proofs.Seeking.{all_kept, keeps_same, keeps_then}
 use Rattle.cq_parts.proofs.known.add_all.Goals as goal
 
 pub loop-filter-init : goal.loop-filter-init
@@ -34,9 +34,10 @@ loop-filter-preserved c =
       table = c.in_ok-number.ensures.table;
       parts = added_parts v fs i f ps now _ c.loop-filter-test.true c.filter-item.is more c.loop-filter.invariant.parts;
       kept = keeps_then _ ps now c.loop-filter.invariant.kept (keeps_more ps now (part_tree v (filter_tree f)) more);
-      numbers = added_numbers v fs i f ps now c.loop-filter.numbers.items c.push.new.self.items c.in_ok-number.number c.loop-filter-test.true c.filter-item.is
-          (keeps_more ps now (part_tree v (filter_tree f)) more)
-          (subst (λ r. is_at now c.in_ok-number.number r ≡ true) c.in_ok-single.ensures c.in_ok-number.ensures.number) c.in_ok-push.ensures.items c.loop-filter.invariant.numbers;
+      numbers = ap (λ ks. are_at now ks (parts_with v (map filter_tree (take (i + 1) fs)))) c.in_ok-push.ensures.items
+          ∙ added_numbers v fs i f now c.loop-filter.numbers.items c.in_ok-number.number c.loop-filter-test.true c.filter-item.is
+          (subst (λ r. is_at now c.in_ok-number.number r ≡ true) c.in_ok-single.ensures c.in_ok-number.ensures.number)
+          (all_kept ps now c.loop-filter.numbers.items (parts_with v (map filter_tree (take i fs))) (keeps_more ps now (part_tree v (filter_tree f)) more) c.loop-filter.invariant.numbers);
       asked = λ k q. asked_push (is_asked c.args.parts.now.items) (is_asked c.loop-filter.parts.items) (is_asked c.add.new.parts.items) c.loop-filter.numbers.items
           c.push.new.self.items c.in_ok-number.number c.args.asker c.in_ok-push.ensures.items c.loop-filter.invariant.asked c.in_ok-number.ensures.asked k q;
     }

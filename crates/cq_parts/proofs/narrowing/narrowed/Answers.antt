@@ -1,5 +1,6 @@
-use Rattle.std.proofs.Common.{[], ◌∷◌, ◌++◌, append_assoc, ap, sym, ◌∙◌, rules}
-use Rattle.cq_parts.proofs.Unions.{narrowed_none, narrowed_next, narrowed_end}
+use Rattle.std.proofs.Common.{◌≡◌, [], ◌∷◌, ◌++◌, length, append_assoc, ap, subst, sym, ◌∙◌, rules}
+use Rattle.cq_parts.specs.Matching.{is_asked_by}
+use Rattle.cq_parts.proofs.Unions.{AreLeftOf, AreNarrowed, narrowed_none, narrowed_next, narrowed_end}
 use Rattle.cq_parts.proofs.narrowing.narrowed.Goals as goal
 
 pub loop-nodes-init : goal.loop-nodes-init
@@ -11,11 +12,15 @@ loop-nodes-preserved c =
     let ys = c.loop-nodes.yielded in
     let nodes = c.in-Some.nodes in
     let more = c.next.new.self.rest.items in
+    let part = c.args.part.now in
+    let len : c.len-query.result ≡ length c.loop-nodes.later.items = search rules in
+    let asked = c.has-wants.ensures ∙ ap (λ query. is_asked_by query part) (len ∙ was.1.count) in
     let is = was.0 ∙ ap (λ l. ys ++ l) c.in-Some.ensures.steps.0 in (
       is ∙ sym (append_assoc ys (nodes ∷ []) more),
-      narrowed_next c.args.game.now c.args.part.now c.args.left.items ys more c.loop-nodes.later.items c.push.new.self.items c.args.live.now c.args.truths.now nodes
-          c.narrowed_if.result c.len-query.result c.has-wants.result c.requires.told c.requires.covers is (search rules) c.has-wants.ensures c.narrowed_if.ensures
-          c.in_ok-push.ensures.items was.1,
+      subst (λ later. AreNarrowed c.args.game.now part c.args.left.items later (length (ys ++ nodes ∷ []))) (sym c.in_ok-push.ensures.items)
+          (narrowed_next c.args.game.now part c.args.left.items
+          (record { live = c.args.live.now; truths = c.args.truths.now; told = c.requires.told; covers = c.requires.covers }) ys more c.loop-nodes.later.items nodes
+          c.narrowed_if.result is (subst (λ wants. AreLeftOf wants c.args.truths.now nodes c.narrowed_if.result) asked c.narrowed_if.ensures) was.1),
     )
 
 pub returns : goal.returns

@@ -21,7 +21,8 @@ returns-in-Ok g c =
     let err = sink_view g.E.Sink.taken g.E.Sink.faults in
     let sinks = sinks_of (out c.args.out.now) (out c.answer_file_by_all-status.new.out) (err c.args.err.now) (err c.answer_file_by_all-status.new.err) in
     file_answered some_queries c.args.name.now (λ (asks : List QueryTree). AnswersFile c.args.archive.now c.args.crew.now.settings.limit (texts_of_all asks))
-    (trees_of c.in-Ok.queries.items) c.answer_file_by_all-status.result (view c.args.desk.now) (view c.queries_in_file.new.desk) (view c.answer_file_by_all-status.new.desk) sinks c.in-Ok.ensures
+    (trees_of c.in-Ok.queries.items) c.answer_file_by_all-status.result (view c.queries_in_file.new.desk)
+    (call_of (view c.args.desk.now) (view c.answer_file_by_all-status.new.desk) sinks) c.in-Ok.ensures
     (subst (λ (qs : List TypedQuery). AnswersFile c.args.archive.now c.args.crew.now.settings.limit (texts_of_all (trees_of qs)) c.answer_file_by_all-status.result
     (call_of (view c.queries_in_file.new.desk) (view c.answer_file_by_all-status.new.desk) sinks)) c.as_slice.ensures.value c.answer_file_by_all-status.ensures)
 

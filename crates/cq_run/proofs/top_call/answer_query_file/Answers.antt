@@ -2,7 +2,7 @@ use Rattle.cql_syntax.specs.TreeOf.{query_tree}
 use Rattle.cql_syntax.specs.Trees.{QueryTree}
 use Rattle.cq_answers.specs.FirstGame.{wanted}
 use Rattle.cq_queries.specs.Views.{desk_view, sink_view, sinks_of}
-use Rattle.cq_run.specs.Run.{AnswersFile}
+use Rattle.cq_run.specs.Run.{AnswersFile, call_of}
 use Rattle.cq_queries.specs.Files.{a_query}
 use Rattle.cq_run.proofs.RunPromise.{file_answered, told_why}
 use Rattle.cq_run.proofs.top_call.answer_query_file.Goals as goal
@@ -13,8 +13,8 @@ returns-in-Ok g c =
     let out = sink_view g.O.Sink.taken g.O.Sink.faults in
     let err = sink_view g.E.Sink.taken g.E.Sink.faults in
     file_answered a_query c.args.name.now (λ (asks : QueryTree). AnswersFile c.args.archive.now c.args.crew.now.settings.limit (wanted c.args.crew.now.settings.first asks))
-    (query_tree c.in-Ok.query.query) c.answer_file-status.result (view c.args.desk.now) (view c.query_in_file.new.desk) (view c.answer_file-status.new.desk)
-    (sinks_of (out c.args.out.now) (out c.answer_file-status.new.out) (err c.args.err.now) (err c.answer_file-status.new.err)) c.in-Ok.ensures c.answer_file-status.ensures
+    (query_tree c.in-Ok.query.query) c.answer_file-status.result (view c.query_in_file.new.desk) (call_of (view c.args.desk.now) (view c.answer_file-status.new.desk)
+    (sinks_of (out c.args.out.now) (out c.answer_file-status.new.out) (err c.args.err.now) (err c.answer_file-status.new.err))) c.in-Ok.ensures c.answer_file-status.ensures
 
 pub returns-in-Err : goal.returns-in-Err
 returns-in-Err g c =

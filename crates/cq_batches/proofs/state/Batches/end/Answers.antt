@@ -1,4 +1,4 @@
-use Rattle.std.proofs.Common.{◌≡◌, List, [], ◌+◌, ◌++◌, length, drop, refl, sym, ap, ◌∙◌, arith}
+use Rattle.std.proofs.Common.{◌≡◌, [], ◌+◌, ◌++◌, length, drop, refl, sym, ap, ◌∙◌, arith}
 use Rattle.std.proofs.lemmas.List.{append-nil}
 use Rattle.pgn_cut.specs.Cut.{cut, closed}
 use Rattle.cq_batches.specs.Whole.{closed_games}
@@ -39,4 +39,5 @@ returns-clause-stands c = λ front m was.
     let are : c.as_slice.result.now ≡ drop (length (closed front)) (cut front) =
     c.as_slice.ensures.value ∙ c.in_ok-finish.ensures.games front was.cutter ∙ ap (λ l. l ++ drop (length (closed front)) (cut front)) c.new-spans.ensures.items in
     let is = ended (λ f. (let x = c.closed_games_stay.ensures.whole f in (x.0, x.1))) front c.as_slice.result.now are in
-    comes_to_end c.args.self.now _ front m c.as_slice.result.now was is c.in_ok-finish.ensures.cutter refl refl refl c.requires.reads refl (c.in_ok-keep_all.ensures front was.window (sym was.taken))
+    comes_to_end c.args.self.now _ front m c.as_slice.result.now was is
+    (record { cutter = c.in_ok-finish.ensures.cutter; taken = refl; limit = refl; window = refl }) c.requires.reads refl (c.in_ok-keep_all.ensures front was.window (sym was.taken))

@@ -44,8 +44,15 @@ returns-clause-stands c =
     let split : Split = λ (f : List ℕ). (let x = c.closed_games_stay.ensures.whole f in (x.0, x.1)) in
     let is = fed c.closed_games_stay.ensures.grow split front c.args.piece.now c.as_slice.result.now are in
     let cutter = c.in_ok-feed.ensures.stands front was.cutter in
-    goes_on c.games_stand_apart.ensures.each split c.args.self.now _ front c.args.piece.now m c.as_slice.result.now was is cutter (search rules)
-    (let l = length-append front c.args.piece.now in omega (arith, l, few)) (shows front was.window (sym was.taken))
-    (opened c.closed_games_stay.ensures.grow c.args.self.now.window c.go_on.new.self c.open_at.result front c.args.piece.now c.args.self.now.taken c.unwrap_or-place.result was.taken was.opens
-    (c.open_at.ensures (front ++ c.args.piece.now) cutter) (search rules) c.go_on.ensures.same c.go_on.ensures.moved)
-    c.requires.reads c.requires.reads (c.in_ok-keep_all.ensures front was.window (sym was.taken)))
+    goes_on c.games_stand_apart.ensures.each split c.args.self.now _ front c.args.piece.now m c.as_slice.result.now was is (record {
+      cutter = cutter;
+      taken = search rules;
+      few = let l = length-append front c.args.piece.now in omega (arith, l, few);
+      shows = shows front was.window (sym was.taken);
+      opens = opened c.closed_games_stay.ensures.grow c.args.self.now.window c.go_on.new.self c.open_at.result front c.args.piece.now c.args.self.now.taken was.taken was.opens
+          (c.open_at.ensures (front ++ c.args.piece.now) cutter)
+          (record { place = c.unwrap_or-place.result; is = search rules; same = c.go_on.ensures.same; moved = c.go_on.ensures.moved });
+      open_ = c.requires.reads;
+      still = c.requires.reads;
+      fills = c.in_ok-keep_all.ensures front was.window (sym was.taken);
+    }))

@@ -18,8 +18,14 @@ returns-in_ok-push_back c = λ games m was.
     filled q _ c.args.game _ games m was
     (tested q c.args.game games m was c.len.result (q.size + c.len-bytes.result) (c.len.ensures ∙ sym (let o = c.push.new.self.ok.0 in let e = ap length open_ in search rules))
     (ap (λ (n : ℕ). q.size + n) c.len-bytes.ensures) true (sym c.is_full.ensures ∙ c.if-is_full.true))
-    c.in_ok-push_back.ensures.items taken refl (ap (λ v. v.items) c.replace-games.ensures.after ∙ c.new.ensures.items) refl
-    (ap (λ (n : ℕ). q.index + n) (c.len-count.ensures ∙ (let o = c.push.new.self.ok.0 in let e = ap length (taken ∙ sym open_) in search rules)))
+    (record {
+      more = c.in_ok-push_back.ensures.items;
+      has = taken;
+      at = refl;
+      none = ap (λ v. v.items) c.replace-games.ensures.after ∙ c.new.ensures.items;
+      empty = refl;
+      count = ap (λ (n : ℕ). q.index + n) (c.len-count.ensures ∙ (let o = c.push.new.self.ok.0 in let e = ap length (taken ∙ sym open_) in search rules));
+    })
 
 pub returns-else-is_full : goal.returns-else-is_full
 returns-else-is_full c = λ games m was.

@@ -9,5 +9,10 @@ returns-then-is_empty c = λ games m was none.
 
 pub returns : goal.returns
 returns c = λ games m was none.
-    last_some c.args.self.now _ _ c.args.self.now.open.items games m was none (let e = c.is_empty.ensures in let t = c.if-is_empty.false in let o = c.args.self.now.open.ok.0 in search rules) refl
-    (ap (λ v. v.items) c.replace-games.ensures.value) refl refl (ap (λ v. v.items) c.replace-games.ensures.after ∙ c.new.ensures.items)
+    last_some c.args.self.now _ _ c.args.self.now.open.items games m was none
+    (let e = c.is_empty.ensures in let t = c.if-is_empty.false in let o = c.args.self.now.open.ok.0 in search rules) refl (record {
+      has = ap (λ v. v.items) c.replace-games.ensures.value;
+      at = refl;
+      full = refl;
+      open_ = ap (λ v. v.items) c.replace-games.ensures.after ∙ c.new.ensures.items;
+    })

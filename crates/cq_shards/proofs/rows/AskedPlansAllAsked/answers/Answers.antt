@@ -1,4 +1,4 @@
-use Rattle.std.proofs.Common.{◌-◌, ap, arith, Ok, ◌∙◌}
+use Rattle.std.proofs.Common.{◌-◌, ◌++◌, ◌∷◌, [], ap, arith, Ok, ◌∙◌}
 use Rattle.cql_syntax.specs.TreeOf.{query_tree}
 use Rattle.cql_syntax.specs.QueryTrees.{trees_of}
 use Rattle.cq_parts.specs.Plans.{queries_of}
@@ -47,8 +47,15 @@ answer_found-requires-clause-keys c =
     let is = c.len-q.ensures in
     let many = tree_count queries in
     let found = c.in_ok-found.found in
-    keys_at c.args.game.now (trees_of queries) (all.nodes_of found) (all.keys_of found) (c.loop-q.q - 1) (query_tree query.query) c.nodes.result.now c.keys.result.now
-    c.in_ok-found.ensures.keys (omega (arith, some, most, is, many)) (tree_at queries (c.loop-q.q - 1) query (omega (arith, some, most, is)) c.query-query.ensures) c.nodes.ensures c.keys.ensures
+    keys_at c.args.game.now (trees_of queries) (all.nodes_of found) (all.keys_of found) (c.loop-q.q - 1) c.in_ok-found.ensures.keys (record {
+      query = query_tree query.query;
+      nodes = c.nodes.result.now;
+      values = c.keys.result.now;
+      inside = omega (arith, some, most, is, many);
+      at = tree_at queries (c.loop-q.q - 1) query (omega (arith, some, most, is)) c.query-query.ensures;
+      are = c.nodes.ensures;
+      these = c.keys.ensures;
+    })
 
 pub loop-q-preserved : goal.loop-q-preserved
 loop-q-preserved c =
@@ -58,11 +65,10 @@ loop-q-preserved c =
     let most = c.loop-q.auto.q in
     let is = c.len-q.ensures in
     let many = tree_count queries in
-    one_back (trees_of queries) c.loop-q.q (query_tree query.query) c.args.index (Ok c.args.game.now) c.loop-q.answers.items c.push.new.self.items c.in_ok-answer.answer
+    one_back (trees_of queries) c.loop-q.q (query_tree query.query) c.args.index (Ok c.args.game.now) c.loop-q.answers.items c.push.new.self.items
     (omega (arith, some)) (omega (arith, most, is, many)) c.loop-q.invariant
-    (c.in_ok-answer.ensures
-    ∙ ap (λ q. answer_of q c.args.index (Ok c.args.game.now)) (tree_at queries (c.loop-q.q - 1) query (omega (arith, some, most, is)) c.query-query.ensures))
-    c.in_ok-push.ensures.items
+    (c.in_ok-push.ensures.items ∙ ap (λ a. c.loop-q.answers.items ++ a ∷ []) (c.in_ok-answer.ensures
+    ∙ ap (λ q. answer_of q c.args.index (Ok c.args.game.now)) (tree_at queries (c.loop-q.q - 1) query (omega (arith, some, most, is)) c.query-query.ensures)))
 
 pub returns : goal.returns
 returns c =
