@@ -8,12 +8,13 @@ use Rattle.cq_position.specs.Led.{PlainLed, led, led_to, led_from, taken_square}
 use Rattle.cq_position.specs.Legal.{is_none}
 use Rattle.cq_position.specs.declared.moves.Move.{Move}
 use Rattle.cq_position.specs.Search.{SearchedTree}
+use Rattle.cql_syntax.proofs.PlayedParts.{played_is}
 use Rattle.cql_syntax.specs.Meaning.{Names, value, meets, meets_all, goal_if, before, played_value, written_value}
-use Rattle.cql_syntax.specs.TreeOf.{filter_tree, played_tree, held_tree, written_tree}
-use Rattle.cql_syntax.specs.Trees.{WrittenTree, move_of}
+use Rattle.cql_syntax.specs.TreeOf.{filter_tree, played_tree, written_tree}
+use Rattle.cql_syntax.specs.Trees.{WrittenTree}
 use Rattle.cql_syntax.specs.Values.{Value, as_truth}
 use Rattle.cql_syntax.specs.declared.tree.Filter.{Filter}
-use Rattle.cql_syntax.specs.declared.tree.Played.{Played, Played', out-Played, outs-Played', Held-Played-origin, view-Played-origin, None', Some'}
+use Rattle.cql_syntax.specs.declared.tree.Played.{Played, out-Played}
 use Rattle.cql_columns.specs.Columns.{is_live, shown, IsColumn, Where}
 use Rattle.cql_columns.specs.Costs.{filter_cost, played_cost, written_cost}
 use Rattle.cql_columns.specs.FlatTrees.{unflat, IsFlat, IsFlatPart}
@@ -21,10 +22,6 @@ use Rattle.cql_columns.specs.declared.filter_column.FilterColumn.{FilterColumn}
 use Rattle.cql_pruning.specs.Moved.{ArePartColumns, is_as_asked}
 use Rattle.cql_pruning.specs.Promoting.{ArePromoting, is_promotion}
 use Rattle.cql_pruning.specs.declared.moves.PartColumns.{PartColumns}
-
-held_is : (held : Held-Played-origin) → written_tree (view-Played-origin held) ≡ held_tree held
-held_is None' = refl
-held_is (Some' p i f) = refl
 
 -- the parts of a move as they are written
 abbrev pub origin_of : Played → WrittenTree
@@ -39,22 +36,16 @@ taken_of p = written_tree (out-Played p).taken
 abbrev pub promoted_of : Played → WrittenTree
 promoted_of p = written_tree (out-Played p).promoted
 
-parts_are : (p : Played) → played_tree p ≡ move_of (origin_of p) (goal_of p) (taken_of p) (promoted_of p)
-parts_are (Played' o g t p) =
-    sym (ap (λ y. move_of (written_tree y.origin) (written_tree y.goal) (written_tree y.taken) (written_tree y.promoted)) (outs-Played' o g t p)
-    ∙ ap₂ (λ x y. move_of x y (written_tree (view-Played-origin t)) (written_tree (view-Played-origin p))) (held_is o) (held_is g)
-    ∙ ap₂ (λ x y. move_of (held_tree o) (held_tree g) x y) (held_is t) (held_is p))
-
 pub move_costs : (nodes : ℕ) (p : Played) → played_cost nodes (played_tree p)
     ≡ written_cost nodes (origin_of p) + written_cost nodes (goal_of p) + written_cost nodes (taken_of p) + written_cost nodes (promoted_of p)
 unfolding filter_cost
-move_costs nodes p = ap (played_cost nodes) (parts_are p)
+move_costs nodes p = ap (played_cost nodes) (played_is p)
 
 pub move_value : (tree : SearchedTree) (e : Names) (p : Played) (n : ℕ) → played_value tree [] e (played_tree p) n
     ≡ meets_all (led_to tree.game.nodes n) (written_value tree [] e (origin_of p) (before tree n)) (written_value tree [] e (goal_of p) n)
     (written_value tree [] e (taken_of p) (before tree n)) (written_value tree [] e (promoted_of p) n)
 unfolding value
-move_value tree e p n = ap (λ m. played_value tree [] e m n) (parts_are p)
+move_value tree e p n = ap (λ m. played_value tree [] e m n) (played_is p)
 
 -- a part's column, where it is written
 abbrev pub IsPartColumn : SearchedTree → Names → List Bool → Option FilterColumn → WrittenTree → Type 0
