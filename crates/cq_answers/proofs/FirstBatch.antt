@@ -8,7 +8,7 @@ use Rattle.cq_batches.specs.declared.batch.Batch.{Batch}
 use Rattle.cql_syntax.specs.Trees.{QueryTree}
 use Rattle.cq_answered.specs.Answers.{answers_from}
 use Rattle.cq_answered.specs.FirstMatch.{AnswersUpToFirst}
-use Rattle.cq_answered.specs.Outcomes.{Outcome}
+use Rattle.cq_answered.specs.Outcomes.{AreKeptRead, Outcome}
 use Rattle.cq_answered.specs.declared.answers.GameAnswer.{GameAnswer}
 use Rattle.cq_queries.specs.declared.status.Status.{Status}
 use Rattle.cq_queries.specs.declared.status.Status.TheVariants.{NoMemory}
@@ -48,22 +48,39 @@ first_within query sinks stand games at = (
   subst (λ (s : Stand). s.tally.refused ≤ s.tally.games) (sym at.holds.found.is) (count_by-le-length is_refused at.outcomes),
 )
 
-pub first_few : (query : QueryTree) (sinks : Sinks) (stand : Stand) (games : KeptGames) (batch : Batch) (answers : List GameAnswer) → NoneIn query sinks stand games
-    → number_of batch ≡ length games → BatchUpTo query batch answers → stand.tally.games + length answers < 2 ^ 62
-first_few query sinks stand games batch answers at index answered =
-    let tally : stand.tally.games ≡ length at.outcomes = ap (λ (t : Stand). t.tally.games) at.holds.found.is in
-    let before = count_read games at.outcomes at.are_read in
-    let count : length answers ≡ length (up_to_first query answered.outcomes) =
-    ap length answered.are ∙ answers_count query (number_of batch) (up_to_first query answered.outcomes) in
-    let fewer = up_few query answered.outcomes in
-    let read = count_read (games_of batch) answered.outcomes answered.are_read in
-    let most = batch.numbers in
+-- a batch is answered up to its first match, and none of the games before it matches
+pub record NextBatch : Type 0 where
+  pub query : QueryTree
+  pub sinks : Sinks
+  pub stand : Stand
+  pub games : KeptGames
+  pub batch : Batch
+  pub answers : List GameAnswer
+  pub at : NoneIn query sinks stand games
+  pub index : number_of batch ≡ length games
+  pub answered : BatchUpTo query batch answers
+
+-- how the games before it and its own are read, its own up to the first match
+abbrev pub read_in : NextBatch → List Outcome
+read_in next = next.at.outcomes ++ up_to_first next.query next.answered.outcomes
+
+pub first_few : (next : NextBatch) → next.stand.tally.games + length next.answers < 2 ^ 62
+first_few next =
+    let query = next.query in
+    let at = next.at in
+    let outcomes = next.answered.outcomes in
+    let tally : next.stand.tally.games ≡ length at.outcomes = ap (λ (t : Stand). t.tally.games) at.holds.found.is in
+    let before = count_read next.games at.outcomes at.are_read in
+    let count : length next.answers ≡ length (up_to_first query outcomes) = ap length next.answered.are ∙ answers_count query (number_of next.batch) (up_to_first query outcomes) in
+    let fewer = up_few query outcomes in
+    let read = count_read (games_of next.batch) outcomes next.answered.are_read in
+    let most = next.batch.numbers in
+    let index = next.index in
     omega (arith, tally, before, count, fewer, read, most, index)
 
-pub first_answers : (query : QueryTree) (sinks : Sinks) (stand : Stand) (games : KeptGames) (batch : Batch) (answers : List GameAnswer) → (at : NoneIn query sinks stand games)
-    → number_of batch ≡ length games → (answered : BatchUpTo query batch answers) → answers ≡ answers_from query (length at.outcomes) (up_to_first query answered.outcomes)
-first_answers query sinks stand games batch answers at index answered =
-    answered.are ∙ ap (λ n. answers_from query n (up_to_first query answered.outcomes)) (index ∙ count_read games at.outcomes at.are_read)
+pub first_answers : (next : NextBatch) → next.answers ≡ answers_from next.query (length next.at.outcomes) (up_to_first next.query next.answered.outcomes)
+first_answers next =
+    next.answered.are ∙ ap (λ n. answers_from next.query n (up_to_first next.query next.answered.outcomes)) (next.index ∙ count_read next.games next.at.outcomes next.at.are_read)
 
 before_in : (query : QueryTree) (sinks : Sinks) (stand : Stand) (games : KeptGames) → NoneIn query sinks stand games → Reading games (λ rs. some_match query rs ≡ false)
 before_in query sinks stand games at = record { outcomes = at.outcomes; are_read = at.are_read; holds = at.holds.none }
@@ -88,36 +105,36 @@ first_wants laws query sinks stand games batch at =
       };
     }
 
+-- how the games before it and all of its own are read
+abbrev all_in : NextBatch → List Outcome
+all_in next = next.at.outcomes ++ next.answered.outcomes
+
+all_read : (next : NextBatch) → AreKeptRead (next.games ++ games_of next.batch) (all_in next)
+all_read next = kept_read_on next.games (games_of next.batch) next.at.outcomes next.answered.outcomes next.at.are_read next.answered.are_read
+
+same_read : (next : NextBatch) → read_in next ≡ up_to_first next.query (all_in next)
+same_read next = sym (up_on next.query next.at.outcomes next.answered.outcomes next.at.holds.none)
+
 -- a write failed, or no memory was found for it
-pub first_halts : (status : Status) (query : QueryTree) (sinks new : Sinks) (stand : Stand) (games : KeptGames) (batch : Batch) (answers : List GameAnswer)
-    → (at : NoneIn query sinks stand games) → (answered : BatchUpTo query batch answers)
-    → StopsIn (texts_so_far false query (at.outcomes ++ up_to_first query answered.outcomes)) new status → FirstStopped query new status games (games_of batch)
-first_halts status query sinks new stand games batch answers at answered stops = record {
-  before = before_in query sinks stand games at;
-  after = record {
-    outcomes = at.outcomes ++ answered.outcomes;
-    are_read = kept_read_on games (games_of batch) at.outcomes answered.outcomes at.are_read answered.are_read;
-    holds = inl (subst (λ l. StopsIn (texts_so_far false query l) new status) (sym (up_on query at.outcomes answered.outcomes at.holds.none)) stops);
-  };
+pub first_halts : (status : Status) (next : NextBatch) (new : Sinks) → StopsIn (texts_so_far false next.query (read_in next)) new status
+    → FirstStopped next.query new status next.games (games_of next.batch)
+first_halts status next new stops = record {
+  before = before_in next.query next.sinks next.stand next.games next.at;
+  after = record { outcomes = all_in next; are_read = all_read next; holds = inl (subst (λ l. StopsIn (texts_so_far false next.query l) new status) (same_read next) stops) };
 }
 
-found_with : (query : QueryTree) (before outs : List Outcome) (sinks : Sinks) (stand : Stand) → some_match query before ≡ false
-    → FoundSoFar false query (before ++ up_to_first query outs) sinks stand → FoundSoFar false query (up_to_first query (before ++ outs)) sinks stand
-found_with query before outs sinks stand none found = subst (λ l. FoundSoFar false query l sinks stand) (sym (up_on query before outs none)) found
-
 -- the batch has a match, and the last line is written
-pub first_matches : (status : Status) (query : QueryTree) (sinks new : Sinks) (stand after : Stand) (err : SinkView) (games : KeptGames) (batch : Batch) (answers : List GameAnswer)
-    → (at : NoneIn query sinks stand games) → (answered : BatchUpTo query batch answers)
-    → FoundSoFar false query (at.outcomes ++ up_to_first query answered.outcomes) new after
-    → 0 < after.tally.matched → WritesSummary after.tally new.err_after err status → FirstStopped query (with_err new err) status games (games_of batch)
-first_matches status query sinks new stand after err games batch answers at answered found some writes =
-    let all = at.outcomes ++ answered.outcomes in
-    let first = found_with query at.outcomes answered.outcomes new after at.holds.none found in
+pub first_matches : (status : Status) (next : NextBatch) (new : Sinks) (after : Stand) (err : SinkView) → FoundSoFar false next.query (read_in next) new after
+    → 0 < after.tally.matched → WritesSummary after.tally new.err_after err status → FirstStopped next.query (with_err new err) status next.games (games_of next.batch)
+first_matches status next new after err found some writes =
+    let query = next.query in
+    let all = all_in next in
+    let first = subst (λ l. FoundSoFar false query l new after) (same_read next) found in
     let count : after.tally.matched ≡ count_by (is_match query) (up_to_first query all) = ap (λ (s : Stand). s.tally.matched) first.is in record {
-      before = before_in query sinks stand games at;
+      before = before_in query next.sinks next.stand next.games next.at;
       after = record {
         outcomes = all;
-        are_read = kept_read_on games (games_of batch) at.outcomes answered.outcomes at.are_read answered.are_read;
+        are_read = all_read next;
         holds = inr (record {
           some = sym (some_of_first query all) ∙ some_counted query (up_to_first query all) (omega (arith, some, count));
           writes = first_written status query all new err after.tally after.kept first writes;
@@ -126,16 +143,16 @@ first_matches status query sinks new stand after err games batch answers at answ
     }
 
 -- or none
-pub first_on : (query : QueryTree) (sinks new : Sinks) (stand after : Stand) (games : KeptGames) (batch : Batch) (answers : List GameAnswer)
-    → (at : NoneIn query sinks stand games) → (answered : BatchUpTo query batch answers)
-    → FoundSoFar false query (at.outcomes ++ up_to_first query answered.outcomes) new after → after.tally.matched ≤ 0 → NoneIn query new after (games ++ games_of batch)
-first_on query sinks new stand after games batch answers at answered found none_matched =
-    let all = at.outcomes ++ answered.outcomes in
-    let first = found_with query at.outcomes answered.outcomes new after at.holds.none found in
+pub first_on : (next : NextBatch) (new : Sinks) (after : Stand) → FoundSoFar false next.query (read_in next) new after → after.tally.matched ≤ 0
+    → NoneIn next.query new after (next.games ++ games_of next.batch)
+first_on next new after found none_matched =
+    let query = next.query in
+    let all = all_in next in
+    let first = subst (λ l. FoundSoFar false query l new after) (same_read next) found in
     let count : after.tally.matched ≡ count_by (is_match query) (up_to_first query all) = ap (λ (s : Stand). s.tally.matched) first.is in
     let none : some_match query all ≡ false =
     sym (some_of_first query all) ∙ none_counted query (up_to_first query all) (omega (arith, count, none_matched)) in record {
       outcomes = all;
-      are_read = kept_read_on games (games_of batch) at.outcomes answered.outcomes at.are_read answered.are_read;
+      are_read = all_read next;
       holds = record { none = none; found = subst (λ l. FoundSoFar false query l new after) (all_up query all none) first };
     }

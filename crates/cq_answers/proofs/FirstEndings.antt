@@ -307,11 +307,11 @@ first_starves laws query call stand games gives counts at =
     })
 
 -- there are no more batches, and the last line is written
-pub first_ended : Laws → (status : Status) (query : QueryTree) (call : Answering) (sinks : Sinks) (err : SinkView) (stand : Stand) (archive : List ℕ)
-    → call.sinks ≡ with_err sinks err → ReadsAll call.limit call.source.left call.source_after.left archive → call.source_after.faults ≡ call.source.faults
-    → Reading (cut_games archive) (FoundNone query sinks stand) → WritesSummary stand.tally sinks.err_after err status
+pub first_ended : Laws → (status : Status) (query : QueryTree) (call : Answering) (sinks : Sinks) (stand : Stand) (archive : List ℕ)
+    → call.sinks ≡ with_err sinks call.sinks.err_after → ReadsAll call.limit call.source.left call.source_after.left archive → call.source_after.faults ≡ call.source.faults
+    → Reading (cut_games archive) (FoundNone query sinks stand) → WritesSummary stand.tally sinks.err_after call.sinks.err_after status
     → AnswerPromise (first_texts query) status call
-first_ended laws status query call sinks err stand archive same reads counts at writes =
+first_ended laws status query call sinks stand archive same reads counts at writes =
     let rs = at.outcomes in
     first_read laws status query call archive rs (all_read laws call archive rs reads counts at.are_read)
     (record {
@@ -324,7 +324,7 @@ first_ended laws status query call sinks err stand archive same reads counts at 
       needed = cut_begins laws (length archive - most_read) archive;
     })
     (subst (λ s. FirstWritten (refused_of query rs) (first_texts_of query rs) s status) (sym same)
-    (first_written status query rs sinks err stand.tally stand.kept
+    (first_written status query rs sinks call.sinks.err_after stand.tally stand.kept
     (subst (λ l. FoundSoFar false query l sinks stand) (sym (all_up query rs at.holds.none)) at.holds.found) writes))
 
 -- each refusal ends the call with its own status

@@ -198,12 +198,22 @@ pub found_now_by_all : (was now : List QueryTree) (sinks : Sinks) (tally : Tally
     → Taken was now games (λ outcomes. FoundByAll was outcomes sinks tally kept) → FoundInAll now sinks tally kept games
 found_now_by_all was now sinks tally kept games taken = subst (λ qs. FoundInAll qs sinks tally kept games) (sym taken.same) taken.reading
 
+-- a batch is answered, and what was found of the games before it is known
+pub record NextBatch : Type 0 where
+  pub queries : List QueryTree
+  pub sinks : Sinks
+  pub tally : Tally
+  pub kept : List (List GameAnswer)
+  pub games : KeptGames
+  pub batch : Batch
+  pub rows : List (List GameAnswer)
+  pub at : FoundInAll queries sinks tally kept games
+  pub index : number_of batch ≡ length games
+  pub answered : Answered queries batch rows
+
 -- with the number of the batch's first game as the count of those before
-pub follows : (queries : List QueryTree) (sinks : Sinks) (tally : Tally) (kept : List (List GameAnswer)) (games : KeptGames) (batch : Batch) (rows : List (List GameAnswer))
-    → (at : FoundInAll queries sinks tally kept games) → number_of batch ≡ length games → (a : Answered queries batch rows)
-    → AreRowsOf queries (length at.outcomes) a.outcomes rows
-follows queries sinks tally kept games batch rows at index a =
-    subst (λ n. AreRowsOf queries n a.outcomes rows) (index ∙ count_read games at.outcomes at.are_read) a.are
+pub follows : (next : NextBatch) → AreRowsOf next.queries (length next.at.outcomes) next.answered.outcomes next.rows
+follows next = subst (λ n. AreRowsOf next.queries n next.answered.outcomes next.rows) (next.index ∙ count_read next.games next.at.outcomes next.at.are_read) next.answered.are
 
 first_long : (queries : List QueryTree) (n : ℕ) (outcomes : List Outcome) (rows : List (List GameAnswer)) (ordered : List GameAnswer) → 1 ≤ length queries
     → AreRowsOf queries n outcomes rows → IsRowOrdered (get_or rows 0 []) ordered → length ordered ≡ length outcomes
@@ -211,15 +221,17 @@ first_long [] n outcomes rows ordered some are sorts = absurd (omega (arith, som
 first_long (q ∷ qs) n outcomes rows ordered some are sorts =
     ap length (row_at (q ∷ qs) n outcomes rows 0 q are (omega arith) ordered sorts) ∙ answers_count q n outcomes
 
-pub many_few : (queries : List QueryTree) (sinks : Sinks) (tally : Tally) (kept : List (List GameAnswer)) (games : KeptGames) (batch : Batch) (rows : List (List GameAnswer))
-    → 1 ≤ length queries → FoundInAll queries sinks tally kept games → number_of batch ≡ length games → Answered queries batch rows
-    → (ordered : List GameAnswer) → IsRowOrdered (get_or rows 0 []) ordered → tally.games + length ordered < 2 ^ 62
-many_few queries sinks tally kept games batch rows some at index a ordered sorts =
-    let counted = (tally_few queries at.outcomes sinks tally kept some at.holds).0 in
-    let before = count_read games at.outcomes at.are_read in
-    let long = first_long queries (number_of batch) a.outcomes rows ordered some a.are sorts in
-    let read = count_read (games_of batch) a.outcomes a.are_read in
-    let most = batch.numbers in
+pub many_few : (next : NextBatch) → 1 ≤ length next.queries → (ordered : List GameAnswer) → IsRowOrdered (get_or next.rows 0 []) ordered
+    → next.tally.games + length ordered < 2 ^ 62
+many_few next some ordered sorts =
+    let at = next.at in
+    let a = next.answered in
+    let counted = (tally_few next.queries at.outcomes next.sinks next.tally next.kept some at.holds).0 in
+    let before = count_read next.games at.outcomes at.are_read in
+    let long = first_long next.queries (number_of next.batch) a.outcomes next.rows ordered some a.are sorts in
+    let read = count_read (games_of next.batch) a.outcomes a.are_read in
+    let most = next.batch.numbers in
+    let index = next.index in
     omega (arith, counted, before, long, read, most, index)
 
 -- no memory for its answers

@@ -194,27 +194,33 @@ none_of_rest rows kept = record {
   rows_later = λ j from. refl;
 }
 
-adds_here : (i j : ℕ) (rows left before after : List (List GameAnswer)) (new : List GameAnswer) → KeepsFirst i rows left before after → i < length after
-    → AddsMatches (get_or left i []) (get_or after i []) new → 1 ≤ j → (j < i) ⊎ (i ≤ j) → j < i + 1
+-- the queries below `i` are done, and the matches of this one are found
+record KeepsNext (i : ℕ) (rows left before after : List (List GameAnswer)) (new : List GameAnswer) : Type 0 where
+  so : KeepsFirst i rows left before after
+  from : 1 ≤ i
+  inside : i < length after
+  adds : AddsMatches (get_or left i []) (get_or after i []) new
+
+adds_here : (i j : ℕ) (rows left before after : List (List GameAnswer)) (new : List GameAnswer) → KeepsNext i rows left before after new → 1 ≤ j → (j < i) ⊎ (i ≤ j) → j < i + 1
     → AddsMatches (get_or rows j []) (get_or before j []) (get_or (set after i new) j [])
-adds_here i j rows left before after new so inside adds some (inr from) below =
+adds_here i j rows left before after new next some (inr from) below =
     let here : j ≡ i = omega (arith, from, below) in
     subst (λ k. AddsMatches (get_or rows k []) (get_or before k []) (get_or (set after i new) k [])) (sym here)
-    (subst (AddsMatches (get_or rows i []) (get_or before i [])) (sym (get_or-set_same after i new [] inside))
-    (subst (λ b. AddsMatches (get_or rows i []) b new) (so.later i (omega arith))
-    (subst (λ r. AddsMatches r (get_or after i []) new) (so.rows_later i (omega arith)) adds)))
-adds_here i j rows left before after new so inside adds some (inl less) below =
-    subst (AddsMatches (get_or rows j []) (get_or before j [])) (sym (get_or-set_other after i j new [] (λ e. omega (arith, less, e)))) (so.done j some less)
+    (subst (AddsMatches (get_or rows i []) (get_or before i [])) (sym (get_or-set_same after i new [] next.inside))
+    (subst (λ b. AddsMatches (get_or rows i []) b new) (next.so.later i (omega arith))
+    (subst (λ r. AddsMatches r (get_or after i []) new) (next.so.rows_later i (omega arith)) next.adds)))
+adds_here i j rows left before after new next some (inl less) below =
+    subst (AddsMatches (get_or rows j []) (get_or before j [])) (sym (get_or-set_other after i j new [] (λ e. omega (arith, less, e)))) (next.so.done j some less)
 
-one_of_rest : (i : ℕ) (rows left before after : List (List GameAnswer)) (new : List GameAnswer) → KeepsFirst i rows left before after → 1 ≤ i → i < length after
-    → AddsMatches (get_or left i []) (get_or after i []) new → KeepsFirst (i + 1) rows (set left i []) before (set after i new)
-one_of_rest i rows left before after new so from inside adds = record {
-  count = length-set after i new ∙ so.count;
-  rows_count = length-set left i [] ∙ so.rows_count;
-  first = get_or-set_other after i 0 new [] (λ e. omega (arith, from, e)) ∙ so.first;
-  done = λ j some below. adds_here i j rows left before after new so inside adds some (cases_lt j i) below;
-  later = λ j more. get_or-set_other after i j new [] (λ e. omega (arith, more, e)) ∙ so.later j (omega (arith, more));
-  rows_later = λ j more. get_or-set_other left i j [] [] (λ e. omega (arith, more, e)) ∙ so.rows_later j (omega (arith, more));
+one_of_rest : (i : ℕ) (rows left before after : List (List GameAnswer)) (new : List GameAnswer) → KeepsNext i rows left before after new
+    → KeepsFirst (i + 1) rows (set left i []) before (set after i new)
+one_of_rest i rows left before after new next = record {
+  count = length-set after i new ∙ next.so.count;
+  rows_count = length-set left i [] ∙ next.so.rows_count;
+  first = get_or-set_other after i 0 new [] (λ e. let from = next.from in omega (arith, from, e)) ∙ next.so.first;
+  done = λ j some below. adds_here i j rows left before after new next some (cases_lt j i) below;
+  later = λ j more. get_or-set_other after i j new [] (λ e. omega (arith, more, e)) ∙ next.so.later j (omega (arith, more));
+  rows_later = λ j more. get_or-set_other left i j [] [] (λ e. omega (arith, more, e)) ∙ next.so.rows_later j (omega (arith, more));
 }
 
 all_of_rest : (i : ℕ) (rows left before after : List (List GameAnswer)) → KeepsFirst i rows left before after → length after ≤ i → KeepsRest rows before after
@@ -230,20 +236,33 @@ all_of_rest i rows left before after so all = record {
 pub kept_at : {X : Type 0} (items : X → List GameAnswer) (kept : List X) (i : ℕ) (x : X) → i < length kept → x ≡ get_or kept i x → items x ≡ get_or (map items kept) i []
 kept_at items kept i x inside is = ap items is ∙ sym (get_or-map items kept i x [] inside)
 
+-- a query's row is handed out, and its matches are added to those that are kept
+pub record RowTaken {X : Type 0} (items : X → List GameAnswer) (i : ℕ) (left less : List (List GameAnswer)) (kept : List X) (new : X) : Type 0 where
+  pub taken : List GameAnswer
+  pub old : X
+  pub given : taken ≡ get_or left i []
+  pub is : less ≡ set left i []
+  pub value : old ≡ get_or kept i old
+  pub adds : AddsMatches taken (items old) (items new)
+
 -- a row more
-pub row_of_rest : {X : Type 0} (items : X → List GameAnswer) (i : ℕ) (rows left less : List (List GameAnswer)) (olds kept : List X) (taken : List GameAnswer) (old new : X)
-    → KeepsFirst i rows left (map items olds) (map items kept) → 1 ≤ i → i < length olds → taken ≡ get_or left i [] → less ≡ set left i [] → old ≡ get_or kept i old
-    → AddsMatches taken (items old) (items new) → KeepsFirst (i + 1) rows less (map items olds) (map items (set kept i new))
-row_of_rest items i rows left less olds kept taken old new so from below given is value adds =
+pub row_of_rest : {X : Type 0} (items : X → List GameAnswer) (i : ℕ) (rows left less : List (List GameAnswer)) (olds kept : List X) (new : X)
+    → KeepsFirst i rows left (map items olds) (map items kept) → (1 ≤ i) × (i < length olds) → RowTaken items i left less kept new
+    → KeepsFirst (i + 1) rows less (map items olds) (map items (set kept i new))
+row_of_rest items i rows left less olds kept new so (from, below) row =
     let count = so.count in
     let long = length-map olds items in
     let same = length-map kept items in
     let inside : i < length kept = omega (arith, below, count, long, same) in
-    let was : items old ≡ get_or (map items kept) i [] = kept_at items kept i old inside value in
-    subst (λ l. KeepsFirst (i + 1) rows l (map items olds) (map items (set kept i new))) (sym is)
+    let was : items row.old ≡ get_or (map items kept) i [] = kept_at items kept i row.old inside row.value in
+    subst (λ l. KeepsFirst (i + 1) rows l (map items olds) (map items (set kept i new))) (sym row.is)
     (subst (KeepsFirst (i + 1) rows (set left i []) (map items olds)) (sym (map-set items kept i new))
-    (one_of_rest i rows left (map items olds) (map items kept) (items new) so from (omega (arith, inside, same))
-    (subst (λ t. AddsMatches t (get_or (map items kept) i []) (items new)) given (subst (λ o. AddsMatches taken o (items new)) was adds))))
+    (one_of_rest i rows left (map items olds) (map items kept) (items new) (record {
+      so = so;
+      from = from;
+      inside = omega (arith, inside, same);
+      adds = subst (λ t. AddsMatches t (get_or (map items kept) i []) (items new)) row.given (subst (λ o. AddsMatches row.taken o (items new)) was row.adds);
+    })))
 
 pub rows_of_rest : {X : Type 0} (items : X → List GameAnswer) (i : ℕ) (rows left : List (List GameAnswer)) (olds kept : List X)
     → KeepsFirst i rows left (map items olds) (map items kept) → length olds ≤ i → KeepsRest rows (map items olds) (map items kept)

@@ -60,11 +60,11 @@ no_texts mark number games t none lines faults count = record {
   faulty_ = count;
 }
 
-pub texts_on : (mark : List ℕ) (number : ℕ) (gs hs all : KeptGames) (a b c : Texts) → all ≡ gs ++ hs → AreTextsOf mark number gs a → AreTextsOf mark (number + length gs) hs b
-    → c.lines ≡ a.lines ++ b.lines → c.faults ≡ a.faults ++ b.faults → c.faulty ≡ a.faulty + b.faulty → AreTextsOf mark number all c
-texts_on mark number gs hs all a b c is before after lines faults count = record {
+pub texts_on : (mark : List ℕ) (number : ℕ) (gs hs : KeptGames) (a b c : Texts) → AreTextsOf mark number gs a → AreTextsOf mark (number + length gs) hs b
+    → c.lines ≡ a.lines ++ b.lines → c.faults ≡ a.faults ++ b.faults → c.faulty ≡ a.faulty + b.faulty → AreTextsOf mark number (gs ++ hs) c
+texts_on mark number gs hs a b c before after lines faults count = record {
   entries = before.entries ++ after.entries;
-  are = subst (λ l. AreKept number l (before.entries ++ after.entries)) (sym is) (kept_on number gs hs before.entries after.entries before.are after.are);
+  are = kept_on number gs hs before.entries after.entries before.are after.are;
   lines_ = lines ∙ ap₂ (λ x y. x ++ y) before.lines_ after.lines_ ∙ sym (lines_on mark before.entries after.entries);
   faults_ = faults ∙ ap₂ (λ x y. x ++ y) before.faults_ after.faults_ ∙ sym (faults_on before.entries after.entries);
   faulty_ = count ∙ ap₂ (λ x y. x + y) before.faulty_ after.faulty_ ∙ sym (faulty_on before.entries after.entries);

@@ -13,7 +13,7 @@ use Rattle.cq_outside.specs.Flow.{Grew}
 use Rattle.pgn_json_run.specs.Making.{ArePlaced, IsPlaced}
 use Rattle.pgn_json_run.specs.Parts.{Part, part_at, size}
 use Rattle.pgn_json_run.specs.Texts.{AreTextsOf, HasTaken, HasWritten, HasWrittenFront, all_faults, all_faulty, all_lines}
-use Rattle.pgn_json_run.specs.Writing.{NoWriteFailed, SinkView, Sinks}
+use Rattle.pgn_json_run.specs.Writing.{NoWriteFailed, SinkView, Sinks, Writes}
 use Rattle.pgn_json_run.specs.declared.texts.Texts.{Texts}
 use Rattle.pgn_json_run.proofs.Entries.{few_faulty, few_texts, kept_count, no_texts, texts_on}
 use Rattle.pgn_json_run.proofs.Grown.{grew_none}
@@ -80,7 +80,7 @@ all_texts mark before [] [] placed = no_texts mark (before + 1) [] (joined []) r
 all_texts mark before [] (t ∷ ts) placed = let n = placed.count in absurd (omega (arith, n))
 all_texts mark before (g ∷ gs) [] placed = let n = placed.count in absurd (omega (arith, n))
 all_texts mark before (g ∷ gs) (t ∷ ts) placed =
-    texts_on mark (before + 1) (g ∷ []) gs (g ∷ gs) t (joined ts) (joined (t ∷ ts)) refl
+    texts_on mark (before + 1) (g ∷ []) gs t (joined ts) (joined (t ∷ ts))
     (first_is mark before g gs t ts (placed.each 0 (omega arith)))
     (all_texts mark (before + 1) gs ts (rest_are mark before g gs t ts placed))
     (flat_map-cons (λ (x : Texts). x.lines) t ts) (flat_map-cons (λ (x : Texts). x.faults) t ts) (sum_by-cons (λ (x : Texts). x.faulty) t ts)
@@ -112,16 +112,14 @@ nothing_written part s = (
   unfailed s,
 )
 
-pub part_written : (part : Part) (places : List Texts) (out now_out err now_err : SinkView) (faults : List ℕ) (count : ℕ) → ArePlaced part places
-    → Grew out.taken now_out.taken (all_lines places) → now_out.faults ≡ out.faults → Grew err.taken now_err.taken faults → now_err.faults ≡ err.faults
-    → faults ≡ all_faults places → count ≡ all_faulty places
-    → HasWritten part (record { out = out; err = err }) (record { out = now_out; err = now_err }) count
-part_written part places out now_out err now_err faults count placed lines_ out_same faults_ err_same is counts = record {
+pub part_written : (part : Part) (places : List Texts) (was now : Sinks) (faults : List ℕ) (count : ℕ) → ArePlaced part places → Writes was now (all_lines places) faults
+    → NoWriteFailed was now → faults ≡ all_faults places → count ≡ all_faulty places → HasWritten part was now count
+part_written part places was now faults count placed writes unfailed is counts = record {
   texts = joined places;
   are = all_texts part.mark part.before part.games places placed;
-  writes = record { out_ = lines_; err_ = subst (Grew err.taken now_err.taken) is faults_ };
+  writes = subst (Writes was now (all_lines places)) is writes;
   count_is = counts;
-  unfailed = record { out = out_same; err = err_same };
+  unfailed = unfailed;
 }
 
 -- fronts of the lines and of those of the faulty games
@@ -159,17 +157,36 @@ front_of_faults part places out now_out err now_err faults placed lines_ is (k, 
 
 -- ---- how many are faulty
 
-pub few_written : (mark : List ℕ) (was mid now : Sinks) (count more : ℕ) (games : KeptGames) (batch : Batch) (first : ℕ) → first < length (games_of batch)
-    → number_of batch ≡ length games → number_of batch + length (games_of batch) < 2 ^ 62 → HasTaken mark was mid count (games ++ take first (games_of batch))
-    → HasWritten (part_at mark batch first) mid now more → count + more < 2 ^ 64
-few_written mark was mid now count more games batch first less index most taken written =
-    let part = part_at mark batch first in
-    let few = few_faulty taken.entries in
-    let entries = kept_count 1 (games ++ take first (games_of batch)) taken.entries taken.are in
-    let long = length-append games (take first (games_of batch)) in
+-- the games before a batch, and its own up to a part, were written
+pub record UpToPart : Type 0 where
+  pub mark : List ℕ
+  pub was : Sinks
+  pub mid : Sinks
+  pub count : ℕ
+  pub games : KeptGames
+  pub batch : Batch
+  pub first : ℕ
+  pub less : first < length (games_of batch)
+  pub index : number_of batch ≡ length games
+  pub taken : HasTaken mark was mid count (games ++ take first (games_of batch))
+
+abbrev pub next_part : UpToPart → Part
+next_part at = part_at at.mark at.batch at.first
+
+pub few_written : (at : UpToPart) (now : Sinks) (more : ℕ) → HasWritten (next_part at) at.mid now more → at.count + more < 2 ^ 64
+few_written at now more written =
+    let batch = at.batch in
+    let first = at.first in
+    let less = at.less in
+    let index = at.index in
+    let most = batch.numbers in
+    let part = next_part at in
+    let few = few_faulty at.taken.entries in
+    let entries = kept_count 1 (at.games ++ take first (games_of batch)) at.taken.entries at.taken.are in
+    let long = length-append at.games (take first (games_of batch)) in
     let part_long = length-take-le first (games_of batch) (omega (arith, less)) in
-    let a = taken.count_is in
-    let few_more = few_texts mark (part.before + 1) part.games written.texts written.are in
+    let a = at.taken.count_is in
+    let few_more = few_texts at.mark (part.before + 1) part.games written.texts written.are in
     let size_is = length-take 128 (drop first (games_of batch)) in
     let b = written.count_is in
     omega (arith, few, entries, long, part_long, a, few_more, size_is, b, less, index, most)

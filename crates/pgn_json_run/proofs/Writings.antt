@@ -9,19 +9,18 @@ use Rattle.cq_batches.specs.Kept.{KeptGames, kept}
 use Rattle.cq_batches.specs.Laws.{Laws}
 use Rattle.cq_batches.specs.Rounds.{AreFirst, Gives, HasTurned, ReadsAll, TakesWhole}
 use Rattle.cq_batches.specs.Whole.{closed_games, cut_games, whole, whole_spans}
-use Rattle.cq_batches.specs.declared.batch.Batch.{Batch}
 use Rattle.cq_outside.specs.Flow.{Grew}
 use Rattle.cq_report.specs.Games.{summary_line}
 use Rattle.pgn_cut.specs.Cut.{closed, cut}
 use Rattle.pgn_cut.specs.declared.span.Span.{Span}
 use Rattle.pgn_json_run.specs.Lines.{AreEntries, Entry, fault_lines, lines, summary}
-use Rattle.pgn_json_run.specs.Parts.{part_at}
 use Rattle.pgn_json_run.specs.Texts.{AnswersBatch, AnswersPart, AreKept, AreTextsOf, HasStopped, HasTaken, HasWritten, HasWrittenFront, IsCutShort, WritesSummary}
 use Rattle.pgn_json_run.specs.Writing.{AreFirstGames, NoWriteFailed, OneWriteFailed, Pipe, ReadsGames, Says, SinkView, Sinks, Writes, WritesSome, WritesWhole}
 use Rattle.pgn_json_run.specs.declared.status.Status.{Status}
 use Rattle.pgn_json_run.specs.declared.status.Status.TheVariants.{Done, DoneWithRefusals, WordsRefused, OpenFault, ReadFault, WriteFault, NoMemory, ArchiveTooLong}
 use Rattle.pgn_json_run.specs.declared.texts.Texts.{Texts}
 use Rattle.pgn_json_run.proofs.Entries.{Decide, archive_of, faults_on, first_spans, kept_count, kept_on, lines_on, faulty_on}
+use Rattle.pgn_json_run.proofs.Parts.{UpToPart, next_part}
 use Rattle.pgn_json_run.proofs.Grown.{grew_none, grew_on, rose_on, same_grew}
 
 -- ---- a batch
@@ -35,21 +34,27 @@ no_games mark s count none = record {
   unfailed = record { out = refl; err = refl };
 }
 
--- the sinks before a batch and after it
-pub record Step (mark : List ℕ) (was mid : Sinks) (count : ℕ) (games batch : KeptGames) (number : ℕ) (t : Texts) : Type 0 where
+-- some games were written, and these are the texts of the next ones
+pub record Step (mark : List ℕ) (was mid : Sinks) : Type 0 where
+  pub count : ℕ
+  pub games : KeptGames
+  pub batch : KeptGames
+  pub number : ℕ
+  pub t : Texts
   pub taken : HasTaken mark was mid count games
   pub index : number ≡ length games
   pub texts : AreTextsOf mark (number + 1) batch t
 
-pub next_kept : (mark : List ℕ) (was mid : Sinks) (count : ℕ) (games batch : KeptGames) (number : ℕ) (t : Texts) → (step : Step mark was mid count games batch number t)
-    → AreKept (1 + length games) batch step.texts.entries
-next_kept mark was mid count games batch number t step =
-    let is = step.index in subst (λ k. AreKept k batch step.texts.entries) (omega (arith, is)) step.texts.are
+none_failed : (was mid now : Sinks) → NoWriteFailed was mid → NoWriteFailed mid now → NoWriteFailed was now
+none_failed was mid now before after = record { out = after.out ∙ before.out; err = after.err ∙ before.err }
 
-pub taken_on : (mark : List ℕ) (was mid now : Sinks) (count sum : ℕ) (games batch : KeptGames) (number : ℕ) (t : Texts) → Step mark was mid count games batch number t
-    → Grew mid.out.taken now.out.taken t.lines → now.out.faults ≡ mid.out.faults → Grew mid.err.taken now.err.taken t.faults → now.err.faults ≡ mid.err.faults
-    → sum ≡ count + t.faulty → HasTaken mark was now sum (games ++ batch)
-taken_on mark was mid now count sum games batch number t step out out_same err err_same adds =
+next_kept : (mark : List ℕ) (was mid : Sinks) (step : Step mark was mid) → AreKept (1 + length step.games) step.batch step.texts.entries
+next_kept mark was mid step =
+    let is = step.index in subst (λ k. AreKept k step.batch step.texts.entries) (omega (arith, is)) step.texts.are
+
+taken_on : (mark : List ℕ) (was mid now : Sinks) (sum : ℕ) (step : Step mark was mid) → Writes mid now step.t.lines step.t.faults → NoWriteFailed mid now
+    → sum ≡ step.count + step.t.faulty → HasTaken mark was now sum (step.games ++ step.batch)
+taken_on mark was mid now sum step writes unfailed adds =
     let es = step.taken.entries in
     let ds = step.texts.entries in
     let a = step.taken.count_is in
@@ -57,17 +62,17 @@ taken_on mark was mid now count sum games batch number t step out out_same err e
     let c = faulty_on es ds in
     record {
       entries = es ++ ds;
-      are = kept_on 1 games batch es ds step.taken.are (next_kept mark was mid count games batch number t step);
+      are = kept_on 1 step.games step.batch es ds step.taken.are (next_kept mark was mid step);
       count_is = omega (arith, adds, a, b, c);
       writes = record {
         out_ = subst (Grew was.out.taken now.out.taken) (sym (lines_on mark es ds))
             (grew_on was.out.taken mid.out.taken now.out.taken (lines mark es) (lines mark ds) step.taken.writes.out_
-            (subst (Grew mid.out.taken now.out.taken) step.texts.lines_ out));
+            (subst (Grew mid.out.taken now.out.taken) step.texts.lines_ writes.out_));
         err_ = subst (Grew was.err.taken now.err.taken) (sym (faults_on es ds))
             (grew_on was.err.taken mid.err.taken now.err.taken (fault_lines es) (fault_lines ds) step.taken.writes.err_
-            (subst (Grew mid.err.taken now.err.taken) step.texts.faults_ err));
+            (subst (Grew mid.err.taken now.err.taken) step.texts.faults_ writes.err_));
       };
-      unfailed = record { out = out_same ∙ step.taken.unfailed.out; err = err_same ∙ step.taken.unfailed.err };
+      unfailed = none_failed was mid now step.taken.unfailed unfailed;
     }
 
 -- ---- a batch, one part after the other
@@ -91,15 +96,22 @@ pub batch_ends : (mark : List ℕ) (was now : Sinks) (count : ℕ) (games batch 
 batch_ends mark was now count games batch first all taken = subst (λ l. HasTaken mark was now count (games ++ l)) (take_all first batch all) taken
 
 -- a part more of a batch
-pub batch_more : (mark : List ℕ) (was mid now : Sinks) (count more sum : ℕ) (games : KeptGames) (batch : Batch) (first : ℕ) → first < length (games_of batch)
-    → number_of batch ≡ length games → HasTaken mark was mid count (games ++ take first (games_of batch)) → HasWritten (part_at mark batch first) mid now more → sum ≡ count + more
-    → HasTaken mark was now sum (games ++ take (first + 128) (games_of batch))
-batch_more mark was mid now count more sum games batch first less index taken written adds =
-    let part = part_at mark batch first in
-    subst (HasTaken mark was now sum) (part_more games (games_of batch) first)
-    (taken_on mark was mid now count sum (games ++ take first (games_of batch)) part.games part.before written.texts
-    (record { taken = taken; index = part_index games (games_of batch) first (number_of batch) less index; texts = written.are })
-    written.writes.out_ written.unfailed.out written.writes.err_ written.unfailed.err (adds ∙ ap (λ n. count + n) written.count_is))
+pub batch_more : (at : UpToPart) (now : Sinks) (more sum : ℕ) → HasWritten (next_part at) at.mid now more → sum ≡ at.count + more
+    → HasTaken at.mark at.was now sum (at.games ++ take (at.first + 128) (games_of at.batch))
+batch_more at now more sum written adds =
+    let all = games_of at.batch in
+    let part = next_part at in
+    subst (HasTaken at.mark at.was now sum) (part_more at.games all at.first)
+    (taken_on at.mark at.was at.mid now sum (record {
+      count = at.count;
+      games = at.games ++ take at.first all;
+      batch = part.games;
+      number = part.before;
+      t = written.texts;
+      taken = at.taken;
+      index = part_index at.games all at.first (number_of at.batch) at.less at.index;
+      texts = written.are;
+    }) written.writes written.unfailed (adds ∙ ap (λ n. at.count + n) written.count_is))
 
 -- a front of a part
 split_at : (batch : KeptGames) (first : ℕ) (games rest : KeptGames) → take 128 (drop first batch) ≡ games ++ rest
@@ -109,12 +121,15 @@ split_at batch first games rest is =
     ∙ ap (λ l. take first batch ++ l) (sym (take-append-drop 128 (drop first batch)) ∙ ap (λ l. l ++ drop 128 (drop first batch)) is
     ∙ append_assoc games rest (drop 128 (drop first batch)))
 
-pub cut_short : (mark : List ℕ) (was mid now : Sinks) (count : ℕ) (games : KeptGames) (batch : Batch) (first : ℕ) → first < length (games_of batch)
-    → number_of batch ≡ length games → HasTaken mark was mid count (games ++ take first (games_of batch)) → HasWrittenFront (part_at mark batch first) mid now
-    → IsCutShort mark was now games (games_of batch)
-cut_short mark was mid now count games batch first less index taken front =
-    let all = games_of batch in
-    let place = part_index games all first (number_of batch) less index in
+cut_short : (at : UpToPart) (now : Sinks) → HasWrittenFront (next_part at) at.mid now → IsCutShort at.mark at.was now at.games (games_of at.batch)
+cut_short at now front =
+    let mark = at.mark in
+    let was = at.was in
+    let mid = at.mid in
+    let taken = at.taken in
+    let first = at.first in
+    let all = games_of at.batch in
+    let place = part_index at.games all first (number_of at.batch) at.less at.index in
     record {
       first = take first all;
       part = front.games;
@@ -132,26 +147,19 @@ cut_short mark was mid now count games batch first less index taken front =
       };
     }
 
-none_failed : (was mid now : Sinks) → NoWriteFailed was mid → NoWriteFailed mid now → NoWriteFailed was now
-none_failed was mid now before after = record { out = after.out ∙ before.out; err = after.err ∙ before.err }
-
 one_failed : (was mid now : Sinks) → NoWriteFailed was mid → OneWriteFailed mid now → OneWriteFailed was now
 one_failed was mid now before (inl (rose, same)) = inl (rose_on was.out.faults mid.out.faults now.out.faults before.out rose, same ∙ before.err)
 one_failed was mid now before (inr (rose, same)) = inr (rose_on was.err.faults mid.err.faults now.err.faults before.err rose, same ∙ before.out)
 
-pub batch_stops : (mark : List ℕ) (was mid now : Sinks) (count : ℕ) (games : KeptGames) (batch : Batch) (first : ℕ) (status : Status) → first < length (games_of batch)
-    → number_of batch ≡ length games → HasTaken mark was mid count (games ++ take first (games_of batch)) → AnswersPart (part_at mark batch first) mid now (Err status)
-    → HasStopped mark was now games (games_of batch) status
-batch_stops mark was mid now count games batch first WriteFault less index taken (front, failed) =
-    (cut_short mark was mid now count games batch first less index taken front, one_failed was mid now taken.unfailed failed)
-batch_stops mark was mid now count games batch first NoMemory less index taken (front, same) =
-    (cut_short mark was mid now count games batch first less index taken front, none_failed was mid now taken.unfailed same)
-batch_stops mark was mid now count games batch first Done less index taken never = absurd never
-batch_stops mark was mid now count games batch first DoneWithRefusals less index taken never = absurd never
-batch_stops mark was mid now count games batch first WordsRefused less index taken never = absurd never
-batch_stops mark was mid now count games batch first OpenFault less index taken never = absurd never
-batch_stops mark was mid now count games batch first ReadFault less index taken never = absurd never
-batch_stops mark was mid now count games batch first ArchiveTooLong less index taken never = absurd never
+pub batch_stops : (at : UpToPart) (now : Sinks) (status : Status) → AnswersPart (next_part at) at.mid now (Err status) → HasStopped at.mark at.was now at.games (games_of at.batch) status
+batch_stops at now WriteFault (front, failed) = (cut_short at now front, one_failed at.was at.mid now at.taken.unfailed failed)
+batch_stops at now NoMemory (front, same) = (cut_short at now front, none_failed at.was at.mid now at.taken.unfailed same)
+batch_stops at now Done never = absurd never
+batch_stops at now DoneWithRefusals never = absurd never
+batch_stops at now WordsRefused never = absurd never
+batch_stops at now OpenFault never = absurd never
+batch_stops at now ReadFault never = absurd never
+batch_stops at now ArchiveTooLong never = absurd never
 
 -- ---- some first games of an archive
 

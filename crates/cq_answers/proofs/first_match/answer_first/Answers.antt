@@ -38,7 +38,7 @@ returns-in-Ok-All-clause-answers g c =
     let says = rw is at c.take_batches.ensures.says in
     let cause = rw is at c.take_batches.ensures.cause in
     let taker = c.take_batches.new.taker in
-    first_ended c.archives_come_in_batches.ensures c.write_summary.result query call mid (err c.write_summary.new.err) (stand_of taker.tally taker.kept.items) says.archive
+    first_ended c.archives_come_in_batches.ensures c.write_summary.result query call mid (stand_of taker.tally taker.kept.items) says.archive
     refl says.reads cause says.taken.1.reading c.write_summary.ensures
 
 pub returns-in-Ok-Early-clause-answers : goal.returns-in-Ok-Early-clause-answers

@@ -11,8 +11,14 @@ pub loop-i-preserved : goal.loop-i-preserved
 loop-i-preserved c =
     let inside : c.loop-i.i < length c.args.kept.now.items = omega arith in
     row_of_rest (λ (row : Vec GameAnswer Global). row.items) c.loop-i.i (answers_in c.args.answers) (answers_in c.loop-i.rows) (answers_in c.take.new.self)
-    c.args.kept.now.items c.loop-i.kept.items c.take.result.items c.index_mut.result.now c.keep.new.kept c.loop-i.invariant c.loop-i.auto.i inside c.take.ensures.given
-    c.take.ensures.left c.index_mut.ensures.value c.in_ok-keep.ensures
+    c.args.kept.now.items c.loop-i.kept.items c.keep.new.kept c.loop-i.invariant (c.loop-i.auto.i, inside) (record {
+      taken = c.take.result.items;
+      old = c.index_mut.result.now;
+      given = c.take.ensures.given;
+      is = c.take.ensures.left;
+      value = c.index_mut.ensures.value;
+      adds = c.in_ok-keep.ensures;
+    })
 
 pub returns : goal.returns
 returns c =

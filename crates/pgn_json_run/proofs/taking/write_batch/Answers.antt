@@ -3,7 +3,7 @@ use Rattle.cq_batches.specs.Games.{games_of}
 use Rattle.pgn_json_run.specs.Parts.{part_at}
 use Rattle.pgn_json_run.specs.Texts.{AnswersPart, HasWritten}
 use Rattle.pgn_json_run.specs.Writing.{sinks_of}
-use Rattle.pgn_json_run.proofs.Parts.{few_written}
+use Rattle.pgn_json_run.proofs.Parts.{UpToPart, few_written}
 use Rattle.pgn_json_run.proofs.Writings.{batch_ends, batch_more, batch_starts, batch_stops}
 use Rattle.pgn_json_run.proofs.taking.write_batch.Goals as goal
 
@@ -22,9 +22,20 @@ overflow_add-writer g c =
     let batch = c.args.batch.now in
     let taken = c.loop-first.invariant.taken c.requires.0 c.requires.1 c.requires.2 c.requires.3 in
     let less : c.loop-first.first < length (games_of batch) = search rules in
-    let most = batch.numbers in
-    let few = few_written c.args.writer.now.mark.now c.requires.0 (sinks c.loop-first.out c.loop-first.err) (sinks c.write_part.new.out c.write_part.new.err)
-    c.loop-first.writer.faulty c.in-Ok.faulty c.requires.1 batch c.loop-first.first less c.requires.2 most taken
+    let mark = c.args.writer.now.mark.now in
+    let at : UpToPart = record {
+      mark = mark;
+      was = c.requires.0;
+      mid = sinks c.loop-first.out c.loop-first.err;
+      count = c.loop-first.writer.faulty;
+      games = c.requires.1;
+      batch = batch;
+      first = c.loop-first.first;
+      less = less;
+      index = c.requires.2;
+      taken = taken;
+    } in
+    let few = few_written at (sinks c.write_part.new.out c.write_part.new.err) c.in-Ok.faulty
     (subst (λ m. HasWritten (part_at m.now batch c.loop-first.first) (sinks c.loop-first.out c.loop-first.err) (sinks c.write_part.new.out c.write_part.new.err) c.in-Ok.faulty)
     c.loop-first.invariant.same c.in-Ok.ensures) in
     omega (arith, few)
@@ -38,8 +49,19 @@ loop-first-preserved g c =
     record {
       same = c.loop-first.invariant.same;
       taken = λ was games index taken.
-          batch_more mark was (sinks c.loop-first.out c.loop-first.err) (sinks c.write_part.new.out c.write_part.new.err) c.loop-first.writer.faulty c.in-Ok.faulty _
-          games batch c.loop-first.first less index (c.loop-first.invariant.taken was games index taken)
+          let at : UpToPart = record {
+            mark = mark;
+            was = was;
+            mid = sinks c.loop-first.out c.loop-first.err;
+            count = c.loop-first.writer.faulty;
+            games = games;
+            batch = batch;
+            first = c.loop-first.first;
+            less = less;
+            index = index;
+            taken = c.loop-first.invariant.taken was games index taken;
+          } in
+          batch_more at (sinks c.write_part.new.out c.write_part.new.err) c.in-Ok.faulty _
           (subst (λ m. HasWritten (part_at m.now batch c.loop-first.first) (sinks c.loop-first.out c.loop-first.err) (sinks c.write_part.new.out c.write_part.new.err) c.in-Ok.faulty)
           c.loop-first.invariant.same c.in-Ok.ensures) refl;
     }
@@ -50,8 +72,19 @@ returns-in-Err-clause-answers g c = λ was games index taken.
     let batch = c.args.batch.now in
     let mark = c.args.writer.now.mark.now in
     let less : c.loop-first.first < length (games_of batch) = search rules in
-    batch_stops mark was (sinks c.loop-first.out c.loop-first.err) (sinks c.write_part.new.out c.write_part.new.err) c.loop-first.writer.faulty
-    games batch c.loop-first.first c.in-Err.status less index (c.loop-first.invariant.taken was games index taken)
+    let at : UpToPart = record {
+      mark = mark;
+      was = was;
+      mid = sinks c.loop-first.out c.loop-first.err;
+      count = c.loop-first.writer.faulty;
+      games = games;
+      batch = batch;
+      first = c.loop-first.first;
+      less = less;
+      index = index;
+      taken = c.loop-first.invariant.taken was games index taken;
+    } in
+    batch_stops at (sinks c.write_part.new.out c.write_part.new.err) c.in-Err.status
     (subst (λ m. AnswersPart (part_at m.now batch c.loop-first.first) (sinks c.loop-first.out c.loop-first.err) (sinks c.write_part.new.out c.write_part.new.err) (Err c.in-Err.status))
     c.loop-first.invariant.same (rw c.in-Err.is at c.write_part.ensures))
 

@@ -54,12 +54,12 @@ returns-in-Ok-write_all_of g c =
     let maker = c.args.maker.now in
     let part = part_at maker.mark.now maker.batch.now maker.first in
     let out = view_of g.O.Sink.taken g.O.Sink.faults in
-    let err = view_of g.E.Sink.taken g.E.Sink.faults in
     let places = c.in-Ok.texts.items in
     let lines = subst (λ l. WritesText (all_lines l) (out c.args.out.now) (out c.write_lines.new.out) c.write_lines.result) c.deref-2.ensures.value c.write_lines.ensures in
     let written = rw c.in-Ok-write_lines.is at lines in
-    part_written part places (out c.args.out.now) (out c.write_lines.new.out) (err c.args.err.now) (err c.write_all_of.new.sink) c.as_slice.result.now
-    c.in-Ok-joined_faults.faulty c.in-Ok.ensures written.0 written.1 c.in-Ok-write_all_of.ensures.ok c.in-Ok-write_all_of.ensures.cause.same
+    let sinks = sinks_of g.O.Sink.taken g.O.Sink.faults g.E.Sink.taken g.E.Sink.faults in
+    part_written part places (sinks c.args.out.now c.args.err.now) (sinks c.write_lines.new.out c.write_all_of.new.sink) c.as_slice.result.now c.in-Ok-joined_faults.faulty
+    c.in-Ok.ensures (record { out_ = written.0; err_ = c.in-Ok-write_all_of.ensures.ok }) (record { out = written.1; err = c.in-Ok-write_all_of.ensures.cause.same })
     (c.as_slice.ensures ∙ c.in-Ok-joined_faults.ensures.0 ∙ ap all_faults c.deref.ensures.value)
     (c.in-Ok-joined_faults.ensures.1 ∙ ap all_faulty c.deref.ensures.value)
 

@@ -11,7 +11,7 @@ use Rattle.cq_queries.specs.Views.{sink_view, sinks_of}
 use Rattle.cq_answers.specs.Takers.{StopsIn}
 use Rattle.cq_queries.specs.declared.status.Status.TheVariants.{NoMemory, WriteFault}
 use Rattle.cq_answers.proofs.Known.{reading_on}
-use Rattle.cq_answers.proofs.ManyBatch.{FoundInAll, answered, follows, found_now_by_all, many_few, many_wants, tally_few}
+use Rattle.cq_answers.proofs.ManyBatch.{FoundInAll, NextBatch, answered, follows, found_now_by_all, many_few, many_wants, tally_few}
 use Rattle.cq_answers.proofs.ManyEnds.{kept_long}
 use Rattle.cq_answers.proofs.Rows.{many_counted}
 use Rattle.cq_answers.proofs.all_queries.AllQueriesTaker.take.Goals as goal
@@ -71,8 +71,20 @@ keep_batch-requires-clause-games g c =
     let at = found_now_by_all _ queries sinks self.tally kept c.requires.1 c.requires.2.1 in
     let rows = answers_in c.in-Ok.answers in
     let a = answered c.archives_come_in_batches.ensures c.ordered_answers_stand_beside_their_games.ensures queries batch rows (c.requires.2.0.1 batch _ (says_at g.F.Fn c.in-Ok.ensures refl)) in
+    let next : NextBatch = record {
+      queries = queries;
+      sinks = sinks;
+      tally = self.tally;
+      kept = kept;
+      games = c.requires.1;
+      batch = batch;
+      rows = rows;
+      at = at;
+      index = c.requires.3;
+      answered = a;
+    } in
     λ ordered sorts.
-    let few = many_few queries sinks self.tally kept c.requires.1 batch rows self.few.0 at c.requires.3 a ordered sorts in
+    let few = many_few next self.few.0 ordered sorts in
     omega (arith, few)
 
 pub keep_batch-requires-clause-matched : goal.keep_batch-requires-clause-matched
@@ -114,7 +126,8 @@ returns-in-Ok-keep_batch g c = λ was games taken index.
     let rows = answers_in c.in-Ok.answers in
     let a = answered c.archives_come_in_batches.ensures c.ordered_answers_stand_beside_their_games.ensures queries batch rows (taken.0.1 batch _ (says_at g.F.Fn c.in-Ok.ensures refl)) in
     let new = sinks_of (out was.out) (out c.keep_batch.new.out) (err was.err) (err c.keep_batch.new.err) in
-    let does = rw c.in-Ok-keep_batch.is at c.keep_batch.ensures queries at.outcomes a.outcomes (out was.out) (err was.err) (follows queries sinks self.tally kept games batch rows at index a) at.holds in
+    let next : NextBatch = record { queries = queries; sinks = sinks; tally = self.tally; kept = kept; games = games; batch = batch; rows = rows; at = at; index = index; answered = a } in
+    let does = rw c.in-Ok-keep_batch.is at c.keep_batch.ensures queries at.outcomes a.outcomes (out was.out) (err was.err) (follows next) at.holds in
     let after = map (λ row. row.items) c.keep_batch.new.kept.items in (
       taken.0,
       record {
@@ -137,7 +150,8 @@ returns-in-Err-Fault g c = λ was games taken index.
     let rows = answers_in c.in-Ok.answers in
     let a = answered c.archives_come_in_batches.ensures c.ordered_answers_stand_beside_their_games.ensures queries batch rows (taken.0.1 batch _ (says_at g.F.Fn c.in-Ok.ensures refl)) in
     let new = sinks_of (out was.out) (out c.keep_batch.new.out) (err was.err) (err c.keep_batch.new.err) in
-    let does = rw (c.in-Err-Fault.is ∙ ap Err c.in-Err-Fault.field-0-is) at c.keep_batch.ensures queries at.outcomes a.outcomes (out was.out) (err was.err) (follows queries sinks self.tally kept games batch rows at index a) at.holds in
+    let next : NextBatch = record { queries = queries; sinks = sinks; tally = self.tally; kept = kept; games = games; batch = batch; rows = rows; at = at; index = index; answered = a } in
+    let does = rw (c.in-Err-Fault.is ∙ ap Err c.in-Err-Fault.field-0-is) at c.keep_batch.ensures queries at.outcomes a.outcomes (out was.out) (err was.err) (follows next) at.holds in
     reading_on games batch _ (λ outcomes. StopsIn (faults_alone outcomes) new WriteFault) at a.outcomes a.are_read does
 
 pub returns-in-Err-NoMemory : goal.returns-in-Err-NoMemory
@@ -153,5 +167,6 @@ returns-in-Err-NoMemory g c = λ was games taken index.
     let rows = answers_in c.in-Ok.answers in
     let a = answered c.archives_come_in_batches.ensures c.ordered_answers_stand_beside_their_games.ensures queries batch rows (taken.0.1 batch _ (says_at g.F.Fn c.in-Ok.ensures refl)) in
     let new = sinks_of (out was.out) (out c.keep_batch.new.out) (err was.err) (err c.keep_batch.new.err) in
-    let does = rw (c.in-Err-NoMemory.is ∙ ap Err c.in-Err-NoMemory.field-0-is) at c.keep_batch.ensures queries at.outcomes a.outcomes (out was.out) (err was.err) (follows queries sinks self.tally kept games batch rows at index a) at.holds in
+    let next : NextBatch = record { queries = queries; sinks = sinks; tally = self.tally; kept = kept; games = games; batch = batch; rows = rows; at = at; index = index; answered = a } in
+    let does = rw (c.in-Err-NoMemory.is ∙ ap Err c.in-Err-NoMemory.field-0-is) at c.keep_batch.ensures queries at.outcomes a.outcomes (out was.out) (err was.err) (follows next) at.holds in
     reading_on games batch _ (λ outcomes. StopsIn (faults_alone outcomes) new NoMemory) at a.outcomes a.are_read does
