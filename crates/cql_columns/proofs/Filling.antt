@@ -2,8 +2,12 @@
 use Rattle.std.proofs.Common.{◌≡◌, ℕ, zero, suc, ◌+◌, ◌<◌, ◌≤◌, ◌⊎◌, Bool, true, false, List, [], ◌∷◌, length, get_or, ◌&&◌, ◌||◌, refl, ap, sym, subst, ◌∙◌, arith, ⊎_elim, inl, inr}
 use Rattle.cq_position.specs.Search.{SearchedTree}
 use Rattle.std.specs.Prelude.{◌-◌, is_some, slice_set}
-use Rattle.cql_syntax.specs.Values.{amount}
-use Rattle.cql_columns.specs.Columns.{shown, IsNarrowed, IsNumbered, AreAsked}
+use Rattle.cq_symmetry.specs.Images.{is_in}
+use Rattle.cql_syntax.specs.Values.{Value, amount, as_truth}
+use Rattle.cql_values.specs.Shown.{meant}
+use Rattle.cql_values.specs.declared.value.Value.{Value as Kept}
+use Rattle.cql_values.specs.declared.value.Value.TheVariants.{Truth, Set}
+use Rattle.cql_columns.specs.Columns.{shown, Where, IsNarrowed, IsNumbered, AreAsked}
 use Rattle.cql_columns.specs.declared.filter_column.FilterColumn.{FilterColumn}
 use Rattle.std.proofs.lemmas.Bool.{cases_order}
 use Rattle.std.proofs.lemmas.List.{get_or-set_same, get_or-set_other, length-set}
@@ -31,35 +35,56 @@ pub none_past : (live : List Bool) (end : ℕ) → 0 < end → get_or live (end 
     → (n : ℕ) → end - 1 ≤ n → get_or live n false ≡ false
 none_past live end some is had n h = ⊎_elim (λ same. ap (λ i. get_or live i false) (sym same) ∙ is) (λ away. had n (omega (arith, h, some, away))) (equal_or (end - 1) n)
 
+-- how the entries of a column are read, and what stands for one past the end
+pub record Reading (A B : Type 0) : Type 0 where
+  pub show : A → B
+  pub none : A
+
+abbrev pub of_truths : Reading Bool Value
+of_truths = record { show = as_truth; none = false }
+
+abbrev pub of_sets : Reading ℕ Value
+of_sets = record { show = λ set. meant (Set set); none = 0 }
+
+abbrev pub of_squares : Reading ℕ (ℕ → Bool)
+of_squares = record { show = is_in; none = 0 }
+
+abbrev pub of_masks : Reading ℕ ℕ
+of_masks = record { show = λ set. set; none = 0 }
+
+abbrev pub of_values : Reading Kept Value
+of_values = record { show = meant; none = Truth false }
+
 -- the first k nodes have their values where they are asked for, in a column that reaches as far as these and is written over
-pub record FilledTo {A B : Type 0} (show : A → B) (d : A) (live : List Bool) (v : ℕ → B) (end k : ℕ) (items : List A) : Type 0 where
+pub record FilledTo {A B : Type 0} (read : Reading A B) (live : List Bool) (v : ℕ → B) (end k : ℕ) (items : List A) : Type 0 where
   pub count : length items ≡ end
-  pub each : (n : ℕ) → n < k → get_or live n false ≡ true → show (get_or items n d) ≡ v n
+  pub each : (n : ℕ) → n < k → get_or live n false ≡ true → read.show (get_or items n read.none) ≡ v n
   pub past : (n : ℕ) → end ≤ n → get_or live n false ≡ false
 
 never_both : (b : Bool) → b ≡ false → b ≡ true → ⊥
 never_both true e h = cc
 never_both false e h = cc
 
-pub put_none : {A B : Type 0} (show : A → B) (d : A) (live : List Bool) (v : ℕ → B) (end k : ℕ) (items : List A) → length items ≡ end
-    → ((n : ℕ) → end ≤ n → get_or live n false ≡ false) → ((n : ℕ) → n < k → get_or live n false ≡ false) → FilledTo show d live v end k items
-put_none show d live v end k items size past before = record { count = size; each = λ n h a. absurd (never_both (get_or live n false) (before n h) a); past = past }
+pub put_none : {A B : Type 0} (read : Reading A B) (live : List Bool) (v : ℕ → B) (end k : ℕ) (items : List A) → length items ≡ end
+    → ((n : ℕ) → end ≤ n → get_or live n false ≡ false) → ((n : ℕ) → n < k → get_or live n false ≡ false) → FilledTo read live v end k items
+put_none read live v end k items size past before = record { count = size; each = λ n h a. absurd (never_both (get_or live n false) (before n h) a); past = past }
 
-pub put_more : {A B : Type 0} (show : A → B) (d : A) (live : List Bool) (v : ℕ → B) (end k : ℕ) (items later : List A) (x : A)
-    → k < end → later ≡ slice_set items k x → (get_or live k false ≡ true → show x ≡ v k) → FilledTo show d live v end k items → FilledTo show d live v end (k + 1) later
-put_more show d live v end k items later x low is new had = record {
-  count = ap length is ∙ length-set items k x ∙ had.count;
-  each = λ n h a. ap (λ l. show (get_or l n d)) is ∙ ⊎_elim
-      (λ less. ap show (get_or-set_other items k n x d (λ e. omega (arith, less, e))) ∙ had.each n less a)
-      (λ same. ap (λ i. show (get_or (slice_set items k x) i d)) same ∙ ap show (get_or-set_same items k x d (omega (arith, low, had.count)))
+pub put_more : {A B : Type 0} (read : Reading A B) (live : List Bool) (v : ℕ → B) (end k : ℕ) (items : List A) (x : A)
+    → k < end → (get_or live k false ≡ true → read.show x ≡ v k) → FilledTo read live v end k items → FilledTo read live v end (k + 1) (slice_set items k x)
+put_more read live v end k items x low new had = record {
+  count = length-set items k x ∙ had.count;
+  each = λ n h a. ⊎_elim
+      (λ less. ap read.show (get_or-set_other items k n x read.none (λ e. omega (arith, less, e))) ∙ had.each n less a)
+      (λ same. ap (λ i. read.show (get_or (slice_set items k x) i read.none)) same ∙ ap read.show (get_or-set_same items k x read.none (omega (arith, low, had.count)))
       ∙ new (subst (λ i. get_or live i false ≡ true) same a) ∙ ap v (sym same))
       (split_last n k h);
   past = had.past;
 }
 
-pub put_all : {A B : Type 0} (show : A → B) (d : A) (live : List Bool) (v : ℕ → B) (end k : ℕ) (items : List A) → end ≤ k → FilledTo show d live v end k items
-    → (n : ℕ) → get_or live n false ≡ true → show (get_or items n d) ≡ v n
-put_all show d live v end k items done had n a = ⊎_elim (λ low. had.each n (omega (arith, low, done)) a) (λ far. absurd (never_both (get_or live n false) (had.past n far) a)) (split_at n end)
+pub put_all : {A B : Type 0} (read : Reading A B) (live : List Bool) (v : ℕ → B) (end k : ℕ) (items : List A) → end ≤ k → FilledTo read live v end k items
+    → Where live (λ n. read.show (get_or items n read.none) ≡ v n)
+put_all read live v end k items done had = λ n a.
+    ⊎_elim (λ low. had.each n (omega (arith, low, done)) a) (λ far. absurd (never_both (get_or live n false) (had.past n far) a)) (split_at n end)
 
 -- beyond its end a list of truths has none
 pub past : (xs : List Bool) (n : ℕ) → length xs ≤ n → get_or xs n false ≡ false
@@ -98,10 +123,10 @@ pub told_whole : (test : ℕ → Bool) (end k : ℕ) (items : List Bool) → end
 told_whole test end k items same had = record { count = had.count ∙ same; each = had.each }
 
 -- the same of nodes of a set
-pub put_asked : (live : List Bool) (test : ℕ → Bool) (end k : ℕ) (items later : List Bool) (d x : Bool) → k < length live → k < end → later ≡ slice_set items k x
-    → x ≡ (get_or live k d && test k) → ToldTo (λ n. get_or live n false && test n) end k items → ToldTo (λ n. get_or live n false && test n) end (k + 1) later
-put_asked live test end k items later d x inside low is new had =
-    put_told (λ n. get_or live n false && test n) end k items later x low is (new ∙ ap (λ b. b && test k) (any_default live k d false inside)) had
+pub put_asked : (live : List Bool) (test : ℕ → Bool) (end k : ℕ) (items : List Bool) (d x : Bool) → k < length live → k < end → x ≡ (get_or live k d && test k)
+    → ToldTo (λ n. get_or live n false && test n) end k items → ToldTo (λ n. get_or live n false && test n) end (k + 1) (slice_set items k x)
+put_asked live test end k items d x inside low new had =
+    put_told (λ n. get_or live n false && test n) end k items (slice_set items k x) x low refl (new ∙ ap (λ b. b && test k) (any_default live k d false inside)) had
 
 pub both_left : (a b : Bool) → (a && b) ≡ true → a ≡ true
 both_left true b e = refl

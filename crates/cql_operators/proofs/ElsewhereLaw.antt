@@ -68,10 +68,10 @@ raised_none nodes k more old new none same = record {
   later = λ n h. ap (λ l. get_or l n 0) same;
 }
 
-pub raised_at : (nodes : List Node) (k p d more x : ℕ) (old new : List ℕ) → IsTree nodes → (node_at nodes k).parent ≡ Some p → length old ≡ length nodes
-    → x ≡ bit_or (get_or old p d) more → new ≡ slice_set old p x → AreRaisedSets nodes k more old new
-raised_at nodes k p d more x old new tree parent long is set = record {
-  count = ap length set ∙ length-set old p x;
+pub raised_at : (nodes : List Node) (k p d more x : ℕ) (old : List ℕ) → IsTree nodes → (node_at nodes k).parent ≡ Some p → length old ≡ length nodes
+    → x ≡ bit_or (get_or old p d) more → AreRaisedSets nodes k more old (slice_set old p x)
+raised_at nodes k p d more x old tree parent long is = record {
+  count = length-set old p x;
   grows = λ n s h. ⊎_elim
       (λ same. subst (λ y. is_in y s ≡ true) (sym (at n same)) (in_new s (or_left (is_in (get_or old p d) s) (is_in more s)
       (subst (λ y. is_in y s ≡ true) (ap (λ i. get_or old i 0) same ∙ any_default old p 0 d low) h))))
@@ -87,37 +87,37 @@ raised_at nodes k p d more x old new tree parent long is set = record {
     low : p < length old
     low = omega (arith, before.0, before.1, long)
 
-    at : (n : ℕ) → n ≡ p → get_or new n 0 ≡ x
-    at n same = ap (λ l. get_or l n 0) set ∙ ap (λ i. get_or (slice_set old p x) i 0) same ∙ get_or-set_same old p x 0 low
+    at : (n : ℕ) → n ≡ p → get_or (slice_set old p x) n 0 ≡ x
+    at n same = ap (λ i. get_or (slice_set old p x) i 0) same ∙ get_or-set_same old p x 0 low
 
-    other : (n : ℕ) → (n ≡ p → ⊥) → get_or new n 0 ≡ get_or old n 0
-    other n away = ap (λ l. get_or l n 0) set ∙ get_or-set_other old p n x 0 away
+    other : (n : ℕ) → (n ≡ p → ⊥) → get_or (slice_set old p x) n 0 ≡ get_or old n 0
+    other n away = get_or-set_other old p n x 0 away
 
     in_new : (s : ℕ) → (is_in (get_or old p d) s || is_in more s) ≡ true → is_in x s ≡ true
     in_new s h = ap (λ y. is_in y s) is ∙ in_either (get_or old p d) more s ∙ h
 
--- from below: the squares of each node from t on are at its parent
-pub record RaisedSetsTo (nodes : List Node) (there : List ℕ) (t : ℕ) (back : List ℕ) : Type 0 where
+-- from below: after so many turns the squares of as many last nodes are at their parents
+pub record RaisedSetsTo (nodes : List Node) (there : List ℕ) (turn : ℕ) (back : List ℕ) : Type 0 where
   pub count : length back ≡ length there
   pub grows : (n s : ℕ) → is_in (get_or there n 0) s ≡ true → is_in (get_or back n 0) s ≡ true
-  pub leads : (c n s : ℕ) → t ≤ c → (node_at nodes c).parent ≡ Some n → is_in (get_or back c 0) s ≡ true → is_in (get_or back n 0) s ≡ true
+  pub leads : (c n s : ℕ) → length nodes ≤ c + turn → (node_at nodes c).parent ≡ Some n → is_in (get_or back c 0) s ≡ true → is_in (get_or back n 0) s ≡ true
 
-pub sets_begun : (nodes : List Node) (there : List ℕ) (t : ℕ) → IsTree nodes → length nodes ≤ t → RaisedSetsTo nodes there t there
-sets_begun nodes there t tree end = record {
+pub sets_begun : (nodes : List Node) (there : List ℕ) → IsTree nodes → RaisedSetsTo nodes there 0 there
+sets_begun nodes there tree = record {
   count = refl;
   grows = λ n s h. h;
-  leads = λ c n s h parent i. absurd (omega (arith, h, end, (parent_before nodes c n tree parent).1));
+  leads = λ c n s h parent i. absurd (omega (arith, h, (parent_before nodes c n tree parent).1));
 }
 
-pub sets_next : (nodes : List Node) (there old new : List ℕ) (k t later more : ℕ) → t ≡ k + 1 → k ≡ later → more ≡ get_or old k 0 → AreRaisedSets nodes k more old new → RaisedSetsTo nodes there t old
-    → RaisedSetsTo nodes there later new
-sets_next nodes there old new k t later more next end is raised had = record {
+pub sets_next : (nodes : List Node) (there old new : List ℕ) (k turn more : ℕ) → k + turn + 1 ≡ length nodes → more ≡ get_or old k 0 → AreRaisedSets nodes k more old new
+    → RaisedSetsTo nodes there turn old → RaisedSetsTo nodes there (turn + 1) new
+sets_next nodes there old new k turn more next is raised had = record {
   count = raised.count ∙ had.count;
   grows = λ n s h. raised.grows n s (had.grows n s h);
   leads = λ c n s h parent i. ⊎_elim
       (λ same. raised.adds n s (ap (λ j. (node_at nodes j).parent) (sym same) ∙ parent)
       (subst (λ y. is_in y s ≡ true) (ap (λ j. get_or new j 0) same ∙ raised.later k (omega arith) ∙ sym is) i))
-      (λ away. raised.grows n s (had.leads c n s (omega (arith, h, next, end, away)) parent (subst (λ y. is_in y s ≡ true) (raised.later c (omega (arith, h, end))) i)))
+      (λ away. raised.grows n s (had.leads c n s (omega (arith, h, next, away)) parent (subst (λ y. is_in y s ≡ true) (raised.later c (omega (arith, h, next))) i)))
       (equal_or c k);
 }
 
@@ -138,8 +138,9 @@ module _ (nodes : List Node) (tree : IsTree nodes) (back : List ℕ)
   pub up_to : (n m s : ℕ) → is_below nodes n m ≡ true → is_in (get_or back m 0) s ≡ true → is_in (get_or back n 0) s ≡ true
   up_to n m s b h = up_within (m + 1) n m s (omega arith) b h
 
-pub sets_all : (nodes : List Node) (there back : List ℕ) (t : ℕ) → IsTree nodes → length there ≡ length nodes → t ≡ 0 → RaisedSetsTo nodes there t back → AreBroughtBack nodes Find there back
-sets_all nodes there back t tree long end had = record {
+pub sets_all : (nodes : List Node) (there back : List ℕ) (turn : ℕ) → IsTree nodes → length there ≡ length nodes → length nodes ≤ turn → RaisedSetsTo nodes there turn back
+    → AreBroughtBack nodes Find there back
+sets_all nodes there back turn tree long end had = record {
   count = had.count ∙ long;
   each = λ n m s low b h. up_to nodes tree back (λ c n s parent i. had.leads c n s (omega (arith, end)) parent i) n m s b (had.grows m s h);
 }
@@ -192,10 +193,10 @@ pub record LoweredSetsTo (nodes : List Node) (there : List ℕ) (end k : ℕ) (b
   pub own : (n s : ℕ) → n < k → is_in (get_or there n 0) s ≡ true → is_in (get_or back n 0) s ≡ true
   pub leads : (n p s : ℕ) → n < k → (node_at nodes n).parent ≡ Some p → is_in (get_or back p 0) s ≡ true → is_in (get_or back n 0) s ≡ true
 
-pub lowered_sets_next : (nodes : List Node) (there back given later : List ℕ) (end k x : ℕ) → IsTree nodes → given ≡ back → k < end → later ≡ slice_set back k x
-    → x ≡ bit_or (get_or there k 0) (set_of_node given (node_at nodes k).parent) → LoweredSetsTo nodes there end k back → LoweredSetsTo nodes there end (k + 1) later
-lowered_sets_next nodes there back given later end k x tree same fits is new had = record {
-  count = ap length is ∙ length-set back k x ∙ had.count;
+pub lowered_sets_next : (nodes : List Node) (there back given : List ℕ) (end k x : ℕ) → IsTree nodes → given ≡ back → k < end
+    → x ≡ bit_or (get_or there k 0) (set_of_node given (node_at nodes k).parent) → LoweredSetsTo nodes there end k back → LoweredSetsTo nodes there end (k + 1) (slice_set back k x)
+lowered_sets_next nodes there back given end k x tree same fits new had = record {
+  count = length-set back k x ∙ had.count;
   own = λ n s h i. ⊎_elim
       (λ less. subst (λ y. is_in y s ≡ true) (sym (before n less)) (had.own n s less i))
       (λ here. subst (λ y. is_in y s ≡ true) (sym (at n here)) (in_new s (or_left (is_in (get_or there k 0) s) (is_in (set_of_node given (node_at nodes k).parent) s)
@@ -211,11 +212,11 @@ lowered_sets_next nodes there back given later end k x tree same fits is new had
       (split_last n k h);
 }
   where
-    before : (n : ℕ) → n < k → get_or later n 0 ≡ get_or back n 0
-    before n less = ap (λ l. get_or l n 0) is ∙ get_or-set_other back k n x 0 (λ e. omega (arith, less, e))
+    before : (n : ℕ) → n < k → get_or (slice_set back k x) n 0 ≡ get_or back n 0
+    before n less = get_or-set_other back k n x 0 (λ e. omega (arith, less, e))
 
-    at : (n : ℕ) → n ≡ k → get_or later n 0 ≡ x
-    at n here = ap (λ l. get_or l n 0) is ∙ ap (λ i. get_or (slice_set back k x) i 0) here ∙ get_or-set_same back k x 0 (omega (arith, fits, had.count))
+    at : (n : ℕ) → n ≡ k → get_or (slice_set back k x) n 0 ≡ x
+    at n here = ap (λ i. get_or (slice_set back k x) i 0) here ∙ get_or-set_same back k x 0 (omega (arith, fits, had.count))
 
     in_new : (s : ℕ) → (is_in (get_or there k 0) s || is_in (set_of_node given (node_at nodes k).parent) s) ≡ true → is_in x s ≡ true
     in_new s h = ap (λ y. is_in y s) new ∙ in_either (get_or there k 0) (set_of_node given (node_at nodes k).parent) s ∙ h

@@ -9,7 +9,7 @@ use Rattle.cql_syntax.specs.Values.{Value, as_truth, holds}
 use Rattle.cql_syntax.specs.declared.leaves.Unary.{Unary}
 use Rattle.cql_syntax.specs.declared.leaves.Unary.TheVariants.{Not, Complement, Count, Power, Light, Dark, Find, FindUp, Child, Parent}
 use Rattle.cql_values.proofs.Ranges.{same_truth, both, in_range}
-use Rattle.cql_columns.specs.Columns.{is_live, AreAsked, IsColumn, IsNarrowed}
+use Rattle.cql_columns.specs.Columns.{is_live, AreAsked, AreTruths, IsColumn, IsNarrowed}
 use Rattle.cql_columns.specs.declared.filter_column.FilterColumn.{FilterColumn}
 use Rattle.cql_columns.proofs.Filling.{live_below}
 use Rattle.cql_columns.proofs.FindLaw.{any_below}
@@ -77,23 +77,29 @@ truth_of tree Power v n sure = cc
 truth_of tree Light v n sure = cc
 truth_of tree Dark v n sure = cc
 
-pub elsewhere_is : (tree : SearchedTree) (word : Unary) (live wide asked again set found : List Bool) (c : FilterColumn) (v : ℕ → Value) → asks_elsewhere word ≡ true → AreAsked tree live
-    → AreLookedAt tree word live wide → asked ≡ wide → again ≡ wide → IsColumn c asked v → IsNarrowed again c true set → AreFound tree.game.nodes word set found
-    → (n : ℕ) → is_live live n ≡ true → as_truth (get_or found n false) ≡ unary_of tree word v n
-elsewhere_is tree word live wide asked again set found c v sure known looked is is_too column narrowed from n l =
-    ap as_truth (same_truth (get_or found n false) (holds (unary_of tree word v n)) to back) ∙ truth_of tree word v n sure
+-- the nodes at which a word's part is asked, where it is asked at the nodes of a set, and those of them at which the part holds
+pub record HeldElsewhere (tree : SearchedTree) (word : Unary) (live : List Bool) (v : ℕ → Value) (set : List Bool) : Type 0 where
+  pub wide : List Bool
+  pub column : FilterColumn
+  pub looked : AreLookedAt tree word live wide
+  pub is : IsColumn column wide v
+  pub narrowed : IsNarrowed wide column true set
+
+pub elsewhere_is : (tree : SearchedTree) (word : Unary) (live set found : List Bool) (v : ℕ → Value) → asks_elsewhere word ≡ true → AreAsked tree live
+    → HeldElsewhere tree word live v set → AreFound tree.game.nodes word set found → AreTruths found live (unary_of tree word v)
+elsewhere_is tree word live set found v sure known held from = λ n l.
+    let low : n < length tree.game.nodes = omega (arith, live_below live n l, known.count) in
+    ap as_truth (same_truth (get_or found n false) (holds (unary_of tree word v n)) (to n low) (back n low l)) ∙ truth_of tree word v n sure
   where
-    low : n < length tree.game.nodes
-    low = omega (arith, live_below live n l, known.count)
-
-    to : get_or found n false ≡ true → holds (unary_of tree word v n) ≡ true
-    to e =
+    to : (n : ℕ) → n < length tree.game.nodes → get_or found n false ≡ true → holds (unary_of tree word v n) ≡ true
+    to n low e =
         let x = (from.each n low).0 e in
-        let there = start_wide wide asked again set c v is is_too column narrowed x.0 x.1 in
-        held_at tree word v n x.0 sure x.2 (omega (arith, live_below wide x.0 there, looked.asked.count)) (looked.asked.searched x.0 there)
-        (start_holds wide asked again set c v is is_too column narrowed x.0 x.1)
+        let there = start_wide held.wide held.wide held.wide set held.column v refl refl held.is held.narrowed x.0 x.1 in
+        held_at tree word v n x.0 sure x.2 (omega (arith, live_below held.wide x.0 there, held.looked.asked.count)) (held.looked.asked.searched x.0 there)
+        (start_holds held.wide held.wide held.wide set held.column v refl refl held.is held.narrowed x.0 x.1)
 
-    back : holds (unary_of tree word v n) ≡ true → get_or found n false ≡ true
-    back e =
+    back : (n : ℕ) → n < length tree.game.nodes → is_live live n ≡ true → holds (unary_of tree word v n) ≡ true → get_or found n false ≡ true
+    back n low l e =
         let at = holds_at tree word v n sure e in
-        (from.each n low).1 (at.m, starts wide asked again set c v is is_too column narrowed at.m (looked.covers n at.m l at.asks at.down) at.holds_there, at.asks)
+        (from.each n low).1
+        (at.m, starts held.wide held.wide held.wide set held.column v refl refl held.is held.narrowed at.m (held.looked.covers n at.m l at.asks at.down) at.holds_there, at.asks)

@@ -13,6 +13,7 @@ use Rattle.cql_values.specs.Shown.{meant, terms_meant}
 use Rattle.cql_values.specs.declared.value.Value.{Value as Kept}
 use Rattle.cql_columns.specs.Columns.{Where, IsColumn, shown, all_shown, terms_shown, kept_at}
 use Rattle.cql_columns.specs.declared.filter_column.FilterColumn.{FilterColumn}
+use Rattle.cql_columns.proofs.Costing.{ItemOf}
 use Rattle.cql_columns.proofs.Chains.{values_take, take_whole}
 
 pub columns_begun : (tree : SearchedTree) (e : Names) (live : List Bool) (xs : List Filter) (columns : List FilterColumn) → columns ≡ []
@@ -21,12 +22,11 @@ unfolding value
 columns_begun tree e live [] columns is = λ n l. ap (λ cs. all_shown cs n) is
 columns_begun tree e live (x ∷ xs) columns is = λ n l. ap (λ cs. all_shown cs n) is
 
-pub columns_more : (tree : SearchedTree) (e : Names) (live : List Bool) (xs : List Filter) (i : ℕ) (f : Filter) (before later : List FilterColumn)
-    (c : FilterColumn) → i < length xs → f ≡ get_or xs i f
-    → Where live (λ n. all_shown before n ≡ values tree [] e (filter_trees (take i xs)) n) → IsColumn c live (value tree [] e (filter_tree f)) → later ≡ before ++ c ∷ []
-    → Where live (λ n. all_shown later n ≡ values tree [] e (filter_trees (take (i + 1) xs)) n)
-columns_more tree e live xs i f before later c below is had new more = λ n l.
-    ap (λ cs. all_shown cs n) more ∙ map_snoc (λ x. shown x n) before c ∙ ap₂ (λ vs w. vs ++ w ∷ []) (had n l) (new n l) ∙ sym (values_take tree [] e n xs i f below is)
+pub columns_more : (tree : SearchedTree) (e : Names) (live : List Bool) (xs : List Filter) (one : ItemOf xs) (before later : List FilterColumn) (c : FilterColumn)
+    → Where live (λ n. all_shown before n ≡ values tree [] e (filter_trees (take one.index xs)) n) → IsColumn c live (value tree [] e (filter_tree one.item)) → later ≡ before ++ c ∷ []
+    → Where live (λ n. all_shown later n ≡ values tree [] e (filter_trees (take (one.index + 1) xs)) n)
+columns_more tree e live xs one before later c had new more = λ n l.
+    ap (λ cs. all_shown cs n) more ∙ map_snoc (λ x. shown x n) before c ∙ ap₂ (λ vs w. vs ++ w ∷ []) (had n l) (new n l) ∙ sym (values_take tree [] e n xs one.index one.item one.below one.is)
 
 pub columns_all : (tree : SearchedTree) (e : Names) (live : List Bool) (xs : List Filter) (i : ℕ) (fs : FilterTrees) (columns : List FilterColumn) → length xs ≤ i → filter_trees xs ≡ fs
     → Where live (λ n. all_shown columns n ≡ values tree [] e (filter_trees (take i xs)) n) → Where live (λ n. all_shown columns n ≡ values tree [] e fs n)
@@ -38,14 +38,14 @@ unfolding value
 terms_begun tree e live [] columns is = λ n l. ap (λ cs. terms_shown cs n) is
 terms_begun tree e live (x ∷ xs) columns is = λ n l. ap (λ cs. terms_shown cs n) is
 
-pub terms_more : (tree : SearchedTree) (e : Names) (live : List Bool) (xs : List Term) (i : ℕ) (t : Term) (before later : List (Bool × FilterColumn))
-    (c : FilterColumn) → i < length xs → t ≡ get_or xs i t
-    → Where live (λ n. terms_shown before n ≡ term_values tree [] e (term_trees (take i xs)) n) → IsColumn c live (value tree [] e (filter_tree t.filter)) → later ≡ before ++ (t.minus, c) ∷ []
-    → Where live (λ n. terms_shown later n ≡ term_values tree [] e (term_trees (take (i + 1) xs)) n)
-terms_more tree e live xs i t before later c below is had new more = λ n l.
-    ap (λ cs. terms_shown cs n) more ∙ map_snoc (λ (x : Bool × FilterColumn). (x.0, shown x.1 n)) before (t.minus, c)
-    ∙ ap₂ (λ vs w. vs ++ (t.minus, w) ∷ []) (had n l) (new n l)
-    ∙ sym (ap (λ ts. term_values tree [] e ts n) (term_trees_more xs i t below is) ∙ terms_snoc tree [] e (term_trees (take i xs)) t.minus (filter_tree t.filter) n)
+pub terms_more : (tree : SearchedTree) (e : Names) (live : List Bool) (xs : List Term) (one : ItemOf xs) (before later : List (Bool × FilterColumn)) (c : FilterColumn)
+    → Where live (λ n. terms_shown before n ≡ term_values tree [] e (term_trees (take one.index xs)) n) → IsColumn c live (value tree [] e (filter_tree one.item.filter))
+    → later ≡ before ++ (one.item.minus, c) ∷ [] → Where live (λ n. terms_shown later n ≡ term_values tree [] e (term_trees (take (one.index + 1) xs)) n)
+terms_more tree e live xs one before later c had new more = λ n l.
+    ap (λ cs. terms_shown cs n) more ∙ map_snoc (λ (x : Bool × FilterColumn). (x.0, shown x.1 n)) before (one.item.minus, c)
+    ∙ ap₂ (λ vs w. vs ++ (one.item.minus, w) ∷ []) (had n l) (new n l)
+    ∙ sym (ap (λ ts. term_values tree [] e ts n) (term_trees_more xs one.index one.item one.below one.is)
+    ∙ terms_snoc tree [] e (term_trees (take one.index xs)) one.item.minus (filter_tree one.item.filter) n)
 
 pub terms_all : (tree : SearchedTree) (e : Names) (live : List Bool) (xs : List Term) (i : ℕ) (ts : TermTrees) (columns : List (Bool × FilterColumn)) → length xs ≤ i → term_trees xs ≡ ts
     → Where live (λ n. terms_shown columns n ≡ term_values tree [] e (term_trees (take i xs)) n) → Where live (λ n. terms_shown columns n ≡ term_values tree [] e ts n)

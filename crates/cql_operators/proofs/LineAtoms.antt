@@ -14,6 +14,7 @@ use Rattle.cql_syntax.specs.declared.leaves.Mark.{Mark}
 use Rattle.cql_syntax.specs.declared.leaves.Mark.TheVariants.{Once, Star, Plus, Maybe, Times}
 use Rattle.cql_syntax.specs.declared.tree.Constituent.{Constituent}
 use Rattle.cql_columns.specs.Costs.{parts_atoms, body_atoms}
+use Rattle.cql_columns.proofs.Costing.{ItemOf}
 use Rattle.cql_columns.specs.FlatTrees.{unflat, AreFlatParts, IsFlatBody}
 use Rattle.cql_operators.specs.LineAtoms.{parts_numbered, body_numbered}
 
@@ -168,21 +169,22 @@ pattern_begun first xs ps is = record {
     drop_none [] = refl
     drop_none (y ∷ ys) = refl
 
-pub pattern_more : (first : ℕ) (xs : List Constituent) (i : ℕ) (c : Constituent) (next later : ℕ) (ps more : List Given) (p q : Given) → i < length xs → c ≡ get_or xs i c
-    → pattern_tree q ≡ body_numbered next (body_tree c.body) → pattern_tree p ≡ marked c.mark (pattern_tree q) → later ≡ next + body_atoms (body_tree c.body) → more ≡ ps ++ p ∷ []
-    → PatternSoFar first xs i next ps → PatternSoFar first xs (i + 1) later more
-pattern_more first xs i c next later ps more p q below is body mark on new had = record {
-  whole = ap (followed_by (parts_numbered later (part_trees (drop (i + 1) xs)))) new ∙ followed_snoc (parts_numbered later (part_trees (drop (i + 1) xs))) ps p
-      ∙ ap₂ (λ (a : Pattern ℕ) (n : ℕ). followed_by (joined a (parts_numbered n (part_trees (drop (i + 1) xs)))) ps) (mark ∙ ap (marked c.mark) body) on
-      ∙ ap (λ cs. followed_by (parts_numbered next cs) ps) (sym (drop_parts xs i c below is)) ∙ had.whole;
-  count = (let e = atoms_left xs i c below is in omega (arith, e, on, had.count));
-}
+pub pattern_more : (first : ℕ) (xs : List Constituent) (part : ItemOf xs) (next later : ℕ) (ps more : List Given) (p : Given)
+    → pattern_tree p ≡ marked part.item.mark (body_numbered next (body_tree part.item.body)) → later ≡ next + body_atoms (body_tree part.item.body) → more ≡ ps ++ p ∷ []
+    → PatternSoFar first xs part.index next ps → PatternSoFar first xs (part.index + 1) later more
+pattern_more first xs part next later ps more p is on new had =
+    let left : PartTrees = part_trees (drop (part.index + 1) xs) in
+    record {
+      whole = ap (followed_by (parts_numbered later left)) new ∙ followed_snoc (parts_numbered later left) ps p
+          ∙ ap₂ (λ (a : Pattern ℕ) (n : ℕ). followed_by (joined a (parts_numbered n left)) ps) is on
+          ∙ ap (λ cs. followed_by (parts_numbered next cs) ps) (sym (drop_parts xs part.index part.item part.below part.is)) ∙ had.whole;
+      count = (let e = atoms_left xs part.index part.item part.below part.is in omega (arith, e, on, had.count));
+    }
 
 -- the next part's atoms are of the first 64
-pub next_few : (first most : ℕ) (xs : List Constituent) (i : ℕ) (c : Constituent) (next : ℕ) (ps : List Given) (cs : PartTrees)
-    → PatternSoFar first xs i next ps → i < length xs → c ≡ get_or xs i c → part_trees xs ≡ cs
-    → first + parts_atoms cs ≤ most → next + body_atoms (body_tree c.body) ≤ most
-next_few first most xs i c next ps cs had below is same few = let l = atoms_left xs i c below is in let s = ap parts_atoms same in omega (arith, l, s, had.count, few)
+pub next_few : (first : ℕ) (xs : List Constituent) (i : ℕ) (c : Constituent) (next : ℕ) (ps : List Given) (cs : PartTrees)
+    → PatternSoFar first xs i next ps → i < length xs → c ≡ get_or xs i c → part_trees xs ≡ cs → first + parts_atoms cs ≤ 64 → next + body_atoms (body_tree c.body) ≤ 64
+next_few first xs i c next ps cs had below is same few = let l = atoms_left xs i c below is in let s = ap parts_atoms same in omega (arith, l, s, had.count, few)
 
 pub pattern_all : (first : ℕ) (xs : List Constituent) (i next : ℕ) (ps : List Given) (cs : PartTrees) → length xs ≤ i → part_trees xs ≡ cs
     → PatternSoFar first xs i next ps → pattern_trees ps ≡ parts_numbered first cs

@@ -7,69 +7,118 @@ use Rattle.cql_lines.specs.Tables.{holds_in}
 use Rattle.cql_lines.specs.declared.table.AtomTable.{AtomTable}
 use Rattle.cql_syntax.specs.Meaning.{Names, marked, value, pattern, body_pattern}
 use Rattle.cql_syntax.specs.TreeOf.{body_tree, part_trees}
-use Rattle.cql_syntax.specs.Trees.{FilterTree, PartTrees, no_parts, more_parts, BodyTree, atom, group}
+use Rattle.cql_syntax.specs.Trees.{FilterTree, PartTrees, no_parts, BodyTree, atom, group}
 use Rattle.cql_syntax.specs.Values.{Value, holds as value_holds}
-use Rattle.cql_syntax.specs.declared.leaves.Mark.{Mark}
 use Rattle.cql_syntax.specs.declared.tree.Constituent.{Constituent}
 use Rattle.cql_columns.specs.Columns.{is_live, shown, IsColumn, AreAsked, IsPart}
 use Rattle.cql_columns.specs.Costs.{parts_atoms, body_atoms}
+use Rattle.cql_columns.specs.Scopes.{tree_in}
+use Rattle.cql_columns.specs.declared.scope.Scope.{Scope}
+use Rattle.cql_columns.proofs.Costing.{ItemOf}
 use Rattle.cql_columns.specs.declared.filter_column.FilterColumn.{FilterColumn}
 use Rattle.cql_columns.proofs.Filling.{split_last, live_below}
 use Rattle.cql_operators.specs.LineAtoms.{parts_numbered, body_numbered, AreClearFrom, HasRoom, IsPut, IsFilledIn}
 use Rattle.cql_operators.specs.SpelledParts.{IsLive, AreAlike, IsNever, Agrees, AreTabled, AreOnward, LeadsOn, EndsHere}
 use Rattle.cql_operators.proofs.Lives.{none_live}
-use Rattle.cql_operators.proofs.SpelledAlike.{atom_alike, after_atom, never_atom, never_there, never_one}
+use Rattle.cql_operators.proofs.SpelledAlike.{InTable, atom_alike, after_atom, never_atom, never_there, never_one}
 use Rattle.cql_operators.proofs.LineAtoms.{atoms_end, atoms_left, drop_all, drop_parts}
 
 -- the atoms of a table
 
+-- a tree that lines walk one way, and the squares that names have there
+pub record Walk : Type 0 where
+  pub tree : SearchedTree
+  pub back : Bool
+  pub names : Names
+
+abbrev pub walk_in : Scope → Bool → Walk
+walk_in s back = record { tree = tree_in s; back = back; names = s.names.now }
+
+-- the body of a part, whose atoms stand in a table from the first on
+abbrev pub of_body : {L : Type 0} {own : _} → Walk → AtomTable L own → ℕ → BodyTree → InTable (AtomTable L own)
+of_body walk table first b = record { table = table; past = first + body_atoms b; numbered = body_numbered first b; stands_for = body_pattern walk.tree [] walk.names b }
+
+-- how far a row has come: its next atom, the nodes at which its next part may begin, whether each atom so far holds somewhere, and the table
+pub record Stage (T : Type 0) : Type 0 where
+  pub at : ℕ
+  pub starts : List Bool
+  pub met : Bool
+  pub table : T
+
+-- parts in a row that are put in a table, and the stage at which they begin
+pub record Row (T : Type 0) : Type 0 where
+  pub walk : Walk
+  pub parts : List Constituent
+  pub begun : Stage T
+
+abbrev pub stage : {L : Type 0} {own : _} → ℕ → List Bool → Bool → AtomTable L own → Stage (AtomTable L own)
+stage at starts met table = record { at = at; starts = starts; met = met; table = table }
+
+abbrev pub row_in : {L : Type 0} {own : _} → Scope → Bool → List Constituent → Stage (AtomTable L own) → Row (AtomTable L own)
+row_in s back parts begun = record { walk = walk_in s back; parts = parts; begun = begun }
+
+-- parts in a row are never spelled on ways from some nodes
+abbrev pub NeverSpelled : Walk → List Bool → PartTrees → Type 0
+NeverSpelled walk live cs = IsNever (IsStep walk.tree walk.back false) (IsLive live) (pattern walk.tree [] walk.names cs)
+
+-- a test spells by numbers what parts in a row spell on ways from some nodes
+abbrev pub SpelledFrom : Walk → (ℕ → ℕ → Bool) → ℕ → List Bool → PartTrees → Type 0
+SpelledFrom walk test first live cs = AreAlike (IsStep walk.tree walk.back false) (IsLive live) test (parts_numbered first cs) (pattern walk.tree [] walk.names cs)
+
 -- what is left of the parts tells the whole, given the table of those so far
-abbrev pub TellsAll : {L : Type 0} {own : _} → SearchedTree → Bool → Names → ℕ → PartTrees → List Bool → ℕ → PartTrees → List Bool → AtomTable L own → Type 0
-TellsAll tree back e first whole live at rest starts table =
-    (test : ℕ → ℕ → Bool) → Agrees test table at → AreAlike (IsStep tree back false) (IsLive starts) test (parts_numbered at rest) (pattern tree [] e rest)
-    → AreAlike (IsStep tree back false) (IsLive live) test (parts_numbered first whole) (pattern tree [] e whole)
+abbrev pub TellsAll : {L : Type 0} {own : _} → Row (AtomTable L own) → PartTrees → Stage (AtomTable L own) → Type 0
+TellsAll row rest now =
+    (test : ℕ → ℕ → Bool) → Agrees test now.table now.at → SpelledFrom row.walk test now.at now.starts rest → SpelledFrom row.walk test row.begun.at row.begun.starts (part_trees row.parts)
 
 -- where what is left is never spelled, the whole isn't
-abbrev pub NeverAll : SearchedTree → Bool → Names → PartTrees → List Bool → PartTrees → List Bool → Type 0
-NeverAll tree back e whole live rest starts =
-    IsNever (IsStep tree back false) (IsLive starts) (pattern tree [] e rest) → IsNever (IsStep tree back false) (IsLive live) (pattern tree [] e whole)
+abbrev pub NeverAll : {L : Type 0} {own : _} → Row (AtomTable L own) → PartTrees → List Bool → Type 0
+NeverAll row rest starts = NeverSpelled row.walk starts rest → NeverSpelled row.walk row.begun.starts (part_trees row.parts)
 
-tells_next : {L : Type 0} {own : _} (tree : SearchedTree) (back : Bool) (e : Names) (first at : ℕ) (whole : PartTrees) (live : List Bool) (body : BodyTree) (mark : Mark)
-    (rest : PartTrees) (starts later : List Bool) (old new : AtomTable L own)
-    → LeadsOn tree back starts later new (at + body_atoms body) (marked mark (body_numbered at body)) (marked mark (body_pattern tree [] e body)) → IsFilledIn old new at (at + body_atoms body)
-    → TellsAll tree back e first whole live at (more_parts body mark rest) starts old → TellsAll tree back e first whole live (at + body_atoms body) rest later new
+-- a part leads from one stage to the next
+abbrev pub PartLeads : {L : Type 0} {own : _} → Walk → Constituent → Stage (AtomTable L own) → Stage (AtomTable L own) → Type 0
+PartLeads walk c now next = LeadsOn walk.tree walk.back now.starts next.starts next.table (now.at + body_atoms (body_tree c.body))
+    (marked c.mark (body_numbered now.at (body_tree c.body))) (marked c.mark (body_pattern walk.tree [] walk.names (body_tree c.body)))
+
+tells_next : {L : Type 0} {own : _} (row : Row (AtomTable L own)) (part : ItemOf row.parts) (now next : Stage (AtomTable L own)) → next.at ≡ now.at + body_atoms (body_tree part.item.body)
+    → PartLeads row.walk part.item now next → IsFilledIn now.table next.table now.at (now.at + body_atoms (body_tree part.item.body))
+    → TellsAll row (part_trees (drop part.index row.parts)) now → TellsAll row (part_trees (drop (part.index + 1) row.parts)) next
 unfolding pattern
-tells_next tree back e first at whole live body mark rest starts later old new leads filled had test same last =
-    had test (λ a n h. same a n (omega (arith, h)) ∙ filled.before a n h)
-    (leads.alike test same (parts_numbered (at + body_atoms body) rest) (pattern tree [] e rest) last)
+tells_next row part now next on leads filled had test same last =
+    let rest : PartTrees = part_trees (drop (part.index + 1) row.parts) in
+    subst (λ cs. TellsAll row cs now) (drop_parts row.parts part.index part.item part.below part.is) had test
+    (λ a n h. same a n (omega (arith, h, on)) ∙ filled.before a n h)
+    (leads.alike test (λ a n h. same a n (omega (arith, h, on))) (parts_numbered (now.at + body_atoms (body_tree part.item.body)) rest) (pattern row.walk.tree [] row.walk.names rest)
+    (subst (λ k. SpelledFrom row.walk test k next.starts rest) on last))
 
-never_next : (tree : SearchedTree) (back : Bool) (e : Names) (whole : PartTrees) (live : List Bool) (body : BodyTree) (mark : Mark) (rest : PartTrees) (starts later : List Bool)
-    → ((s : Pattern (ℕ → Value)) → IsNever (IsStep tree back false) (IsLive later) s → IsNever (IsStep tree back false) (IsLive starts) (joined (marked mark (body_pattern tree [] e body)) s))
-    → NeverAll tree back e whole live (more_parts body mark rest) starts → NeverAll tree back e whole live rest later
+never_next : {L : Type 0} {own : _} (row : Row (AtomTable L own)) (part : ItemOf row.parts) (now next : Stage (AtomTable L own)) → PartLeads row.walk part.item now next
+    → NeverAll row (part_trees (drop part.index row.parts)) now.starts → NeverAll row (part_trees (drop (part.index + 1) row.parts)) next.starts
 unfolding pattern
-never_next tree back e whole live body mark rest starts later never had last = had (never (pattern tree [] e rest) last)
+never_next row part now next leads had last =
+    subst (λ cs. NeverAll row cs now.starts) (drop_parts row.parts part.index part.item part.below part.is) had
+    (leads.never (pattern row.walk.tree [] row.walk.names (part_trees (drop (part.index + 1) row.parts))) last)
 
-ends_next : (tree : SearchedTree) (back : Bool) (e : Names) (whole : PartTrees) (live : List Bool) (body : BodyTree) (mark : Mark) (rest : PartTrees) (starts : List Bool)
-    → EndsHere tree back starts (marked mark (body_pattern tree [] e body)) → NeverAll tree back e whole live (more_parts body mark rest) starts
-    → IsNever (IsStep tree back false) (IsLive live) (pattern tree [] e whole)
+ends_next : {L : Type 0} {own : _} (row : Row (AtomTable L own)) (part : ItemOf row.parts) (starts : List Bool)
+    → EndsHere row.walk.tree row.walk.back starts (marked part.item.mark (body_pattern row.walk.tree [] row.walk.names (body_tree part.item.body)))
+    → NeverAll row (part_trees (drop part.index row.parts)) starts → NeverSpelled row.walk row.begun.starts (part_trees row.parts)
 unfolding pattern
-ends_next tree back e whole live body mark rest starts ends had = had (ends (pattern tree [] e rest))
+ends_next row part starts ends had =
+    subst (λ cs. NeverAll row cs starts) (drop_parts row.parts part.index part.item part.below part.is) had
+    (ends (pattern row.walk.tree [] row.walk.names (part_trees (drop (part.index + 1) row.parts))))
 
-tells_end : {L : Type 0} {own : _} (tree : SearchedTree) (back : Bool) (e : Names) (first at : ℕ) (whole : PartTrees) (live starts : List Bool) (table : AtomTable L own)
-    → TellsAll tree back e first whole live at no_parts starts table
-    → AreTabled tree back (IsLive live) table at (parts_numbered first whole) (pattern tree [] e whole)
+tells_end : {L : Type 0} {own : _} (row : Row (AtomTable L own)) (now : Stage (AtomTable L own)) → TellsAll row no_parts now
+    → AreTabled row.walk.tree row.walk.back (IsLive row.begun.starts) now.table now.at
+    (parts_numbered row.begun.at (part_trees row.parts)) (pattern row.walk.tree [] row.walk.names (part_trees row.parts))
 unfolding pattern
-tells_end tree back e first at whole live starts table had test same = had test same (λ w way. (λ x. x, λ x. x))
+tells_end row now had test same = had test same (λ w way. (λ x. x, λ x. x))
 
-pub record TableSoFar {L : Type 0} {own : _} (tree : SearchedTree) (back : Bool) (e : Names) (first : ℕ) (xs : List Constituent) (i at : ℕ) (live starts : List Bool) (begun met : Bool)
-    (old table : AtomTable L own) : Type 0 where
-  pub asked : AreAsked tree starts
-  pub tells : TellsAll tree back e first (part_trees xs) live at (part_trees (drop i xs)) starts table
-  pub never : NeverAll tree back e (part_trees xs) live (part_trees (drop i xs)) starts
-  pub ends : begun ≡ true → met ≡ false → IsNever (IsStep tree back false) (IsLive live) (pattern tree [] e (part_trees xs))
-  pub filled : IsFilledIn old table first at
-  pub count : at + parts_atoms (part_trees (drop i xs)) ≡ first + parts_atoms (part_trees xs)
-  pub beyond : first ≤ at
+pub record TableSoFar {L : Type 0} {own : _} (row : Row (AtomTable L own)) (i : ℕ) (now : Stage (AtomTable L own)) : Type 0 where
+  pub asked : AreAsked row.walk.tree now.starts
+  pub tells : TellsAll row (part_trees (drop i row.parts)) now
+  pub never : NeverAll row (part_trees (drop i row.parts)) now.starts
+  pub ends : row.begun.met ≡ true → now.met ≡ false → NeverSpelled row.walk row.begun.starts (part_trees row.parts)
+  pub filled : IsFilledIn row.begun.table now.table row.begun.at now.at
+  pub count : now.at + parts_atoms (part_trees (drop i row.parts)) ≡ row.begun.at + parts_atoms (part_trees row.parts)
+  pub beyond : row.begun.at ≤ now.at
 
 not_both : (b : Bool) → b ≡ true → b ≡ false → ⊥
 not_both true e f = cc
@@ -79,18 +128,22 @@ none_dropped : (xs : List Constituent) → drop 0 xs ≡ xs
 none_dropped [] = refl
 none_dropped (x ∷ xs) = refl
 
-pub table_begun : {L : Type 0} {own : _} (tree : SearchedTree) (back : Bool) (e : Names) (first : ℕ) (xs : List Constituent) (live starts : List Bool) (met : Bool) (table : AtomTable L own)
-    → AreAsked tree live → starts ≡ live → TableSoFar tree back e first xs 0 first live starts met met table table
-table_begun tree back e first xs live starts met table asked is = record {
-  asked = subst (AreAsked tree) (sym is) asked;
+-- the first stage, with a copy of the nodes
+abbrev pub started : {L : Type 0} {own : _} → Stage (AtomTable L own) → List Bool → Stage (AtomTable L own)
+started begun starts = stage begun.at starts begun.met begun.table
+
+pub table_begun : {L : Type 0} {own : _} (row : Row (AtomTable L own)) (starts : List Bool) → AreAsked row.walk.tree row.begun.starts → starts ≡ row.begun.starts
+    → TableSoFar row 0 (started row.begun starts)
+table_begun row starts asked is = record {
+  asked = subst (AreAsked row.walk.tree) (sym is) asked;
   tells = λ test same last.
-      subst (λ ys. AreAlike (IsStep tree back false) (IsLive live) test (parts_numbered first (part_trees ys)) (pattern tree [] e (part_trees ys))) (none_dropped xs)
-      (subst (λ l. AreAlike (IsStep tree back false) (IsLive l) test (parts_numbered first (part_trees (drop 0 xs))) (pattern tree [] e (part_trees (drop 0 xs)))) is last);
-  never = λ last. subst (λ ys. IsNever (IsStep tree back false) (IsLive live) (pattern tree [] e (part_trees ys))) (none_dropped xs)
-      (subst (λ l. IsNever (IsStep tree back false) (IsLive l) (pattern tree [] e (part_trees (drop 0 xs)))) is last);
-  ends = λ b m. absurd (not_both met b m);
+      subst (λ ys. SpelledFrom row.walk test row.begun.at row.begun.starts (part_trees ys)) (none_dropped row.parts)
+      (subst (λ l. SpelledFrom row.walk test row.begun.at l (part_trees (drop 0 row.parts))) is last);
+  never = λ last. subst (λ ys. NeverSpelled row.walk row.begun.starts (part_trees ys)) (none_dropped row.parts)
+      (subst (λ l. NeverSpelled row.walk l (part_trees (drop 0 row.parts))) is last);
+  ends = λ b m. absurd (not_both row.begun.met b m);
   filled = record { atoms = refl; nodes = refl; before = λ a n h. refl; after = λ a n h. refl };
-  count = ap (λ ys. first + parts_atoms (part_trees ys)) (none_dropped xs);
+  count = ap (λ ys. row.begun.at + parts_atoms (part_trees ys)) (none_dropped row.parts);
   beyond = omega arith;
 }
 
@@ -98,68 +151,63 @@ truth_or : (P : Type 0) (b : Bool) → (b ≡ true → P) → (b ≡ false → P
 truth_or P true f g = f refl
 truth_or P false f g = g refl
 
-pub table_more : {L : Type 0} {own : _} (tree : SearchedTree) (back : Bool) (e : Names) (first : ℕ) (xs : List Constituent) (i : ℕ) (c : Constituent) (at next : ℕ)
-    (live starts later : List Bool) (begun met more : Bool)
-    (old table new : AtomTable L own) → i < length xs → c ≡ get_or xs i c → next ≡ at + body_atoms (body_tree c.body)
-    → LeadsOn tree back starts later new (at + body_atoms (body_tree c.body)) (marked c.mark (body_numbered at (body_tree c.body))) (marked c.mark (body_pattern tree [] e (body_tree c.body)))
-    → (met ≡ true → more ≡ false → EndsHere tree back starts (marked c.mark (body_pattern tree [] e (body_tree c.body))))
-    → IsFilledIn table new at (at + body_atoms (body_tree c.body)) → TableSoFar tree back e first xs i at live starts begun met old table
-    → TableSoFar tree back e first xs (i + 1) next live later begun more old new
-table_more tree back e first xs i c at next live starts later begun met more old table new below is on leads ends filled had =
-    let before : NeverAll tree back e (part_trees xs) live (more_parts (body_tree c.body) c.mark (part_trees (drop (i + 1) xs))) starts =
-    subst (λ cs. NeverAll tree back e (part_trees xs) live cs starts) (drop_parts xs i c below is) had.never in
-    record {
-      asked = leads.asked;
-      tells = subst (λ k. TellsAll tree back e first (part_trees xs) live k (part_trees (drop (i + 1) xs)) later new) (sym on)
-          (tells_next tree back e first at (part_trees xs) live (body_tree c.body) c.mark (part_trees (drop (i + 1) xs)) starts later table new leads filled
-          (subst (λ cs. TellsAll tree back e first (part_trees xs) live at cs starts table) (drop_parts xs i c below is) had.tells));
-      never = never_next tree back e (part_trees xs) live (body_tree c.body) c.mark (part_trees (drop (i + 1) xs)) starts later leads.never before;
-      ends = λ b m. truth_or (IsNever (IsStep tree back false) (IsLive live) (pattern tree [] e (part_trees xs))) met
-          (λ yes. ends_next tree back e (part_trees xs) live (body_tree c.body) c.mark (part_trees (drop (i + 1) xs)) starts (ends yes m) before)
-          (λ no. had.ends b no);
-      filled = record {
-        atoms = filled.atoms ∙ had.filled.atoms;
-        nodes = filled.nodes ∙ had.filled.nodes;
-        before = λ a n h. filled.before a n (omega (arith, h, had.beyond)) ∙ had.filled.before a n h;
-        after = λ a n h. filled.after a n (omega (arith, h, on)) ∙ had.filled.after a n (omega (arith, h, on));
-      };
-      count = (let l = atoms_left xs i c below is in omega (arith, l, on, had.count));
-      beyond = omega (arith, had.beyond, on);
-    }
+pub table_more : {L : Type 0} {own : _} (row : Row (AtomTable L own)) (part : ItemOf row.parts) (now next : Stage (AtomTable L own)) → next.at ≡ now.at + body_atoms (body_tree part.item.body)
+    → PartLeads row.walk part.item now next
+    → (now.met ≡ true → next.met ≡ false
+    → EndsHere row.walk.tree row.walk.back now.starts (marked part.item.mark (body_pattern row.walk.tree [] row.walk.names (body_tree part.item.body))))
+    → IsFilledIn now.table next.table now.at (now.at + body_atoms (body_tree part.item.body)) → TableSoFar row part.index now → TableSoFar row (part.index + 1) next
+table_more row part now next on leads ends filled had = record {
+  asked = leads.asked;
+  tells = tells_next row part now next on leads filled had.tells;
+  never = never_next row part now next leads had.never;
+  ends = λ b m. truth_or (NeverSpelled row.walk row.begun.starts (part_trees row.parts)) now.met
+      (λ yes. ends_next row part now.starts (ends yes m) had.never)
+      (λ no. had.ends b no);
+  filled = record {
+    atoms = filled.atoms ∙ had.filled.atoms;
+    nodes = filled.nodes ∙ had.filled.nodes;
+    before = λ a n h. filled.before a n (omega (arith, h, had.beyond)) ∙ had.filled.before a n h;
+    after = λ a n h. filled.after a n (omega (arith, h, on)) ∙ had.filled.after a n (omega (arith, h, on));
+  };
+  count = (let l = atoms_left row.parts part.index part.item part.below part.is in omega (arith, l, on, had.count));
+  beyond = omega (arith, had.beyond, on);
+}
 
-module _ {L : Type 0} {own : _} (tree : SearchedTree) (back : Bool) (e : Names) (first : ℕ) (xs : List Constituent) (i at : ℕ) (live starts : List Bool) (begun met : Bool)
-    (old table : AtomTable L own) (cs : PartTrees)
-    (end : length xs ≤ i) (same : part_trees xs ≡ cs) (had : TableSoFar tree back e first xs i at live starts begun met old table) where
-  pub table_all : AreTabled tree back (IsLive live) table (first + parts_atoms cs) (parts_numbered first cs) (pattern tree [] e cs)
+module _ {L : Type 0} {own : _} (row : Row (AtomTable L own)) (i : ℕ) (now : Stage (AtomTable L own)) (cs : PartTrees)
+    (end : length row.parts ≤ i) (same : part_trees row.parts ≡ cs) (had : TableSoFar row i now) where
+  pub table_all : AreTabled row.walk.tree row.walk.back (IsLive row.begun.starts) now.table (row.begun.at + parts_atoms cs)
+      (parts_numbered row.begun.at cs) (pattern row.walk.tree [] row.walk.names cs)
   table_all =
-      subst (λ ds. AreTabled tree back (IsLive live) table (first + parts_atoms ds) (parts_numbered first ds) (pattern tree [] e ds)) same
-      (subst (λ k. AreTabled tree back (IsLive live) table k (parts_numbered first (part_trees xs)) (pattern tree [] e (part_trees xs))) (let l = atoms_end xs i end in omega (arith, l, had.count))
-      (tells_end tree back e first at (part_trees xs) live starts table (subst (λ ds. TellsAll tree back e first (part_trees xs) live at ds starts table) (drop_all xs i end) had.tells)))
+      subst (λ ds. AreTabled row.walk.tree row.walk.back (IsLive row.begun.starts) now.table (row.begun.at + parts_atoms ds)
+      (parts_numbered row.begun.at ds) (pattern row.walk.tree [] row.walk.names ds)) same
+      (subst (λ k. AreTabled row.walk.tree row.walk.back (IsLive row.begun.starts) now.table k
+      (parts_numbered row.begun.at (part_trees row.parts)) (pattern row.walk.tree [] row.walk.names (part_trees row.parts)))
+      (let l = atoms_end row.parts i end in omega (arith, l, had.count))
+      (tells_end row now (subst (λ ds. TellsAll row ds now) (drop_all row.parts i end) had.tells)))
 
-  pub ends_all : begun ≡ true → met ≡ false → IsNever (IsStep tree back false) (IsLive live) (pattern tree [] e cs)
-  ends_all b m = subst (λ ds. IsNever (IsStep tree back false) (IsLive live) (pattern tree [] e ds)) same (had.ends b m)
+  pub ends_all : row.begun.met ≡ true → now.met ≡ false → NeverSpelled row.walk row.begun.starts cs
+  ends_all b m = subst (NeverSpelled row.walk row.begun.starts) same (had.ends b m)
 
-  pub filled_all : IsFilledIn old table first (first + parts_atoms cs)
-  filled_all = subst (IsFilledIn old table first) (let l = atoms_end xs i end in let s = ap parts_atoms same in omega (arith, l, s, had.count)) had.filled
+  pub at_all : now.at ≡ row.begun.at + parts_atoms cs
+  at_all = let l = atoms_end row.parts i end in let s = ap parts_atoms same in omega (arith, l, s, had.count)
 
-  pub at_all : at ≡ first + parts_atoms cs
-  at_all = let l = atoms_end xs i end in let s = ap parts_atoms same in omega (arith, l, s, had.count)
+  pub filled_all : IsFilledIn row.begun.table now.table row.begun.at (row.begun.at + parts_atoms cs)
+  filled_all = subst (IsFilledIn row.begun.table now.table row.begun.at) at_all had.filled
 
 pub still_clear : {L : Type 0} {own : _} (old table : AtomTable L own) (first at : ℕ) → first ≤ at → AreClearFrom old first → IsFilledIn old table first at → AreClearFrom table at
 still_clear old table first at beyond clear filled a n h = filled.after a n h ∙ clear a n (omega (arith, h, beyond))
 
 -- the next part is flat, and has room too
-pub part_room : {L : Type 0} {own : _} (tree : SearchedTree) (back : Bool) (e : Names) (first : ℕ) (xs : List Constituent) (i : ℕ) (c : Constituent) (at count : ℕ) (live starts : List Bool)
-    (begun met : Bool)
-    (old table : AtomTable L own) (cs : PartTrees) → TableSoFar tree back e first xs i at live starts begun met old table
-    → i < length xs → c ≡ get_or xs i c → part_trees xs ≡ cs → HasRoom count first (first + parts_atoms cs) old → HasRoom count at (at + body_atoms (body_tree c.body)) table
-part_room tree back e first xs i c at count live starts begun met old table cs had below is same room =
-    let l = atoms_left xs i c below is in let s = ap parts_atoms same in
+pub part_room : {L : Type 0} {own : _} (row : Row (AtomTable L own)) (part : ItemOf row.parts) (now : Stage (AtomTable L own)) (count : ℕ) (cs : PartTrees)
+    → TableSoFar row part.index now → part_trees row.parts ≡ cs → HasRoom count row.begun.at (row.begun.at + parts_atoms cs) row.begun.table
+    → HasRoom count now.at (now.at + body_atoms (body_tree part.item.body)) now.table
+part_room row part now count cs had same room =
+    let l = atoms_left row.parts part.index part.item part.below part.is in let s = ap parts_atoms same in
     record {
       few = omega (arith, l, s, had.count, room.few);
       atoms = omega (arith, l, s, had.count, room.atoms, had.filled.atoms);
       nodes = had.filled.nodes ∙ room.nodes;
-      clear = still_clear old table first at had.beyond room.clear had.filled;
+      clear = still_clear row.begun.table now.table row.begun.at now.at had.beyond room.clear had.filled;
     }
 
 -- one atom
@@ -248,10 +296,12 @@ pub not_some : (met some : Bool) → met ≡ true → (met && some) ≡ false �
 not_some true some e f = f
 not_some false some e f = cc
 
-pub leads_form : {L : Type 0} {own : _} (tree : SearchedTree) (back : Bool) (e : Names) (old new : List Bool) (table : AtomTable L own) (first : ℕ) (b : BodyTree) (f : FilterTree) → b ≡ atom f
-    → LeadsOn tree back old new table (first + 1) (one first) (one (value tree [] e f)) → LeadsOn tree back old new table (first + body_atoms b) (body_numbered first b) (body_pattern tree [] e b)
+pub leads_form : {L : Type 0} {own : _} (walk : Walk) (old new : List Bool) (table : AtomTable L own) (first : ℕ) (b : BodyTree) (f : FilterTree) → b ≡ atom f
+    → LeadsOn walk.tree walk.back old new table (first + 1) (one first) (one (value walk.tree [] walk.names f))
+    → LeadsOn walk.tree walk.back old new table (first + body_atoms b) (body_numbered first b) (body_pattern walk.tree [] walk.names b)
 unfolding value
-leads_form tree back e old new table first b f is h = subst (λ x. LeadsOn tree back old new table (first + body_atoms x) (body_numbered first x) (body_pattern tree [] e x)) (sym is) h
+leads_form walk old new table first b f is h =
+    subst (λ x. LeadsOn walk.tree walk.back old new table (first + body_atoms x) (body_numbered first x) (body_pattern walk.tree [] walk.names x)) (sym is) h
 
 pub ends_form : (tree : SearchedTree) (back : Bool) (e : Names) (live : List Bool) (b : BodyTree) (f : FilterTree) → b ≡ atom f
     → EndsHere tree back live (one (value tree [] e f)) → EndsHere tree back live (body_pattern tree [] e b)

@@ -26,7 +26,7 @@ use Rattle.cql_lines.specs.Values.{AnswerAt}
 use Rattle.cql_lines.specs.declared.shape.Limits.{Limits}
 use Rattle.cql_lines.specs.declared.shape.Spot.{Spot}
 use Rattle.cql_lines.specs.declared.table.AtomTable.{AtomTable}
-use Rattle.cql_syntax.specs.Meaning.{Names, value, pattern, line_of, line_value}
+use Rattle.cql_syntax.specs.Meaning.{Names, value, pattern, line_value}
 use Rattle.cql_syntax.specs.Places.{parts_places}
 use Rattle.cql_syntax.specs.TabledLines.{Searched, IsAsked, AreSpelledAlike, AreParents}
 use Rattle.cql_syntax.specs.TreeOf.{body_tree, part_trees, parts_tree, line_tree}
@@ -38,6 +38,7 @@ use Rattle.cql_syntax.specs.declared.tree.Constituent.{Constituent}
 use Rattle.cql_syntax.specs.declared.tree.Line.{Line as OneLine, Line', out-Line}
 use Rattle.cql_columns.specs.Columns.{is_live, shown, IsPart}
 use Rattle.cql_columns.specs.Costs.{filter_cost, line_cost, parts_atoms, parts_cost, body_cost, searched_len}
+use Rattle.cql_columns.proofs.Costing.{ItemOf}
 use Rattle.cql_columns.specs.FlatTrees.{unflat, IsFlatLine, AreFlatParts}
 use Rattle.cql_columns.specs.declared.filter_column.FilterColumn.{FilterColumn}
 use Rattle.cql_operators.specs.LineAtoms.{parts_numbered, limits_in, spot_at, AreClearFrom}
@@ -118,37 +119,24 @@ answer_there : (b : Bool) (P : ℕ → Type 0) (o : Option ℕ) → b ≡ true �
 answer_there true P o e h = h
 answer_there false P o e h = cc
 
-greatest_is : {L : Type 0} {own : _} (tree : SearchedTree) → IsTree tree.game.nodes
-    → (back primary : Bool) (extent : Extent) (table : AtomTable L own) (p : Pattern ℕ) (r : Pattern (ℕ → Value))
-    → (n : ℕ) → IsAsked tree n → AreSpelledAlike tree back primary (holds_in table) p r n → (o : Option ℕ)
-    → IsGreatest (λ len. Line (holds_in table) (Edge back primary (spots_in tree)) p n len × (values.allows (limits_in extent) len ≡ true)) o
-    → as_number (option_map pos o) ≡ line_of tree back primary extent r n
-greatest_is tree is_tree true primary Any table p r n asked alike o g = spelled_lines_are_theirs tree is_tree true primary
-    (shapes.joined primary (spots_in tree)) (spots_join tree primary is_tree) Any (holds_in table) p r n asked alike o g
-greatest_is tree is_tree false primary Any table p r n asked alike o g = spelled_lines_are_theirs tree is_tree false primary
-    (shapes.joined primary (spots_in tree)) (spots_join tree primary is_tree) Any (holds_in table) p r n asked alike o g
-greatest_is tree is_tree true primary (Within least most) table p r n asked alike o g = spelled_lines_are_theirs tree is_tree true primary
-    (shapes.joined primary (spots_in tree)) (spots_join tree primary is_tree) (Within least most) (holds_in table) p r n asked alike o g
-greatest_is tree is_tree false primary (Within least most) table p r n asked alike o g = spelled_lines_are_theirs tree is_tree false primary
-    (shapes.joined primary (spots_in tree)) (spots_join tree primary is_tree) (Within least most) (holds_in table) p r n asked alike o g
+abbrev Wanted : (ℕ → ℕ → Bool) → Pattern ℕ → ℕ → Option ℕ → List Spot → Bool → Bool → Option Limits → Type 0
+Wanted test p n o xs x y z = IsGreatest (λ len. Line test (Edge x y xs) p n len × (values.allows z len ≡ true)) o
 
-abbrev Wanted : {L : Type 0} {own : _} → AtomTable L own → Pattern ℕ → ℕ → Option ℕ → List Spot → Bool → Bool → Option Limits → Type 0
-Wanted table p n o xs x y z = IsGreatest (λ len. Line (holds_in table) (Edge x y xs) p n len × (values.allows z len ≡ true)) o
+-- a pattern's numbers spell at a node what the parts of a line spell there
+abbrev pub SpellsLine : SearchedTree → Names → OneLine → (ℕ → ℕ → Bool) → Pattern ℕ → ℕ → Type 0
+SpellsLine tree e l test p n = AreSpelledAlike tree (out-Line l).back (out-Line l).primary test p (pattern tree [] e (parts_tree (out-Line l).parts)) n
 
--- the value at a searched node, by the parts of the shape that was made of the game
-pub line_value_is : {L : Type 0} {own : _} (tree : SearchedTree) → IsTree tree.game.nodes
-    → (back primary : Bool) (extent : Extent) (spots : List Spot) (b q : Bool) (l : Option Limits)
-    → spots ≡ map (spot_at tree) (numbers tree.game.nodes) → b ≡ back → q ≡ primary → l ≡ limits_in extent
-    → (table : AtomTable L own) (p : Pattern ℕ) (r : Pattern (ℕ → Value)) → (n : ℕ) → IsAsked tree n → AreSpelledAlike tree back primary (holds_in table) p r n → (o : Option ℕ)
-    → AnswerAt (shapes.is_searched spots n) (λ len. Line (holds_in table) (Edge b q spots) p n len × (values.allows l len ≡ true)) o
-    → as_number (option_map pos o) ≡ line_of tree back primary extent r n
-line_value_is tree is_tree back primary extent spots b q l are is_back is_primary is_limits table p r n asked alike o answer =
-    greatest_is tree is_tree back primary extent table p r n asked alike o
-    (subst (λ x. Wanted table p n o (spots_in tree) back primary x) is_limits
-    (subst (λ x. Wanted table p n o (spots_in tree) back x l) is_primary
-    (subst (λ x. Wanted table p n o (spots_in tree) x q l) is_back (subst (λ x. Wanted table p n o x b q l) are
-    (answer_there (shapes.is_searched spots n) (λ len. Line (holds_in table) (Edge b q spots) p n len × (values.allows l len ≡ true)) o
-    (ap (λ xs. shapes.is_searched xs n) are ∙ ap shapes.searched_by (spot_there tree (length tree.game.nodes) n asked.1) ∙ asked.0) answer)))))
+greatest_is : (tree : SearchedTree) → IsTree tree.game.nodes → (e : Names) (l : OneLine) (test : ℕ → ℕ → Bool) (p : Pattern ℕ) (n : ℕ) → IsAsked tree n → SpellsLine tree e l test p n
+    → (o : Option ℕ) → Wanted test p n o (spots_in tree) (out-Line l).back (out-Line l).primary (limits_in (out-Line l).extent) → as_number (option_map pos o) ≡ line_value tree [] e (line_tree l) n
+unfolding value out-Line Carrier.out
+greatest_is tree is_tree e (Line' true primary Any cs) test p n asked alike o g = spelled_lines_are_theirs tree is_tree true primary
+    (shapes.joined primary (spots_in tree)) (spots_join tree primary is_tree) Any test p (pattern tree [] e (parts_tree cs)) n asked alike o g
+greatest_is tree is_tree e (Line' false primary Any cs) test p n asked alike o g = spelled_lines_are_theirs tree is_tree false primary
+    (shapes.joined primary (spots_in tree)) (spots_join tree primary is_tree) Any test p (pattern tree [] e (parts_tree cs)) n asked alike o g
+greatest_is tree is_tree e (Line' true primary (Within least most) cs) test p n asked alike o g = spelled_lines_are_theirs tree is_tree true primary
+    (shapes.joined primary (spots_in tree)) (spots_join tree primary is_tree) (Within least most) test p (pattern tree [] e (parts_tree cs)) n asked alike o g
+greatest_is tree is_tree e (Line' false primary (Within least most) cs) test p n asked alike o g = spelled_lines_are_theirs tree is_tree false primary
+    (shapes.joined primary (spots_in tree)) (spots_join tree primary is_tree) (Within least most) test p (pattern tree [] e (parts_tree cs)) n asked alike o g
 
 -- the steps of a line
 
@@ -170,15 +158,16 @@ drop_costs : (nodes : ℕ) (xs : List Constituent) (i : ℕ) (c : Constituent) �
 unfolding filter_cost
 drop_costs nodes xs i c below is = ap (parts_cost nodes) (drop_parts xs i c below is)
 
-pub parts_cost_more : (nodes : ℕ) (xs : List Constituent) (i : ℕ) (c : Constituent) (before now later : ℕ) → i < length xs → c ≡ get_or xs i c
-    → now + parts_cost nodes (part_trees (drop i xs)) ≤ before + parts_cost nodes (part_trees xs) → later ≤ now + body_cost nodes (body_tree c.body)
-    → later + parts_cost nodes (part_trees (drop (i + 1) xs)) ≤ before + parts_cost nodes (part_trees xs)
-parts_cost_more nodes xs i c before now later below is had new = omega (arith, drop_costs nodes xs i c below is, had, new)
+pub parts_cost_more : (nodes : ℕ) (xs : List Constituent) (part : ItemOf xs) (before now later : ℕ)
+    → now + parts_cost nodes (part_trees (drop part.index xs)) ≤ before + parts_cost nodes (part_trees xs) → later ≤ now + body_cost nodes (body_tree part.item.body)
+    → later + parts_cost nodes (part_trees (drop (part.index + 1) xs)) ≤ before + parts_cost nodes (part_trees xs)
+parts_cost_more nodes xs part before now later had new = omega (arith, drop_costs nodes xs part.index part.item part.below part.is, had, new)
 
-pub parts_cost_within : (nodes : ℕ) (xs : List Constituent) (i : ℕ) (c : Constituent) (before now later : ℕ) (cs : PartTrees) → i < length xs → c ≡ get_or xs i c
-    → now + parts_cost nodes (part_trees (drop i xs)) ≤ before + parts_cost nodes (part_trees xs) → later ≤ now + body_cost nodes (body_tree c.body) → part_trees xs ≡ cs
+pub parts_cost_within : (nodes : ℕ) (xs : List Constituent) (part : ItemOf xs) (before now later : ℕ) (cs : PartTrees)
+    → now + parts_cost nodes (part_trees (drop part.index xs)) ≤ before + parts_cost nodes (part_trees xs) → later ≤ now + body_cost nodes (body_tree part.item.body) → part_trees xs ≡ cs
     → later ≤ before + parts_cost nodes cs
-parts_cost_within nodes xs i c before now later cs below is had new same = omega (arith, drop_costs nodes xs i c below is, had, new, ap (parts_cost nodes) same)
+parts_cost_within nodes xs part before now later cs had new same =
+    omega (arith, drop_costs nodes xs part.index part.item part.below part.is, had, new, ap (parts_cost nodes) same)
 
 -- a line as its fields
 
@@ -212,21 +201,44 @@ same_words d zero (suc m) = refl
 same_words d (suc j) zero = refl
 same_words d (suc j) (suc m) = same_words d j m
 
-pub numbers_are : {L : Type 0} {own : _} (tree : SearchedTree) → IsTree tree.game.nodes
-    → (e : Names) (l : OneLine) (spots : List Spot) (b q : Bool) (limits : Option Limits) → spots ≡ map (spot_at tree) (numbers tree.game.nodes)
-    → b ≡ (out-Line l).back → q ≡ (out-Line l).primary → limits ≡ limits_in (out-Line l).extent → (table : AtomTable L own) (p : Pattern ℕ) → p ≡ parts_numbered 0 (parts_tree (out-Line l).parts)
+-- the parts of the shape that was made of a game for a line
+pub record ShapeOf (tree : SearchedTree) (l : OneLine) : Type 0 where
+  pub spots : List Spot
+  pub back : Bool
+  pub primary : Bool
+  pub limits : Option Limits
+  pub spots_are : spots ≡ map (spot_at tree) (numbers tree.game.nodes)
+  pub back_is : back ≡ (out-Line l).back
+  pub primary_is : primary ≡ (out-Line l).primary
+  pub limits_are : limits ≡ limits_in (out-Line l).extent
+
+-- the parts of a line stand in a table, and a pattern has their numbers
+pub line_spelled : {L : Type 0} {own : _} (tree : SearchedTree) (e : Names) (l : OneLine) (table : AtomTable L own) (p : Pattern ℕ) → p ≡ parts_numbered 0 (parts_tree (out-Line l).parts)
     → AreTabled tree (out-Line l).back (IsAsked tree) table (0 + parts_atoms (parts_tree (out-Line l).parts))
     (parts_numbered 0 (parts_tree (out-Line l).parts)) (pattern tree [] e (parts_tree (out-Line l).parts))
-    → (wide : List (Option ℤ)) (found : List (Option ℕ)) → wide ≡ map (option_map pos) found → (n : ℕ) → IsAsked tree n
-    → AnswerAt (shapes.is_searched spots n) (λ len. Line (holds_in table) (Edge b q spots) p n len × (values.allows limits len ≡ true)) (get_or found n None)
-    → as_number (get_or wide n None) ≡ line_value tree [] e (line_tree l) n
-unfolding value out-Line Carrier.out
-numbers_are tree is_tree e (Line' back primary extent cs) spots b q limits are is_back is_primary is_limits table p is tabled wide found is_wide n asked answer =
-    ap as_number (ap (λ xs. get_or xs n None) is_wide ∙ get_or-map (option_map pos) found n None)
-    ∙ line_value_is tree is_tree back primary extent spots b q limits are is_back is_primary is_limits table p (pattern tree [] e (parts_tree cs))
-    n asked (alike_on tree back primary (holds_in table) p (pattern tree [] e (parts_tree cs))
-    (subst (λ x. AreAlike (IsStep tree back false) (IsAsked tree) (holds_in table) x (pattern tree [] e (parts_tree cs))) (sym is) (tabled (holds_in table) (λ a m h. refl))) n asked)
-    (get_or found n None) answer
+    → (n : ℕ) → IsAsked tree n → SpellsLine tree e l (holds_in table) p n
+line_spelled tree e l table p is tabled n asked =
+    alike_on tree (out-Line l).back (out-Line l).primary (holds_in table) p (pattern tree [] e (parts_tree (out-Line l).parts))
+    (subst (λ x. AreAlike (IsStep tree (out-Line l).back false) (IsAsked tree) (holds_in table) x (pattern tree [] e (parts_tree (out-Line l).parts))) (sym is)
+    (tabled (holds_in table) (λ a m h. refl))) n asked
+
+-- a number of another type at a node
+pub wide_at : (wide : List (Option ℤ)) (found : List (Option ℕ)) → wide ≡ map (option_map pos) found → (n : ℕ) → as_number (get_or wide n None) ≡ as_number (option_map pos (get_or found n None))
+wide_at wide found is n = ap as_number (ap (λ xs. get_or xs n None) is ∙ get_or-map (option_map pos) found n None)
+
+-- the value at a searched node, by the shape that was made of the game
+pub numbers_are : (tree : SearchedTree) → IsTree tree.game.nodes → (e : Names) (l : OneLine) (shape : ShapeOf tree l) (test : ℕ → ℕ → Bool) (p : Pattern ℕ) (n : ℕ)
+    → IsAsked tree n → SpellsLine tree e l test p n → (o : Option ℕ)
+    → AnswerAt (shapes.is_searched shape.spots n) (λ len. Line test (Edge shape.back shape.primary shape.spots) p n len × (values.allows shape.limits len ≡ true)) o
+    → as_number (option_map pos o) ≡ line_value tree [] e (line_tree l) n
+numbers_are tree is_tree e l shape test p n asked alike o answer =
+    greatest_is tree is_tree e l test p n asked alike o
+    (subst (λ x. Wanted test p n o (spots_in tree) (out-Line l).back (out-Line l).primary x) shape.limits_are
+    (subst (λ x. Wanted test p n o (spots_in tree) (out-Line l).back x shape.limits) shape.primary_is
+    (subst (λ x. Wanted test p n o (spots_in tree) x shape.primary shape.limits) shape.back_is
+    (subst (λ x. Wanted test p n o x shape.back shape.primary shape.limits) shape.spots_are
+    (answer_there (shapes.is_searched shape.spots n) (λ len. Line test (Edge shape.back shape.primary shape.spots) p n len × (values.allows shape.limits len ≡ true)) o
+    (ap (λ xs. shapes.is_searched xs n) shape.spots_are ∙ ap shapes.searched_by (spot_there tree (length tree.game.nodes) n asked.1) ∙ asked.0) answer)))))
 
 nothing_at : (xs : List (Option ℤ)) (n : ℕ) → xs ≡ [] → get_or xs n None ≡ None
 nothing_at [] zero is = refl
@@ -234,11 +246,10 @@ nothing_at [] (suc n) is = refl
 nothing_at (x ∷ xs) n is = cc
 
 -- an atom that is put where its column holds
-pub held_put : {L : Type 0} {own : _} (tree : SearchedTree) (live : List Bool) (c : FilterColumn) (held shown_held : List Bool) (which count : ℕ) (table : AtomTable L own)
-    → IsPart tree live c true held
-    → shown_held ≡ held → ((n : ℕ) → n < count → holds_in table which n ≡ is_live shown_held n) → (n : ℕ) → n < count
-    → holds_in table which n ≡ (is_live live n && value_holds (shown c n))
-held_put tree live c held shown_held which count table part same put n h = put n h ∙ ap (λ l. is_live l n) same ∙ part.narrowed.each n
+pub held_put : (tree : SearchedTree) (live : List Bool) (c : FilterColumn) (held shown_held : List Bool) (test : ℕ → Bool) (count : ℕ)
+    → IsPart tree live c true held → shown_held ≡ held → ((n : ℕ) → n < count → test n ≡ is_live shown_held n) → (n : ℕ) → n < count
+    → test n ≡ (is_live live n && value_holds (shown c n))
+held_put tree live c held shown_held test count part same put n h = put n h ∙ ap (λ l. is_live l n) same ∙ part.narrowed.each n
 
 -- where a line's pattern is never spelled it has no number
 pub no_line : (tree : SearchedTree) → IsTree tree.game.nodes → (e : Names) (l : OneLine) (wide : List (Option ℤ)) → wide ≡ []

@@ -36,10 +36,9 @@ module _ (nodes : List Node) (tree : IsTree nodes) (set : List Bool) (end k : �
   up None m is s b other = absurd (let e : true ≡ false = sym b ∙ root_below nodes m k tree is other in cc)
   up (Some p) m is s b other = had.from p (parent_before nodes k p tree is).0 (m, s, sym (below_parent nodes m k p tree is other) ∙ b)
 
-  pub lowered_next : (later : List Bool) (x : Bool) → k < end → later ≡ slice_set found k x → x ≡ (get_or set k false || flag_of found (node_at nodes k).parent)
-      → LoweredTo nodes set end (k + 1) later
-  lowered_next later x low is new = record {
-    count = ap length is ∙ length-set found k x ∙ had.count;
+  lowered_next : (x : Bool) → k < end → x ≡ (get_or set k false || flag_of found (node_at nodes k).parent) → LoweredTo nodes set end (k + 1) (slice_set found k x)
+  lowered_next x low new = record {
+    count = length-set found k x ∙ had.count;
     to = λ n h e. ⊎_elim
         (λ less. had.to n less (sym (before n less) ∙ e))
         (λ same. subst (IsUnder nodes set) (sym same) (⊎_elim
@@ -57,16 +56,16 @@ module _ (nodes : List Node) (tree : IsTree nodes) (set : List Bool) (end k : �
         (split_last n k h);
   }
     where
-      before : (n : ℕ) → n < k → get_or later n false ≡ get_or found n false
-      before n less = ap (λ l. get_or l n false) is ∙ get_or-set_other found k n x false (λ e. omega (arith, less, e))
+      before : (n : ℕ) → n < k → get_or (slice_set found k x) n false ≡ get_or found n false
+      before n less = get_or-set_other found k n x false (λ e. omega (arith, less, e))
 
-      here : (n : ℕ) → n ≡ k → get_or later n false ≡ x
-      here n same = ap (λ l. get_or l n false) is ∙ ap (λ i. get_or (slice_set found k x) i false) same ∙ get_or-set_same found k x false (omega (arith, low, had.count))
+      here : (n : ℕ) → n ≡ k → get_or (slice_set found k x) n false ≡ x
+      here n same = ap (λ i. get_or (slice_set found k x) i false) same ∙ get_or-set_same found k x false (omega (arith, low, had.count))
 
-pub lowered_more : (nodes : List Node) (tree : IsTree nodes) (set : List Bool) (end k : ℕ) (found given later : List Bool) (x : Bool) → given ≡ found → k < end → later ≡ slice_set found k x
-    → x ≡ (get_or set k false || flag_of given (node_at nodes k).parent) → LoweredTo nodes set end k found → LoweredTo nodes set end (k + 1) later
-lowered_more nodes tree set end k found given later x same low is new had =
-    lowered_next nodes tree set end k found had later x low is (new ∙ ap (λ f. get_or set k false || flag_of f (node_at nodes k).parent) same)
+pub lowered_more : (nodes : List Node) (tree : IsTree nodes) (set : List Bool) (end k : ℕ) (found given : List Bool) (x : Bool) → given ≡ found → k < end
+    → x ≡ (get_or set k false || flag_of given (node_at nodes k).parent) → LoweredTo nodes set end k found → LoweredTo nodes set end (k + 1) (slice_set found k x)
+lowered_more nodes tree set end k found given x same low new had =
+    lowered_next nodes tree set end k found had x low (new ∙ ap (λ f. get_or set k false || flag_of f (node_at nodes k).parent) same)
 
 pub lowered_all : (nodes : List Node) (set found : List Bool) (k : ℕ) → k ≡ length nodes → LoweredTo nodes set (length nodes) k found → AreLowered nodes set found
 lowered_all nodes set found k end had = record {

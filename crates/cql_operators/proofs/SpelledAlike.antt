@@ -177,45 +177,76 @@ module _ (tree : SearchedTree) (is_tree : IsTree tree.game.nodes) where
   pub below_reached : (live wide : List Bool) → IsBelowLive tree live wide → AreReached tree false live wide
   below_reached live wide is = record { asked = is.asked; covers = λ n m l leads. is.covers n m l leads.1.1 leads.0 leads.1.0 }
 
-  -- one part
+-- one part
 
-  module _ {L : Type 0} {own : _} (back : Bool) (old wide : List Bool) (asked : AreAsked tree old) (reached : AreReached tree back old wide) (table : AtomTable L own) (past : ℕ) (p : Pattern ℕ)
-      (r : Pattern (ℕ → Value)) where
-    in_wide : (n : ℕ) → ReachedFrom tree back (IsLive old) n → IsLive wide n
-    in_wide n from = reached.covers from.0 n from.1 from.2
+-- the nodes at which a part may begin, and those on ways from there
+pub record Reach (tree : SearchedTree) (back : Bool) : Type 0 where
+  pub old : List Bool
+  pub wide : List Bool
+  pub asked : AreAsked tree old
+  pub reached : AreReached tree back old wide
 
-    -- a part that is asked for at all nodes on ways from where it may begin, repeated or not
-    pub wide_leads : (m : Mark) → AreTabled tree back (IsLive wide) table past p r → LeadsOn tree back old wide table past (marked m p) (marked m r)
-    wide_leads m tabled = record {
-      asked = reached.asked;
-      alike = λ test same q s g. joined_alike (IsStep tree back false) (IsLive old) (ReachedFrom tree back (IsLive old)) (reached_own back old asked)
-          (reached_on back old) test (marked m p) q (marked m r) s
-          (alike_wider (IsStep tree back false) (IsLive old) (ReachedFrom tree back (IsLive old)) (reached_own back old asked) test (marked m p) (marked m r)
-          (marked_alike (IsStep tree back false) (ReachedFrom tree back (IsLive old)) (reached_on back old) test m p r
-          (alike_wider (IsStep tree back false) (ReachedFrom tree back (IsLive old)) (IsLive wide) in_wide test p r (tabled test same))))
-          (alike_wider (IsStep tree back false) (ReachedFrom tree back (IsLive old)) (IsLive wide) in_wide test q s g);
-      never = λ s g. never_after (IsStep tree back false) (IsLive old) (ReachedFrom tree back (IsLive old)) (reached_own back old asked) (reached_on back old) (marked m r) s
-          (never_wider (IsStep tree back false) (ReachedFrom tree back (IsLive old)) (IsLive wide) in_wide s g);
-    }
+-- the same, where the first are given by others that are equal to them
+abbrev pub reach_from : (tree : SearchedTree) (back : Bool) (old given wide : List Bool) → given ≡ old → AreAsked tree old → AreReached tree back given wide → Reach tree back
+reach_from tree back old given wide is asked reached = record { old = old; wide = wide; asked = asked; reached = subst (λ l. AreReached tree back l wide) is reached }
 
-    -- it is needed, and isn't spelled
-    pub wide_ends : (m : Mark) → is_needed m ≡ true → IsNever (IsStep tree back false) (IsLive wide) r → EndsHere tree back old (marked m r)
-    wide_ends m e f s = never_before (IsStep tree back false) (IsLive old) (marked m r) s
-        (marked_never (IsStep tree back false) (IsLive old) m r e
-        (never_wider (IsStep tree back false) (IsLive old) (IsLive wide) (λ n l. in_wide n (reached_own back old asked n l)) r f))
+-- a pattern of atoms in a table of a type, and what it stands for
+pub record InTable (T : Type 0) : Type 0 where
+  pub table : T
+  pub past : ℕ
+  pub numbered : Pattern ℕ
+  pub stands_for : Pattern (ℕ → Value)
 
-    -- a group that stands once
-    pub group_leads : AreTabled tree back (IsLive old) table past p r → LeadsOn tree back old wide table past p r
-    group_leads tabled = record {
-      asked = reached.asked;
-      alike = λ test same q s g. joined_alike (IsStep tree back false) (IsLive old) (ReachedFrom tree back (IsLive old)) (reached_own back old asked) (reached_on back old) test p q r s
-          (tabled test same) (alike_wider (IsStep tree back false) (ReachedFrom tree back (IsLive old)) (IsLive wide) in_wide test q s g);
-      never = λ s g. never_after (IsStep tree back false) (IsLive old) (ReachedFrom tree back (IsLive old)) (reached_own back old asked) (reached_on back old) r s
-          (never_wider (IsStep tree back false) (ReachedFrom tree back (IsLive old)) (IsLive wide) in_wide s g);
-    }
+module _ (tree : SearchedTree) (is_tree : IsTree tree.game.nodes) (back : Bool) (from : Reach tree back) where
+  in_wide : (n : ℕ) → ReachedFrom tree back (IsLive from.old) n → IsLive from.wide n
+  in_wide n x = from.reached.covers x.0 n x.1 x.2
 
-  pub group_ends : (back : Bool) (live : List Bool) (r : Pattern (ℕ → Value)) → IsNever (IsStep tree back false) (IsLive live) r → EndsHere tree back live r
-  group_ends back live r f s = never_before (IsStep tree back false) (IsLive live) r s f
+  begins : (n : ℕ) → IsLive from.old n → ReachedFrom tree back (IsLive from.old) n
+  begins n l = reached_own tree is_tree back from.old from.asked n l
+
+  goes_on : (n m : ℕ) → ReachedFrom tree back (IsLive from.old) n → IsStep tree back false n m → ReachedFrom tree back (IsLive from.old) m
+  goes_on n m x step = reached_on tree is_tree back from.old n m x step
+
+  -- a part that is asked for at all nodes on ways from where it may begin, repeated or not
+  pub wide_leads : {L : Type 0} {own : _} (shown : List Bool) → shown ≡ from.wide → (part : InTable (AtomTable L own)) (m : Mark)
+      → AreTabled tree back (IsLive shown) part.table part.past part.numbered part.stands_for
+      → LeadsOn tree back from.old from.wide part.table part.past (marked m part.numbered) (marked m part.stands_for)
+  wide_leads shown is part m tabled = record {
+    asked = from.reached.asked;
+    alike = λ test same q s g. joined_alike (IsStep tree back false) (IsLive from.old) (ReachedFrom tree back (IsLive from.old)) begins
+        goes_on test (marked m part.numbered) q (marked m part.stands_for) s
+        (alike_wider (IsStep tree back false) (IsLive from.old) (ReachedFrom tree back (IsLive from.old)) begins test (marked m part.numbered) (marked m part.stands_for)
+        (marked_alike (IsStep tree back false) (ReachedFrom tree back (IsLive from.old)) goes_on test m part.numbered part.stands_for
+        (alike_wider (IsStep tree back false) (ReachedFrom tree back (IsLive from.old)) (IsLive from.wide) in_wide test part.numbered part.stands_for
+        (subst (λ l. AreTabled tree back (IsLive l) part.table part.past part.numbered part.stands_for) is tabled test same))))
+        (alike_wider (IsStep tree back false) (ReachedFrom tree back (IsLive from.old)) (IsLive from.wide) in_wide test q s g);
+    never = λ s g. never_after (IsStep tree back false) (IsLive from.old) (ReachedFrom tree back (IsLive from.old)) begins goes_on (marked m part.stands_for) s
+        (never_wider (IsStep tree back false) (ReachedFrom tree back (IsLive from.old)) (IsLive from.wide) in_wide s g);
+  }
+
+  -- it is needed, and isn't spelled
+  pub wide_ends : (shown : List Bool) → shown ≡ from.wide → (r : Pattern (ℕ → Value)) (m : Mark) → is_needed m ≡ true
+      → IsNever (IsStep tree back false) (IsLive shown) r → EndsHere tree back from.old (marked m r)
+  wide_ends shown is r m e f s = never_before (IsStep tree back false) (IsLive from.old) (marked m r) s
+      (marked_never (IsStep tree back false) (IsLive from.old) m r e
+      (never_wider (IsStep tree back false) (IsLive from.old) (IsLive from.wide) (λ n l. in_wide n (begins n l)) r
+      (subst (λ l. IsNever (IsStep tree back false) (IsLive l) r) is f)))
+
+  -- a group that stands once
+  pub group_leads : {L : Type 0} {own : _} (shown : List Bool) → shown ≡ from.old → (part : InTable (AtomTable L own))
+      → AreTabled tree back (IsLive shown) part.table part.past part.numbered part.stands_for
+      → LeadsOn tree back from.old from.wide part.table part.past part.numbered part.stands_for
+  group_leads shown is part tabled = record {
+    asked = from.reached.asked;
+    alike = λ test same q s g. joined_alike (IsStep tree back false) (IsLive from.old) (ReachedFrom tree back (IsLive from.old)) begins goes_on test part.numbered q part.stands_for s
+        (subst (λ l. AreTabled tree back (IsLive l) part.table part.past part.numbered part.stands_for) is tabled test same)
+        (alike_wider (IsStep tree back false) (ReachedFrom tree back (IsLive from.old)) (IsLive from.wide) in_wide test q s g);
+    never = λ s g. never_after (IsStep tree back false) (IsLive from.old) (ReachedFrom tree back (IsLive from.old)) begins goes_on part.stands_for s
+        (never_wider (IsStep tree back false) (ReachedFrom tree back (IsLive from.old)) (IsLive from.wide) in_wide s g);
+  }
+
+pub group_ends : (tree : SearchedTree) (back : Bool) (live : List Bool) (r : Pattern (ℕ → Value)) → IsNever (IsStep tree back false) (IsLive live) r → EndsHere tree back live r
+group_ends tree back live r f s = never_before (IsStep tree back false) (IsLive live) r s f
 
 pub parents_onward : (tree : SearchedTree) (live next : List Bool) → AreParentsOfLive tree live next → AreOnward tree true live next
 parents_onward tree live next is = record { asked = is.asked; covers = λ n m l step. is.covers n m l step.parent }
@@ -255,29 +286,9 @@ all_never tree back all r every f = never_wider (IsStep tree back false) (IsAske
 
 -- the same, where sets are given by others that are equal to them
 
-pub wide_leads_at : {L : Type 0} {own : _} (tree : SearchedTree) → IsTree tree.game.nodes → (back : Bool) (old given wide shown : List Bool) → given ≡ old → shown ≡ wide → AreAsked tree old
-    → AreReached tree back given wide
-    → (table : AtomTable L own) (past : ℕ) (p : Pattern ℕ) (r : Pattern (ℕ → Value)) (m : Mark) → AreTabled tree back (IsLive shown) table past p r
-    → LeadsOn tree back old wide table past (marked m p) (marked m r)
-wide_leads_at tree is_tree back old given wide shown is same asked reached table past p r m tabled =
-    wide_leads tree is_tree back old wide asked (subst (λ l. AreReached tree back l wide) is reached) table past p r m (subst (λ l. AreTabled tree back (IsLive l) table past p r) same tabled)
-
-pub wide_ends_at : {L : Type 0} {own : _} (tree : SearchedTree) → IsTree tree.game.nodes → (back : Bool) (old given wide shown : List Bool) → given ≡ old → shown ≡ wide → AreAsked tree old
-    → AreReached tree back given wide
-    → (table : AtomTable L own) (past : ℕ) (p : Pattern ℕ) (r : Pattern (ℕ → Value)) (m : Mark) → is_needed m ≡ true → IsNever (IsStep tree back false) (IsLive shown) r → EndsHere tree back old
-    (marked m r)
-wide_ends_at tree is_tree back old given wide shown is same asked reached table past p r m needed never =
-    wide_ends tree is_tree back old wide asked (subst (λ l. AreReached tree back l wide) is reached) table past p r m needed (subst (λ l. IsNever (IsStep tree back false) (IsLive l) r) same never)
-
-pub group_leads_at : {L : Type 0} {own : _} (tree : SearchedTree) → IsTree tree.game.nodes → (back : Bool) (old given wide shown : List Bool) → given ≡ old → shown ≡ old → AreAsked tree old
-    → AreReached tree back given wide
-    → (table : AtomTable L own) (past : ℕ) (p : Pattern ℕ) (r : Pattern (ℕ → Value)) → AreTabled tree back (IsLive shown) table past p r → LeadsOn tree back old wide table past p r
-group_leads_at tree is_tree back old given wide shown is same asked reached table past p r tabled =
-    group_leads tree is_tree back old wide asked (subst (λ l. AreReached tree back l wide) is reached) table past p r (subst (λ l. AreTabled tree back (IsLive l) table past p r) same tabled)
-
-pub leads_at : {L : Type 0} {own : _} (tree : SearchedTree) (back : Bool) (old given new : List Bool) → given ≡ old → (table : AtomTable L own) (past : ℕ) (p : Pattern ℕ) (r : Pattern (ℕ → Value))
-    → LeadsOn tree back given new table past p r → LeadsOn tree back old new table past p r
-leads_at tree back old given new is table past p r h = subst (λ l. LeadsOn tree back l new table past p r) is h
+pub leads_at : {L : Type 0} {own : _} (tree : SearchedTree) (back : Bool) (old given new : List Bool) → given ≡ old → (part : InTable (AtomTable L own))
+    → LeadsOn tree back given new part.table part.past part.numbered part.stands_for → LeadsOn tree back old new part.table part.past part.numbered part.stands_for
+leads_at tree back old given new is part h = subst (λ l. LeadsOn tree back l new part.table part.past part.numbered part.stands_for) is h
 
 pub ends_at : (tree : SearchedTree) (back : Bool) (old given : List Bool) → given ≡ old → (r : Pattern (ℕ → Value)) → EndsHere tree back given r → EndsHere tree back old r
 ends_at tree back old given is r h = subst (λ l. EndsHere tree back l r) is h

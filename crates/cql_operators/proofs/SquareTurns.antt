@@ -13,7 +13,7 @@ use Rattle.cql_values.specs.Asked.{settles}
 use Rattle.cql_values.proofs.Evaluated.{by_settling}
 use Rattle.cql_values.proofs.Ranges.{any_last}
 use Rattle.cql_columns.specs.Asked.{AreUnsettled, AreHaving, AreLeftOpen}
-use Rattle.cql_columns.specs.Columns.{is_live, shown, AreAsked, IsColumn}
+use Rattle.cql_columns.specs.Columns.{is_live, shown, AreAsked, AreTruths, IsColumn}
 use Rattle.cql_columns.specs.declared.filter_column.FilterColumn.{FilterColumn}
 use Rattle.cql_columns.proofs.Filling.{both_left, live_below}
 
@@ -31,9 +31,9 @@ left_begun tree live test left asked is all = record {
 }
 
 -- one square more
-pub turn_law : (tree : SearchedTree) (every : Bool) (x : ℕ → Value) (v : ℕ → Value) (s : ℕ) (left given there later : List Bool) (c : FilterColumn)
+pub turn_law : (every : Bool) (x : ℕ → Value) (v : ℕ → Value) (s : ℕ) (left there later : List Bool) (c : FilterColumn)
     → AreHaving x s left there → IsColumn c there v → AreLeftOpen every (λ n. holds (shown c n)) left there later → AreUnsettled every x (λ n. holds (v n)) s left later
-turn_law tree every x v s left given there later c having column is = record {
+turn_law every x v s left there later c having column is = record {
   count = is.count;
   each = λ n. is.each n ∙ by (is_live left n) (has (x n) s) (is_live there n) (holds (shown c n)) (holds (v n)) (having.each n) (λ l. ap holds (column n l));
 }
@@ -86,9 +86,9 @@ square_more tree live every x asked k s left later same had is = record {
 
 pub square_end : (tree : SearchedTree) (live : List Bool) (every : Bool) (x : ℕ → Value) (asked : ℕ → ℕ → Bool) (k : ℕ) (left bs : List Bool) → k ≡ 64 → AreAsked tree live
     → LeftOf tree live (unsettled_by every x asked k) left → ((n : ℕ) → n < length left → get_or bs n false ≡ (if get_or left n false then every else not every))
-    → (n : ℕ) → is_live live n ≡ true → as_truth (get_or bs n false) ≡ square_of every (x n) (asked n)
+    → AreTruths bs live (λ n. square_of every (x n) (asked n))
 unfolding squares
-square_end tree live every x asked k left bs end whole had is n l =
+square_end tree live every x asked k left bs end whole had is = λ n l.
     let found = list_any (settles every (has (x n)) (asked n)) (range_with_len 0 64) in
     let inside = live_below live n l in
     ap as_truth (is n (omega (arith, inside, had.asked.count, whole.count))
@@ -98,13 +98,6 @@ square_end tree live every x asked k left bs end whole had is n l =
     turned : (f : Bool) → (if not f then every else not every) ≡ (if f then not every else every)
     turned true = refl
     turned false = refl
-
-pub turn_all : (tree : SearchedTree) (every : Bool) (x : ℕ → Value) (v : ℕ → Value) (s : ℕ) (left there g1 g3 g4 g5 later : List Bool)
-    (c : FilterColumn) → g1 ≡ left → g3 ≡ there → g4 ≡ left → g5 ≡ there
-    → AreHaving x s g1 there → IsColumn c g3 v → AreLeftOpen every (λ n. holds (shown c n)) g4 g5 later → AreUnsettled every x (λ n. holds (v n)) s left later
-turn_all tree every x v s left there g1 g3 g4 g5 later c e1 e3 e4 e5 having column is =
-    turn_law tree every x v s left there there later c (subst (λ l. AreHaving x s l there) e1 having) (subst (λ l. IsColumn c l v) e3 column)
-    (subst (λ l. AreLeftOpen every (λ n. holds (shown c n)) left l later) e5 (subst (λ l. AreLeftOpen every (λ n. holds (shown c n)) l g5 later) e4 is))
 
 pub turn_stop : (every : Bool) (x : ℕ → Value) (asked : ℕ → Bool) (s : ℕ) (left there g1 g2 : List Bool) → g1 ≡ left → g2 ≡ there → AreHaving x s g1 there → list_any (λ b. b) g2 ≡ false
     → AreUnsettled every x asked s left left

@@ -38,9 +38,9 @@ module _ (tree : SearchedTree) (is_tree : IsTree tree.game.nodes) (live : List B
       (had.covers n p (parent_before tree.game.nodes k p is_tree is).0 l (sym (below_parent tree.game.nodes n k p is_tree is away) ∙ b) (searched_up tree.variations tree.game.nodes k p is_tree is s)))
       (equal_or k n)
 
-  pub widened_next : (later : List Bool) (x : Bool) → k < end → later ≡ slice_set wide k x → x ≡ is_below_live tree live wide k → Widened tree live end (k + 1) later
-  widened_next later x low is new = record {
-    count = ap length is ∙ length-set wide k x ∙ had.count;
+  widened_next : (x : Bool) → k < end → x ≡ is_below_live tree live wide k → Widened tree live end (k + 1) (slice_set wide k x)
+  widened_next x low new = record {
+    count = length-set wide k x ∙ had.count;
     searched = λ n h e. ⊎_elim
         (λ less. had.searched n less (sym (before n less) ∙ e))
         (λ same. let s : x ≡ true = sym (here n same) ∙ e in
@@ -53,16 +53,16 @@ module _ (tree : SearchedTree) (is_tree : IsTree tree.game.nodes) (live : List B
         (split_last m k h);
   }
     where
-      before : (n : ℕ) → n < k → get_or later n false ≡ get_or wide n false
-      before n less = ap (λ l. get_or l n false) is ∙ get_or-set_other wide k n x false (λ e. omega (arith, less, e))
+      before : (n : ℕ) → n < k → get_or (slice_set wide k x) n false ≡ get_or wide n false
+      before n less = get_or-set_other wide k n x false (λ e. omega (arith, less, e))
 
-      here : (n : ℕ) → n ≡ k → get_or later n false ≡ x
-      here n same = ap (λ l. get_or l n false) is ∙ ap (λ i. get_or (slice_set wide k x) i false) same ∙ get_or-set_same wide k x false (omega (arith, low, had.count))
+      here : (n : ℕ) → n ≡ k → get_or (slice_set wide k x) n false ≡ x
+      here n same = ap (λ i. get_or (slice_set wide k x) i false) same ∙ get_or-set_same wide k x false (omega (arith, low, had.count))
 
-pub widened_more : (tree : SearchedTree) (is_tree : IsTree tree.game.nodes) (live : List Bool) (end k : ℕ) (wide later : List Bool) (x : Bool) (shown : List Bool) → shown ≡ wide → k < end
-    → later ≡ slice_set wide k x → x ≡ is_below_live tree live shown k → Widened tree live end k wide → Widened tree live end (k + 1) later
-widened_more tree is_tree live end k wide later x shown same low is new had =
-    widened_next tree is_tree live end k wide had later x low is (new ∙ ap (λ w. is_below_live tree live w k) same)
+pub widened_more : (tree : SearchedTree) (is_tree : IsTree tree.game.nodes) (live : List Bool) (end k : ℕ) (wide : List Bool) (x : Bool) (shown : List Bool) → shown ≡ wide → k < end
+    → x ≡ is_below_live tree live shown k → Widened tree live end k wide → Widened tree live end (k + 1) (slice_set wide k x)
+widened_more tree is_tree live end k wide x shown same low new had =
+    widened_next tree is_tree live end k wide had x low (new ∙ ap (λ w. is_below_live tree live w k) same)
 
 pub widened_all : (tree : SearchedTree) (live : List Bool) (k : ℕ) (wide : List Bool) → k ≡ length tree.game.nodes → Widened tree live (length tree.game.nodes) k wide → IsBelowLive tree live wide
 widened_all tree live k wide end had = record {

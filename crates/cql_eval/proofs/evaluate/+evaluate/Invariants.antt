@@ -9,7 +9,7 @@ use Rattle.cql_columns.specs.Costs.{filter_cost, filters_cost, terms_cost, parts
 use Rattle.cql_columns.specs.FlatTrees.{IsFlat, IsFlatBody}
 use Rattle.cql_operators.proofs.SquareTurns.{LeftOf, unsettled_by}
 use Rattle.cql_operators.specs.LineAtoms.{HasRoom}
-use Rattle.cql_operators.proofs.LineTables.{TableSoFar}
+use Rattle.cql_operators.proofs.LineTables.{TableSoFar, row_in, stage}
 use Rattle.cql_pruning.specs.Classes.{is_of, is_before, are_so, cost_of, IsLeft}
 use Rattle.cql_syntax.specs.declared.tree.Constituent.{Constituent}
 use Rattle.cql_syntax.specs.declared.tree.Filter.{Filter}
@@ -111,8 +111,8 @@ invariant-cover_some::cover_some-loop-part g l = record {
 
 abbrev pub invariant-lines::put_row-loop-part : goal.invariant-lines::put_row-loop-part
 invariant-lines::put_row-loop-part g l = record {
-  table : TableSoFar (tree_in l.way.scope.now) l.way.back l.way.scope.now.names.now l.first l.part-items l.part-index l.at l.live l.starts.items
-      l.fn.row.met l.row.met l.fn.row.table l.row.table;
+  table : TableSoFar (row_in l.way.scope.now l.way.back l.part-items (stage l.first l.live l.fn.row.met l.fn.row.table)) l.part-index
+      (stage l.at l.starts.items l.row.met l.row.table);
   asked : AreAsked (tree_in l.way.scope.now) l.starts.items;
   cost : l.steps + parts_cost (searched_len (tree_in l.way.scope.now)) (part_trees (drop l.part-index l.part-items))
       ≤ l.fn.steps + parts_cost (searched_len (tree_in l.way.scope.now)) (part_trees l.part-items);

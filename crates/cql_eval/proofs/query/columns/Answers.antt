@@ -30,8 +30,9 @@ loop-item-preserved g c = record {
       ∙ ap (λ rows. map (λ row. row.items) c.loop-item.keys.items ++ rows)
       (rows_same (searched_tree c.args.game.now c.args.query.now.variations) c.in_ok-all.all.items _ c.in_ok-all.ensures.nodes (search rules) (item_numbers (filter_tree c.item-item.result))))
       c.loop-item.invariant.keys;
-  most = cost_more (searched_len (searched_tree c.args.game.now c.args.query.now.variations)) c.as_slice-item-items.result.now c.loop-item.item-index c.item-item.result _ c.loop-item.steps
-      c.narrowed_by.new.steps c.loop-item-test.true c.item-item.is c.loop-item.invariant.most c.narrowed_by.ensures.cost;
+  most = cost_more (searched_len (searched_tree c.args.game.now c.args.query.now.variations)) c.as_slice-item-items.result.now
+      (record { index = c.loop-item.item-index; item = c.item-item.result; below = c.loop-item-test.true; is = c.item-item.is }) _ c.loop-item.steps
+      c.narrowed_by.new.steps c.loop-item.invariant.most c.narrowed_by.ensures.cost;
   least = omega (arith, c.loop-item.invariant.least, c.narrowed_by.ensures.rises);
 }
 
@@ -51,8 +52,9 @@ narrowed_by-requires-clause-flat g c =
 
 pub returns-in_err-left-2-clause-most : goal.returns-in_err-left-2-clause-most
 returns-in_err-left-2-clause-most g c =
-    cost_within (searched_len (searched_tree c.args.game.now c.args.query.now.variations)) c.as_slice-item-items.result.now c.loop-item.item-index c.item-item.result _ c.loop-item.steps
-    c.narrowed_by.new.steps (filters_tree c.args.query.now.items) c.loop-item-test.true c.item-item.is c.loop-item.invariant.most
+    cost_within (searched_len (searched_tree c.args.game.now c.args.query.now.variations)) c.as_slice-item-items.result.now
+    (record { index = c.loop-item.item-index; item = c.item-item.result; below = c.loop-item-test.true; is = c.item-item.is }) _ c.loop-item.steps
+    c.narrowed_by.new.steps (filters_tree c.args.query.now.items) c.loop-item.invariant.most
     c.narrowed_by.ensures.cost c.as_slice-item-items.ensures.tree
 
 pub returns-clause-hits : goal.returns-clause-hits

@@ -1,10 +1,7 @@
 use Rattle.cql_syntax.specs.Values.{any_of}
-use Rattle.cql_values.specs.Shown.{meant}
-use Rattle.cql_values.specs.declared.value.Value.TheVariants.{Truth}
-use Rattle.std.specs.Prelude.{false}
 use Rattle.cql_columns.specs.Columns.{all_shown}
-use Rattle.cql_columns.proofs.Filling.{FilledTo}
+use Rattle.cql_columns.proofs.Filling.{FilledTo, of_values}
 use Rattle.cql_operators.proofs.combine.any_values.Given as goal
 
 abbrev pub invariant-loop-n : goal.invariant-loop-n
-invariant-loop-n l = FilledTo meant (Truth false) l.live (λ n. any_of l.kind (all_shown l.columns n)) l.end l.n l.values.items
+invariant-loop-n l = FilledTo of_values l.live (λ n. any_of l.kind (all_shown l.columns n)) l.end l.n l.values.items

@@ -1,17 +1,17 @@
-use Rattle.std.proofs.Common.{◌∙◌, false, refl, ap}
+use Rattle.std.proofs.Common.{◌∙◌, ap}
 use Rattle.std.specs.Prelude.{◌&&◌}
 use Rattle.cql_syntax.specs.Values.{as_truth, holds}
 use Rattle.cql_columns.specs.Columns.{shown}
-use Rattle.cql_columns.proofs.Filling.{put_none, put_more, put_all}
+use Rattle.cql_columns.proofs.Filling.{put_none, put_more, put_all, of_truths}
 use Rattle.cql_operators.proofs.combine.held.Goals as goal
 
 pub loop-n-init : goal.loop-n-init
-loop-n-init c = put_none as_truth false c.args.live.now _ _ _ _ c.in_ok-truths.ensures c.end_of-end.ensures.none c.first_live-n.ensures.none
+loop-n-init c = put_none of_truths c.args.live.now _ _ _ _ c.in_ok-truths.ensures c.end_of-end.ensures.none c.first_live-n.ensures.none
 
 pub loop-n-preserved : goal.loop-n-preserved
 loop-n-preserved c =
-    put_more as_truth false c.args.live.now _ _ c.loop-n.n c.loop-n.truths.items _ c.holds_at.result c.loop-n-test.true refl
+    put_more of_truths c.args.live.now _ _ c.loop-n.n c.loop-n.truths.items c.holds_at.result c.loop-n-test.true
     (λ asked. ap as_truth (c.holds_at.ensures ∙ ap (λ b. b && holds (shown c.args.column.now c.loop-n.n)) asked)) c.loop-n.invariant
 
 pub returns : goal.returns
-returns c = put_all as_truth false c.args.live.now _ _ c.loop-n.n c.loop-n.truths.items c.loop-n-test.false c.loop-n.invariant
+returns c = put_all of_truths c.args.live.now _ _ c.loop-n.n c.loop-n.truths.items c.loop-n-test.false c.loop-n.invariant

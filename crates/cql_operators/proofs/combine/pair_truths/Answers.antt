@@ -1,15 +1,15 @@
-use Rattle.std.proofs.Common.{false, refl, ap}
+use Rattle.std.proofs.Common.{ap}
 use Rattle.cql_syntax.specs.Values.{as_truth}
-use Rattle.cql_columns.proofs.Filling.{put_none, put_more, put_all}
+use Rattle.cql_columns.proofs.Filling.{put_none, put_more, put_all, of_truths}
 use Rattle.cql_operators.proofs.combine.pair_truths.Goals as goal
 
 pub loop-n-init : goal.loop-n-init
-loop-n-init c = λ men. put_none as_truth false c.args.live.now _ _ _ _ c.in_ok-truths.ensures c.end_of-end.ensures.none c.first_live-n.ensures.none
+loop-n-init c = λ men. put_none of_truths c.args.live.now _ _ _ _ c.in_ok-truths.ensures c.end_of-end.ensures.none c.first_live-n.ensures.none
 
 pub loop-n-preserved : goal.loop-n-preserved
 loop-n-preserved c = λ men.
-    put_more as_truth false c.args.live.now _ _ c.loop-n.n c.loop-n.truths.items _ c.pair_truth.result c.loop-n-test.true refl
+    put_more of_truths c.args.live.now _ _ c.loop-n.n c.loop-n.truths.items c.pair_truth.result c.loop-n-test.true
     (λ asked. ap as_truth (c.pair_truth.ensures asked (men c.loop-n.n))) (c.loop-n.invariant men)
 
 pub returns : goal.returns
-returns c = λ men. put_all as_truth false c.args.live.now _ _ c.loop-n.n c.loop-n.truths.items c.loop-n-test.false (c.loop-n.invariant men)
+returns c = λ men. put_all of_truths c.args.live.now _ _ c.loop-n.n c.loop-n.truths.items c.loop-n-test.false (c.loop-n.invariant men)

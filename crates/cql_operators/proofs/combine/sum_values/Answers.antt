@@ -1,15 +1,12 @@
-use Rattle.std.proofs.Common.{false, refl}
-use Rattle.cql_values.specs.Shown.{meant}
-use Rattle.cql_values.specs.declared.value.Value.TheVariants.{Truth}
-use Rattle.cql_columns.proofs.Filling.{put_none, put_more, put_all}
+use Rattle.cql_columns.proofs.Filling.{put_none, put_more, put_all, of_values}
 use Rattle.cql_operators.proofs.combine.sum_values.Goals as goal
 
 pub loop-n-init : goal.loop-n-init
-loop-n-init c = put_none meant (Truth false) c.args.live.now _ _ _ _ c.in_ok-values.ensures c.end_of-end.ensures.none c.first_live-n.ensures.none
+loop-n-init c = put_none of_values c.args.live.now _ _ _ _ c.in_ok-values.ensures c.end_of-end.ensures.none c.first_live-n.ensures.none
 
 pub loop-n-preserved : goal.loop-n-preserved
 loop-n-preserved c =
-    put_more meant (Truth false) c.args.live.now _ _ c.loop-n.n c.loop-n.values.items _ c.in_ok-values-2.field-0 c.loop-n-test.true refl c.in_ok-values-2.ensures c.loop-n.invariant
+    put_more of_values c.args.live.now _ _ c.loop-n.n c.loop-n.values.items c.in_ok-values-2.field-0 c.loop-n-test.true c.in_ok-values-2.ensures c.loop-n.invariant
 
 pub returns : goal.returns
-returns c = put_all meant (Truth false) c.args.live.now _ _ c.loop-n.n c.loop-n.values.items c.loop-n-test.false c.loop-n.invariant
+returns c = put_all of_values c.args.live.now _ _ c.loop-n.n c.loop-n.values.items c.loop-n-test.false c.loop-n.invariant

@@ -1,4 +1,4 @@
-use Rattle.std.proofs.Common.{arith, refl}
+use Rattle.std.proofs.Common.{arith}
 use Rattle.cql_operators.proofs.ElsewhereLaw.{lowered_sets_next, lowered_sets_all}
 use Rattle.cql_operators.proofs.elsewhere.from_above.Goals as goal
 
@@ -11,8 +11,8 @@ loop-k-init c = record {
 
 pub loop-k-preserved : goal.loop-k-preserved
 loop-k-preserved c =
-    lowered_sets_next c.args.game.now.nodes c.args.there.now c.loop-k.back.items _ _ _ c.loop-k.k c.with_above.result c.requires.tree c.deref.ensures.value
-    (omega (arith, c.loop-k-test.true, c.len-k-end.ensures.len)) refl c.with_above.ensures c.loop-k.invariant
+    lowered_sets_next c.args.game.now.nodes c.args.there.now c.loop-k.back.items _ _ c.loop-k.k c.with_above.result c.requires.tree c.deref.ensures.value
+    (omega (arith, c.loop-k-test.true, c.len-k-end.ensures.len)) c.with_above.ensures c.loop-k.invariant
 
 pub returns : goal.returns
 returns c =

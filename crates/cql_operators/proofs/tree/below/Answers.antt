@@ -1,4 +1,4 @@
-use Rattle.std.proofs.Common.{arith, refl}
+use Rattle.std.proofs.Common.{arith}
 use Rattle.cql_columns.specs.Scopes.{tree_in}
 use Rattle.cql_operators.proofs.Widening.{widened_more, widened_all}
 use Rattle.cql_operators.proofs.tree.below.Goals as goal
@@ -13,7 +13,7 @@ loop-k-init c = record {
 pub loop-k-preserved : goal.loop-k-preserved
 loop-k-preserved c =
     widened_more (tree_in c.args.scope.now) c.requires.tree c.args.live.now _ c.loop-k.k c.loop-k.wide.items
-    _ c.is_wide.result _ c.deref.ensures.value (omega (arith, c.loop-k-test.true, c.len-k-end.ensures.len)) refl c.is_wide.ensures c.loop-k.invariant
+    c.is_wide.result _ c.deref.ensures.value (omega (arith, c.loop-k-test.true, c.len-k-end.ensures.len)) c.is_wide.ensures c.loop-k.invariant
 
 pub returns : goal.returns
 returns c =

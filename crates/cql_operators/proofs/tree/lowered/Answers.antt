@@ -1,4 +1,4 @@
-use Rattle.std.proofs.Common.{arith, refl}
+use Rattle.std.proofs.Common.{arith}
 use Rattle.cql_operators.proofs.Lowering.{lowered_more, lowered_all}
 use Rattle.cql_operators.proofs.tree.lowered.Goals as goal
 
@@ -11,8 +11,8 @@ loop-k-init c = record {
 
 pub loop-k-preserved : goal.loop-k-preserved
 loop-k-preserved c =
-    lowered_more c.args.game.now.nodes c.requires.tree c.args.set.now _ c.loop-k.k c.loop-k.found.items _ _
-    c.is_under.result c.deref.ensures.value (omega (arith, c.loop-k-test.true, c.len-k-end.ensures.len)) refl c.is_under.ensures c.loop-k.invariant
+    lowered_more c.args.game.now.nodes c.requires.tree c.args.set.now _ c.loop-k.k c.loop-k.found.items _
+    c.is_under.result c.deref.ensures.value (omega (arith, c.loop-k-test.true, c.len-k-end.ensures.len)) c.is_under.ensures c.loop-k.invariant
 
 pub returns : goal.returns
 returns c =

@@ -1,12 +1,12 @@
-use Rattle.std.proofs.Common.{arith, refl}
+use Rattle.std.proofs.Common.{arith}
 use Rattle.cql_columns.proofs.Filling.{put_asked, told_whole, told_live}
 use Rattle.cql_pruning.proofs.moved.moves_to.Goals as goal
 
 pub loop-n-preserved : goal.loop-n-preserved
 loop-n-preserved c =
-    put_asked c.args.live.now _ _ c.loop-n.n c.loop-n.truths.items _ _ c.is_moved_to.result
+    put_asked c.args.live.now _ _ c.loop-n.n c.loop-n.truths.items _ c.is_moved_to.result
     (omega (arith, c.loop-n-test.true, c.len-n-end.ensures.len, c.requires.asked.count)) (omega (arith, c.loop-n-test.true, c.len-n-end.ensures.len))
-    refl c.is_moved_to.ensures c.loop-n.invariant
+    c.is_moved_to.ensures c.loop-n.invariant
 
 pub returns : goal.returns
 returns c = told_live c.args.live.now _ c.loop-n.n c.loop-n.truths.items

@@ -212,11 +212,13 @@ chains::columns_of-loop-filter-init g t c = record {
 
 pub chains::columns_of-loop-filter-preserved : goal.chains::columns_of-loop-filter-preserved
 chains::columns_of-loop-filter-preserved g t c = record {
-  left = columns_more (tree_in c.args.scope.now) c.args.scope.now.names.now c.args.live.now c.as_slice-filter-items.result.now c.loop-filter.filter-index c.filter-item.result
-      c.loop-filter.columns.items c.push.new.self.items c.in_ok-column.column c.loop-filter-test.true c.filter-item.is c.loop-filter.invariant.left
+  left = columns_more (tree_in c.args.scope.now) c.args.scope.now.names.now c.args.live.now c.as_slice-filter-items.result.now
+      (record { index = c.loop-filter.filter-index; item = c.filter-item.result; below = c.loop-filter-test.true; is = c.filter-item.is })
+      c.loop-filter.columns.items c.push.new.self.items c.in_ok-column.column c.loop-filter.invariant.left
       c.in_ok-column.ensures.value c.in_ok-push.ensures.items;
-  cost = cost_more (searched_len (tree_in c.args.scope.now)) c.as_slice-filter-items.result.now c.loop-filter.filter-index c.filter-item.result _ c.loop-filter.steps
-      c.evaluate.new.steps c.loop-filter-test.true c.filter-item.is c.loop-filter.invariant.cost c.evaluate.ensures.cost;
+  cost = cost_more (searched_len (tree_in c.args.scope.now)) c.as_slice-filter-items.result.now
+      (record { index = c.loop-filter.filter-index; item = c.filter-item.result; below = c.loop-filter-test.true; is = c.filter-item.is }) _ c.loop-filter.steps
+      c.evaluate.new.steps c.loop-filter.invariant.cost c.evaluate.ensures.cost;
   rises = omega (arith, c.loop-filter.invariant.rises, c.evaluate.ensures.rises);
   flat = c.loop-filter.invariant.flat;
 }
@@ -229,8 +231,9 @@ chains::columns_of-returns-clause-value g t c =
 
 pub chains::columns_of-returns-in_err-column-clause-cost : goal.chains::columns_of-returns-in_err-column-clause-cost
 chains::columns_of-returns-in_err-column-clause-cost g t c =
-    cost_within (searched_len (tree_in c.args.scope.now)) c.as_slice-filter-items.result.now c.loop-filter.filter-index c.filter-item.result _ c.loop-filter.steps
-    c.evaluate.new.steps (filters_tree c.args.filters.now) c.loop-filter-test.true c.filter-item.is c.loop-filter.invariant.cost
+    cost_within (searched_len (tree_in c.args.scope.now)) c.as_slice-filter-items.result.now
+    (record { index = c.loop-filter.filter-index; item = c.filter-item.result; below = c.loop-filter-test.true; is = c.filter-item.is }) _ c.loop-filter.steps
+    c.evaluate.new.steps (filters_tree c.args.filters.now) c.loop-filter.invariant.cost
     c.evaluate.ensures.cost c.as_slice-filter-items.ensures.tree
 
 pub chains::terms_of-loop-term-init : goal.chains::terms_of-loop-term-init
@@ -244,11 +247,13 @@ chains::terms_of-loop-term-init g t c = record {
 
 pub chains::terms_of-loop-term-preserved : goal.chains::terms_of-loop-term-preserved
 chains::terms_of-loop-term-preserved g t c = record {
-  left = terms_more (tree_in c.args.scope.now) c.args.scope.now.names.now c.args.live.now c.as_slice-term-items.result.now c.loop-term.term-index c.term-item.result
-      c.loop-term.columns.items c.push.new.self.items c.in_ok-column.column c.loop-term-test.true c.term-item.is c.loop-term.invariant.left
+  left = terms_more (tree_in c.args.scope.now) c.args.scope.now.names.now c.args.live.now c.as_slice-term-items.result.now
+      (record { index = c.loop-term.term-index; item = c.term-item.result; below = c.loop-term-test.true; is = c.term-item.is })
+      c.loop-term.columns.items c.push.new.self.items c.in_ok-column.column c.loop-term.invariant.left
       c.in_ok-column.ensures.value c.in_ok-push.ensures.items;
-  cost = terms_cost_more (searched_len (tree_in c.args.scope.now)) c.as_slice-term-items.result.now c.loop-term.term-index c.term-item.result _ c.loop-term.steps
-      c.evaluate.new.steps c.loop-term-test.true c.term-item.is c.loop-term.invariant.cost c.evaluate.ensures.cost;
+  cost = terms_cost_more (searched_len (tree_in c.args.scope.now)) c.as_slice-term-items.result.now
+      (record { index = c.loop-term.term-index; item = c.term-item.result; below = c.loop-term-test.true; is = c.term-item.is }) _ c.loop-term.steps
+      c.evaluate.new.steps c.loop-term.invariant.cost c.evaluate.ensures.cost;
   rises = omega (arith, c.loop-term.invariant.rises, c.evaluate.ensures.rises);
   flat = c.loop-term.invariant.flat;
 }
@@ -260,18 +265,21 @@ chains::terms_of-returns-clause-value g t c =
 
 pub chains::terms_of-returns-in_err-column-clause-cost : goal.chains::terms_of-returns-in_err-column-clause-cost
 chains::terms_of-returns-in_err-column-clause-cost g t c =
-    terms_cost_within (searched_len (tree_in c.args.scope.now)) c.as_slice-term-items.result.now c.loop-term.term-index c.term-item.result _ c.loop-term.steps
-    c.evaluate.new.steps (terms_tree c.args.terms.now) c.loop-term-test.true c.term-item.is c.loop-term.invariant.cost
+    terms_cost_within (searched_len (tree_in c.args.scope.now)) c.as_slice-term-items.result.now
+    (record { index = c.loop-term.term-index; item = c.term-item.result; below = c.loop-term-test.true; is = c.term-item.is }) _ c.loop-term.steps
+    c.evaluate.new.steps (terms_tree c.args.terms.now) c.loop-term.invariant.cost
     c.evaluate.ensures.cost c.as_slice-term-items.ensures.tree
 
 pub chains::columns_of-returns-in_err-push-clause-cost : goal.chains::columns_of-returns-in_err-push-clause-cost
 chains::columns_of-returns-in_err-push-clause-cost g t c =
-    cost_within (searched_len (tree_in c.args.scope.now)) c.as_slice-filter-items.result.now c.loop-filter.filter-index c.filter-item.result _ c.loop-filter.steps
-    c.evaluate.new.steps (filters_tree c.args.filters.now) c.loop-filter-test.true c.filter-item.is c.loop-filter.invariant.cost
+    cost_within (searched_len (tree_in c.args.scope.now)) c.as_slice-filter-items.result.now
+    (record { index = c.loop-filter.filter-index; item = c.filter-item.result; below = c.loop-filter-test.true; is = c.filter-item.is }) _ c.loop-filter.steps
+    c.evaluate.new.steps (filters_tree c.args.filters.now) c.loop-filter.invariant.cost
     c.evaluate.ensures.cost c.as_slice-filter-items.ensures.tree
 
 pub chains::terms_of-returns-in_err-push-clause-cost : goal.chains::terms_of-returns-in_err-push-clause-cost
 chains::terms_of-returns-in_err-push-clause-cost g t c =
-    terms_cost_within (searched_len (tree_in c.args.scope.now)) c.as_slice-term-items.result.now c.loop-term.term-index c.term-item.result _ c.loop-term.steps
-    c.evaluate.new.steps (terms_tree c.args.terms.now) c.loop-term-test.true c.term-item.is c.loop-term.invariant.cost
+    terms_cost_within (searched_len (tree_in c.args.scope.now)) c.as_slice-term-items.result.now
+    (record { index = c.loop-term.term-index; item = c.term-item.result; below = c.loop-term-test.true; is = c.term-item.is }) _ c.loop-term.steps
+    c.evaluate.new.steps (terms_tree c.args.terms.now) c.loop-term.invariant.cost
     c.evaluate.ensures.cost c.as_slice-term-items.ensures.tree

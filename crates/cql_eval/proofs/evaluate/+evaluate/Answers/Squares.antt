@@ -7,12 +7,13 @@ use Rattle.cql_syntax.specs.Values.{holds}
 use Rattle.cql_columns.specs.Scopes.{tree_in}
 use Rattle.cql_columns.specs.Columns.{IsColumn, shown}
 use Rattle.std.proofs.Math.Path.{fun_ext}
+use Rattle.cql_columns.specs.Asked.{AreHaving, AreLeftOpen}
 use Rattle.cql_columns.specs.Columns.{AreTruths}
 use Rattle.cql_columns.specs.Costs.{filter_cost, searched_len}
 use Rattle.cql_columns.proofs.Costing.{square_cost}
 use Rattle.cql_columns.proofs.Wanting.{wanted_same, wanted_kept, turn_skip}
 use Rattle.cql_columns.specs.declared.filter_column.FilterColumn.TheVariants.{Sets}
-use Rattle.cql_operators.proofs.SquareTurns.{left_begun, square_more, square_end, turn_all, turn_stop}
+use Rattle.cql_operators.proofs.SquareTurns.{left_begun, square_more, square_end, turn_law, turn_stop}
 use Rattle.cql_pruning.proofs.AttackLaw.{attack_is}
 use Rattle.cql_pruning.specs.Covers.{AreCut, AreWorthTrying, MayHold}
 use Rattle.cql_pruning.proofs.CoverForms.{tried_same, worth_trying, written_sets}
@@ -49,11 +50,11 @@ squares::square_truths-loop-number-preserved g t c =
 
 pub squares::square_truths-returns-clause-value : goal.squares::square_truths-returns-clause-value
 squares::square_truths-returns-clause-value g t c =
-    IfOk_then c.decided.result c.decided.ensures (λ truths are n l. square_end (tree_in c.args.binding.now.scope.now) c.args.live.now c.args.binding.now.every (shown c.args.binding.now.squares.now)
+    IfOk_then c.decided.result c.decided.ensures (λ truths are. square_end (tree_in c.args.binding.now.scope.now) c.args.live.now c.args.binding.now.every (shown c.args.binding.now.squares.now)
     (λ m s. holds (value (tree_in c.args.binding.now.scope.now) [] ((c.args.binding.now.name.now, s) ∷ c.args.binding.now.scope.now.names.now)
     (filter_tree c.args.asked.now) m))
     c.loop-number.number c.loop-number.left.items truths.items
-    (omega (arith, c.loop-number-test.false, c.loop-number.auto.number-end)) c.requires.asked c.loop-number.invariant.left are n l)
+    (omega (arith, c.loop-number-test.false, c.loop-number.auto.number-end)) c.requires.asked c.loop-number.invariant.left are)
 
 pub squares::square_truths-returns-in-Some-clause-value : goal.squares::square_truths-returns-in-Some-clause-value
 squares::square_truths-returns-in-Some-clause-value g t c =
@@ -64,14 +65,19 @@ squares::square_truths-returns-in-Some-clause-value g t c =
 
 pub squares::square_turn-returns-clause-value : goal.squares::square_turn-returns-clause-value
 squares::square_turn-returns-clause-value g t c =
-    turn_all (tree_in c.args.binding.now.scope.now) c.args.binding.now.every (shown c.args.binding.now.squares.now)
+    turn_law c.args.binding.now.every (shown c.args.binding.now.squares.now)
     (value (tree_in c.args.binding.now.scope.now) [] ((c.args.binding.now.name.now, c.args.square) ∷ c.args.binding.now.scope.now.names.now)
     (filter_tree c.args.asked.now)) c.args.square c.args.left.items c.in_ok-there.there.items
-    c.deref.result.now c.deref-3.result.now c.args.left.items c.deref-4.result.now c.unsettled-later.result.items c.in_ok-column.column
-    c.deref.ensures.value c.deref-3.ensures.value refl c.deref-4.ensures.value c.in_ok-there.ensures
+    c.unsettled-later.result.items c.in_ok-column.column
+    (subst (λ live. AreHaving (shown c.args.binding.now.squares.now) c.args.square live c.in_ok-there.there.items) c.deref.ensures.value c.in_ok-there.ensures)
+    (subst (λ live. IsColumn c.in_ok-column.column live
+    (value (tree_in c.args.binding.now.scope.now) [] ((c.args.binding.now.name.now, c.args.square) ∷ c.args.binding.now.scope.now.names.now)
+    (filter_tree c.args.asked.now))) c.deref-3.ensures.value
     (subst (λ e. IsColumn c.in_ok-column.column c.deref-3.result.now
     (value (tree_in c.args.binding.now.scope.now) [] e
-    (filter_tree c.args.asked.now))) c.in_ok-names.ensures c.in_ok-column.ensures.value) c.unsettled-later.ensures
+    (filter_tree c.args.asked.now))) c.in_ok-names.ensures c.in_ok-column.ensures.value))
+    (subst (λ there. AreLeftOpen c.args.binding.now.every (λ n. holds (shown c.in_ok-column.column n)) c.args.left.items there c.unsettled-later.result.items)
+    c.deref-4.ensures.value c.unsettled-later.ensures)
 
 pub squares::square_turn-returns-then-not-any_live-clause-value : goal.squares::square_turn-returns-then-not-any_live-clause-value
 squares::square_turn-returns-then-not-any_live-clause-value g t c =

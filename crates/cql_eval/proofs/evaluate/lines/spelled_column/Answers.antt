@@ -1,5 +1,5 @@
 use Rattle.std.proofs.Common.{map, ◌∙◌, ap, arith, length}
-use Rattle.std.specs.Prelude.{option_map, pos}
+use Rattle.std.specs.Prelude.{option_map, pos, get_or, None}
 use Rattle.std.proofs.lemmas.List.FromFn.{length-map-range_with_len}
 use Rattle.cql_syntax.specs.TreeOf.{parts_tree}
 use Rattle.cql_syntax.specs.declared.tree.Line.{out-Line}
@@ -7,9 +7,9 @@ use Rattle.cql_columns.specs.Scopes.{tree_in}
 use Rattle.cql_columns.specs.Costs.{searched_len}
 use Rattle.cql_operators.specs.LineAtoms.{spot_at}
 use Rattle.cql_operators.proofs.LineAtoms.{few_atoms, few_places, atoms_below}
-use Rattle.cql_operators.proofs.LinesLaw.{line_flat, numbers_are, atoms_within, looks_within}
+use Rattle.cql_operators.proofs.LinesLaw.{ShapeOf, line_flat, line_spelled, numbers_are, wide_at, atoms_within, looks_within}
 use Rattle.cql_lines.specs.PatternTrees.{pattern_tree}
-use Rattle.cql_lines.specs.Tables.{atoms_of}
+use Rattle.cql_lines.specs.Tables.{atoms_of, holds_in}
 use Rattle.cql_lines.specs.Trees.{spots_of}
 use Rattle.cql_eval.proofs.evaluate.lines.spelled_column.Goals as goal
 
@@ -41,10 +41,22 @@ line_values-requires-clause-nodes g c =
 pub returns-clause-value : goal.returns-clause-value
 returns-clause-value g c = λ n asked.
     let spots = ap length c.in_ok-shape.ensures.spots in
-    numbers_are (tree_in c.args.scope.now) c.requires.tree c.args.scope.now.names.now c.args.line.now (spots_of c.in_ok-shape.shape) _ _ _ c.in_ok-shape.ensures.spots
-    c.in_ok-shape.ensures.way.0 c.in_ok-shape.ensures.way.1 c.in_ok-shape.ensures.way.2 c.args.table.now
-    (pattern_tree c.in_ok-pattern.pattern) c.in_ok-pattern.ensures.pattern c.requires.tabled c.in_ok-numbers.numbers.items
-    c.in_ok-values.values.items (c.in_ok-numbers.ensures ∙ ap (map (option_map pos)) c.as_slice.ensures.value) n asked
+    let shape : ShapeOf (tree_in c.args.scope.now) c.args.line.now = record {
+      spots = spots_of c.in_ok-shape.shape;
+      back = _;
+      primary = _;
+      limits = _;
+      spots_are = c.in_ok-shape.ensures.spots;
+      back_is = c.in_ok-shape.ensures.way.0;
+      primary_is = c.in_ok-shape.ensures.way.1;
+      limits_are = c.in_ok-shape.ensures.way.2;
+    } in
+    wide_at c.in_ok-numbers.numbers.items c.in_ok-values.values.items (c.in_ok-numbers.ensures ∙ ap (map (option_map pos)) c.as_slice.ensures.value) n
+    ∙ numbers_are (tree_in c.args.scope.now) c.requires.tree c.args.scope.now.names.now c.args.line.now shape (holds_in c.args.table.now)
+    (pattern_tree c.in_ok-pattern.pattern) n asked
+    (line_spelled (tree_in c.args.scope.now) c.args.scope.now.names.now c.args.line.now c.args.table.now (pattern_tree c.in_ok-pattern.pattern)
+    c.in_ok-pattern.ensures.pattern c.requires.tabled n asked)
+    (get_or c.in_ok-values.values.items n None)
     (c.in_ok-values.ensures.values (pattern_tree c.in_ok-pattern.pattern) c.in_ok-automaton.ensures.automaton n
     (omega (arith, asked.1, spots, length-map-range_with_len (spot_at (tree_in c.args.scope.now)) 0 (length c.args.scope.now.game.now.nodes))))
 
