@@ -99,23 +99,16 @@ check_short false moves = omega arith
 check_short true [] = omega arith
 check_short true (m ∷ ms) = omega arith
 
-seven_parts : (a b c d e f g : List ℕ) → length a ≤ 1 → length b ≤ 1 → length c ≤ 1 → length d ≤ 1 → length e ≤ 1 → length f ≤ 1 → length g ≤ 2
-    → length (a ++ b ++ c ++ d ++ e ++ f ++ g) ≤ 8
-seven_parts a b c d e f g i j k l m n o =
-    let p = length-append (a ++ b ++ c ++ d ++ e ++ f) g in
-    let q = length-append (a ++ b ++ c ++ d ++ e) f in
-    let r = length-append (a ++ b ++ c ++ d) e in
-    let s = length-append (a ++ b ++ c) d in
-    let t = length-append (a ++ b) c in
-    let u = length-append a b in
-    omega (arith, i, j, k, l, m, n, o, p, q, r, s, t, u)
+both_short : (a b : List ℕ) (m n : ℕ) → length a ≤ m → length b ≤ n → length (a ++ b) ≤ m + n
+both_short a b m n first second = omega (arith, first, second, length-append a b)
 
 parts_short : (capture : Bool) (x : Parts) → length (parts_text capture x) ≤ 8
 parts_short capture (Castling true) = omega arith
 parts_short capture (Castling false) = omega arith
 parts_short capture Null = omega arith
 parts_short capture (Moved m) =
-    seven_parts _ _ _ _ _ _ _ (letter_short m.piece) (coordinate_short 97 m.file) (coordinate_short 49 m.rank) (capture_short capture) (omega arith) (omega arith) (promotion_short m.promotion)
+    both_short _ _ 6 2 (both_short _ _ 5 1 (both_short _ _ 4 1 (both_short _ _ 3 1 (both_short _ _ 2 1 (both_short _ _ 1 1 (letter_short m.piece) (coordinate_short 97 m.file))
+    (coordinate_short 49 m.rank)) (capture_short capture)) (omega arith)) (omega arith)) (promotion_short m.promotion)
 
 sign_short : (q : Board) → length (sign_of q) ≤ 1
 sign_short q = check_short _ (legal_list q)

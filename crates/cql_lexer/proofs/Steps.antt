@@ -109,12 +109,12 @@ after_separator query tokens expected at s before inside e positive fits =
           ∙ before.rest;
     }
 
-pub after_token : (query : List ℕ) (tokens : List QueryToken) (expected : Expected) (at s : ℕ) (token : QueryToken) (len : ℕ)
-    → TokensLeft query tokens expected at → at < length query → s ≡ separator_len (take (length query - at) (drop at query)) → s ≤ 0
+pub after_token : (query : List ℕ) (tokens : List QueryToken) (expected : Expected) (at : ℕ) (token : QueryToken) (len : ℕ)
+    → TokensLeft query tokens expected at → at < length query → separator_len (take (length query - at) (drop at query)) ≤ 0
     → token_at expected at (drop at query) ≡ Ok (token, len) → 0 < len → at + len ≤ length query
     → TokensLeft query (tokens ++ token ∷ []) (expected_after token.kind) (at + len)
-after_token query tokens expected at s token len before inside e none found positive fits =
-    let is = left query at s e in
+after_token query tokens expected at token len before inside none found positive fits =
+    let is = left query at (separator_len (take (length query - at) (drop at query))) refl in
     let rest = length-drop at query in
     record {
       within = fits;
@@ -122,7 +122,7 @@ after_token query tokens expected at s token len before inside e none found posi
       rest =
           ap (λ t. with_front (tokens ++ token ∷ []) (tokens_from 0 (at + len) (expected_after token.kind) t)) (sym (drop-drop len at query))
           ∙ sym (with_front_twice tokens (token ∷ []) _)
-          ∙ ap (with_front tokens) (sym (pass_token at expected (drop at query) token len (omega (arith, rest)) (omega (arith, is)) found positive (omega (arith, rest))))
+          ∙ ap (with_front tokens) (sym (pass_token at expected (drop at query) token len (omega (arith, rest)) (omega (arith, is, none)) found positive (omega (arith, rest))))
           ∙ before.rest;
     }
 

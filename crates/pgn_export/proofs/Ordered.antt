@@ -1,5 +1,5 @@
 -- The tags of a normal game are written as they stand.
-use Rattle.std.proofs.Common.{◌≡◌, ◌≢◌, ℕ, suc, ◌<◌, Bool, true, false, cond, List, [], ◌∷◌, ◌++◌, length, take, drop, Option, Some, None, refl, sym, ap, ap₂, ◌∙◌, subst, arith, true≢false, append_assoc, append-nil, length-append}
+use Rattle.std.proofs.Common.{◌≡◌, ◌≢◌, ℕ, suc, ◌<◌, Bool, true, false, cond, List, [], ◌∷◌, ◌++◌, length, take, drop, Option, Some, None, refl, sym, ap, ◌∙◌, subst, arith, true≢false, append_assoc, append-nil, length-append}
 use Rattle.std.specs.Prelude.{◌&&◌, not, codes, map, if◌then◌else◌}
 use Rattle.std.specs.BTreeMap.{insert_entry}
 use Rattle.std.specs.Cmp.Lexicographic.{slice_cmp, nat_list_cmp_total}
@@ -182,25 +182,27 @@ none_left_out (t ∷ ts) all =
     ∙ ap (λ l. t ∷ l) (none_left_out ts both.1)
 
 -- so all tags are written as they are
-seven_written : (a b c d e f r : List ℕ) (rest : List Tag) (result : List ℕ)
+seven_written : (a b c d e f r : List ℕ) (rest : List Tag)
     → let tags : List Tag = (codes "Event", a) ∷ (codes "Site", b) ∷ (codes "Date", c) ∷ (codes "Round", d) ∷ (codes "White", e) ∷ (codes "Black", f)
     ∷ (codes "Result", r) ∷ rest in
-    list_all (λ t. not (is_in_roster t.0)) rest ≡ true → AreSorted rest → tag_value (codes "Result") tags ≡ Some result
+    list_all (λ t. not (is_in_roster t.0)) rest ≡ true → AreSorted rest
     → ((value : List ℕ) → tag_value (codes "FEN") tags ≡ Some value → tag_value (codes "SetUp") tags ≡ Some (codes "1"))
-    → map (roster_tag tags) roster ++ ((codes "Result", result) ∷ other_tags tags) ≡ tags
+    → map (roster_tag tags) roster ++ ((codes "Result", r) ∷ other_tags tags) ≡ tags
 unfolding roster_tag
-seven_written a b c d e f r rest result apart all told set_up =
+seven_written a b c d e f r rest apart all set_up =
     let tags : List Tag = (codes "Event", a) ∷ (codes "Site", b) ∷ (codes "Date", c) ∷ (codes "Round", d) ∷ (codes "White", e) ∷ (codes "Black", f) ∷ (codes "Result", r) ∷ rest in
-    ap₂ (λ x l. (codes "Event", a) ∷ (codes "Site", b) ∷ (codes "Date", c) ∷ (codes "Round", d) ∷ (codes "White", e) ∷ (codes "Black", f) ∷ (codes "Result", x) ∷ l)
-    (sym (some_is r result told))
+    ap (λ l. (codes "Event", a) ∷ (codes "Site", b) ∷ (codes "Date", c) ∷ (codes "Round", d) ∷ (codes "White", e) ∷ (codes "Black", f) ∷ (codes "Result", r) ∷ l)
     (others_by tags rest (tag_value (codes "FEN") tags) refl (none_left_out rest apart) all set_up)
 
 pub written_as_they_are : (g : Game) → IsNormal g → written_tags g ≡ g.tags
 written_as_they_are g normal =
     let s = seven_of g.tags normal.order.roster in
+    let tags : List Tag = (codes "Event", s.one) ∷ (codes "Site", s.two) ∷ (codes "Date", s.three) ∷ (codes "Round", s.four) ∷ (codes "White", s.five) ∷ (codes "Black", s.six)
+    ∷ (codes "Result", s.seven) ∷ drop 7 g.tags in
     subst (λ (tags : List Tag). map (roster_tag tags) roster ++ ((codes "Result", result_text g.result) ∷ other_tags tags) ≡ tags) (sym s.is)
-    (seven_written s.one s.two s.three s.four s.five s.six s.seven (drop 7 g.tags) (result_text g.result) normal.order.others normal.order.sorted
-    (subst (λ tags. tag_value (codes "Result") tags ≡ Some (result_text g.result)) s.is normal.result)
+    (ap (λ r. map (roster_tag tags) roster ++ ((codes "Result", r) ∷ other_tags tags))
+    (sym (some_is s.seven (result_text g.result) (subst (λ tags. tag_value (codes "Result") tags ≡ Some (result_text g.result)) s.is normal.result)))
+    ∙ seven_written s.one s.two s.three s.four s.five s.six s.seven (drop 7 g.tags) normal.order.others normal.order.sorted
     (subst (λ tags. (value : List ℕ) → tag_value (codes "FEN") tags ≡ Some value → tag_value (codes "SetUp") tags ≡ Some (codes "1")) s.is normal.set_up))
 
 -- and pairs with distinct names are the tags that they tell

@@ -1,4 +1,4 @@
-use Rattle.std.proofs.Common.{sym, ap, subst, ◌∙◌, ◌+◌, ◌++◌, ◌∷◌, [], List, Ok}
+use Rattle.std.proofs.Common.{sym, ap, subst, ◌∙◌, ◌+◌, ◌++◌, ◌∷◌, [], List, Ok, arith}
 use Rattle.std.proofs.lemmas.Result.{err_from_is_err_and}
 use Rattle.cql_syntax.specs.declared.token.QueryToken.{QueryToken}
 use Rattle.cql_lexer.specs.declared.expected.Expected.{Expected}
@@ -33,8 +33,8 @@ loop-at-preserved c =
     let Q : Expected → Type 0 = λ expected. TokensLeft c.args.query.now (c.loop-at.tokens.items ++ c.in_ok-token.token ∷ []) expected (c.loop-at.at + c.in_ok-token.len) in
     subst P (sym c.in_ok-push.ensures)
     (subst Q (sym c.expected_after-expected.ensures)
-    (after_token _ _ _ _ _ c.in_ok-token.token c.in_ok-token.len c.loop-at.invariant c.loop-at-test.true c.separator_len-separator.ensures.value
-    c.if-separator-gt0.false found.value found.front.0 found.front.1))
+    (after_token _ _ _ _ c.in_ok-token.token c.in_ok-token.len c.loop-at.invariant c.loop-at-test.true
+    (omega (arith, c.separator_len-separator.ensures.value, c.if-separator-gt0.false)) found.value found.front.0 found.front.1))
 
 pub returns-clause-value : goal.returns-clause-value
 returns-clause-value c =
