@@ -9,10 +9,12 @@ use Rattle.cql_syntax.specs.Values.{Value, as_truth}
 use Rattle.cql_syntax.specs.declared.tree.Played.{Played}
 use Rattle.cql_columns.specs.Columns.{shown}
 use Rattle.cql_columns.specs.declared.filter_column.FilterColumn.{FilterColumn}
-use Rattle.cql_operators.specs.Trees.{AreBeforeLive}
 use Rattle.cql_pruning.specs.Covers.{AreCut, AsksNoMore, HasSome, IsFreePart, MayHold}
-use Rattle.cql_pruning.proofs.CoverForms.{first_true, second_true, yes_both}
+use Rattle.cql_pruning.specs.Moved.{is_as_asked}
+use Rattle.cql_pruning.specs.declared.moves.PartColumns.{PartColumns}
+use Rattle.cql_pruning.proofs.CoverForms.{KeepsHolding, Tried, first_true, second_true, yes_both}
 use Rattle.cql_pruning.proofs.CoverLaw.{cut_as, cut_wide}
+use Rattle.cql_eval.specs.Trials.{AskNoMore}
 use Rattle.cql_pruning.proofs.MoveLaw.{IsPartColumn, move_value, origin_of, goal_of, taken_of, promoted_of}
 
 pub asks_nothing : (tree : SearchedTree) (opened outer : Names) (w : WrittenTree) (live : List Bool) → AsksNoMore tree opened outer w live None
@@ -24,35 +26,68 @@ asks_free tree opened outer w live c free column = record {
   each = λ n inner a agree q met. ap (λ x. meets x q) (column n a ∙ sym (free.each tree inner outer n agree)) ∙ met;
 }
 
--- a move that meets what is asked meets what is asked of it by less
-meets_less : (l : Option PlainLed) (a b c d w x y z : Option Value) → ((q : Option ℕ) → meets a q ≡ true → meets w q ≡ true) → ((q : Option ℕ) → meets b q ≡ true → meets x q ≡ true)
-    → ((q : Option ℕ) → meets c q ≡ true → meets y q ≡ true) → ((q : Option ℕ) → meets d q ≡ true → meets z q ≡ true) → meets_all l a b c d ≡ true → meets_all l w x y z ≡ true
-meets_less None a b c d w x y z e f g h all = all
-meets_less (Some l) a b c d w x y z e f g h all =
-    let three = first_true (meets a (Some l.origin) && meets b (Some l.goal) && meets c l.taken) (meets d (goal_if l.promoted l.goal)) all in
-    let two = first_true (meets a (Some l.origin) && meets b (Some l.goal)) (meets c l.taken) three in
-    yes_both (meets w (Some l.origin) && meets x (Some l.goal) && meets y l.taken) (meets z (goal_if l.promoted l.goal))
-    (yes_both (meets w (Some l.origin) && meets x (Some l.goal)) (meets y l.taken)
-    (yes_both (meets w (Some l.origin)) (meets x (Some l.goal)) (e (Some l.origin) (first_true (meets a (Some l.origin)) (meets b (Some l.goal)) two))
-    (f (Some l.goal) (second_true (meets a (Some l.origin)) (meets b (Some l.goal)) two)))
-    (g l.taken (second_true (meets a (Some l.origin) && meets b (Some l.goal)) (meets c l.taken) three)))
-    (h (goal_if l.promoted l.goal) (second_true (meets a (Some l.origin) && meets b (Some l.goal) && meets c l.taken) (meets d (goal_if l.promoted l.goal)) all))
+-- what is asked of the parts of a move
+record Parts : Type 0 where
+  origin : Option Value
+  goal : Option Value
+  taken : Option Value
+  promoted : Option Value
 
-pub free_parts_cut : (tree : SearchedTree) (live some wide : List Bool) (opened outer : Names) (given : List ℕ) (p : Played) (origin goal taken promoted : Option FilterColumn) (old new : List ℕ)
-    → HasSome tree live old some → AreBeforeLive tree some wide → AsksNoMore tree opened outer (origin_of p) wide origin → AsksNoMore tree opened outer (goal_of p) some goal
-    → AsksNoMore tree opened outer (taken_of p) wide taken → AsksNoMore tree opened outer (promoted_of p) some promoted
-    → AreCut some (λ n s. meets_all (led_to tree.game.nodes n) (option_map (λ c. shown c (before tree n)) origin) (option_map (λ c. shown c n) goal)
-    (option_map (λ c. shown c (before tree n)) taken) (option_map (λ c. shown c n) promoted) ≡ true) old new
-    → AreCut live (MayHold opened outer given (λ e n. as_truth (played_value tree [] e (played_tree p) n))) old new
-free_parts_cut tree live some wide opened outer given p origin goal taken promoted old new has befores first second third fourth cut =
-    cut_wide tree live some (MayHold opened outer given (λ e n. as_truth (played_value tree [] e (played_tree p) n))) old new has
-    (cut_as some (MayHold opened outer given (λ e n. as_truth (played_value tree [] e (played_tree p) n)))
-    (λ n s. meets_all (led_to tree.game.nodes n) (option_map (λ c. shown c (before tree n)) origin) (option_map (λ c. shown c n) goal)
-    (option_map (λ c. shown c (before tree n)) taken) (option_map (λ c. shown c n) promoted) ≡ true) old new
-    (λ n s a m. meets_less (led_to tree.game.nodes n) (written_value tree [] m.inner (origin_of p) (before tree n)) (written_value tree [] m.inner (goal_of p) n)
-    (written_value tree [] m.inner (taken_of p) (before tree n)) (written_value tree [] m.inner (promoted_of p) n)
-    (option_map (λ c. shown c (before tree n)) origin) (option_map (λ c. shown c n) goal) (option_map (λ c. shown c (before tree n)) taken) (option_map (λ c. shown c n) promoted)
-    (λ q h. first.each (before tree n) m.inner (befores.covers n a) m.agree q h) (λ q h. second.each n m.inner a m.agree q h)
-    (λ q h. third.each (before tree n) m.inner (befores.covers n a) m.agree q h) (λ q h. fourth.each n m.inner a m.agree q h)
+-- what meets the one parts meets the others
+record AskLess (less parts : Parts) : Type 0 where
+  at_origin : (q : Option ℕ) → meets parts.origin q ≡ true → meets less.origin q ≡ true
+  at_goal : (q : Option ℕ) → meets parts.goal q ≡ true → meets less.goal q ≡ true
+  at_taken : (q : Option ℕ) → meets parts.taken q ≡ true → meets less.taken q ≡ true
+  at_promoted : (q : Option ℕ) → meets parts.promoted q ≡ true → meets less.promoted q ≡ true
+
+-- a move that meets what is asked meets what is asked of it by less
+meets_less : (l : Option PlainLed) (less parts : Parts) → AskLess less parts → meets_all l parts.origin parts.goal parts.taken parts.promoted ≡ true
+    → meets_all l less.origin less.goal less.taken less.promoted ≡ true
+meets_less None less parts asks all = all
+meets_less (Some l) less parts asks all =
+    let a = meets parts.origin (Some l.origin) in
+    let b = meets parts.goal (Some l.goal) in
+    let c = meets parts.taken l.taken in
+    let d = meets parts.promoted (goal_if l.promoted l.goal) in
+    let w = meets less.origin (Some l.origin) in
+    let x = meets less.goal (Some l.goal) in
+    let y = meets less.taken l.taken in
+    let z = meets less.promoted (goal_if l.promoted l.goal) in
+    let three = first_true (a && b && c) d all in
+    let two = first_true (a && b) c three in
+    yes_both (w && x && y) z
+    (yes_both (w && x) y
+    (yes_both w x (asks.at_origin (Some l.origin) (first_true a b two)) (asks.at_goal (Some l.goal) (second_true a b two)))
+    (asks.at_taken l.taken (second_true (a && b) c three)))
+    (asks.at_promoted (goal_if l.promoted l.goal) (second_true (a && b && c) d all))
+
+pub free_parts_cut : (t : Tried) (some : List Bool) (p : Played) (parts : PartColumns) (goal : Option FilterColumn) (old new : List ℕ) → HasSome t.tree t.live old some
+    → AskNoMore t.tree t.opened t.outer p some parts → AsksNoMore t.tree t.opened t.outer (goal_of p) some goal
+    → AreCut some (λ n s. is_as_asked t.tree parts (option_map (λ c. shown c n) goal) n ≡ true) old new
+    → KeepsHolding t (λ e n. as_truth (played_value t.tree [] e (played_tree p) n)) old new
+free_parts_cut t some p parts goal old new has asks at_goal cut =
+    let tree = t.tree in
+    cut_wide tree t.live some (MayHold t.opened t.outer t.name (λ e n. as_truth (played_value tree [] e (played_tree p) n))) old new has
+    (cut_as some (MayHold t.opened t.outer t.name (λ e n. as_truth (played_value tree [] e (played_tree p) n)))
+    (λ n s. is_as_asked tree parts (option_map (λ c. shown c n) goal) n ≡ true) old new
+    (λ n s a m. meets_less (led_to tree.game.nodes n)
+    (record {
+      origin = option_map (λ c. shown c (before tree n)) parts.origin;
+      goal = option_map (λ c. shown c n) goal;
+      taken = option_map (λ c. shown c (before tree n)) parts.taken;
+      promoted = option_map (λ c. shown c n) parts.promoted;
+    })
+    (record {
+      origin = written_value tree [] m.inner (origin_of p) (before tree n);
+      goal = written_value tree [] m.inner (goal_of p) n;
+      taken = written_value tree [] m.inner (taken_of p) (before tree n);
+      promoted = written_value tree [] m.inner (promoted_of p) n;
+    })
+    (record {
+      at_origin = λ q h. asks.origin.each (before tree n) m.inner (asks.before_live.covers n a) m.agree q h;
+      at_goal = λ q h. at_goal.each n m.inner a m.agree q h;
+      at_taken = λ q h. asks.taken.each (before tree n) m.inner (asks.before_live.covers n a) m.agree q h;
+      at_promoted = λ q h. asks.promoted.each n m.inner a m.agree q h;
+    })
     (sym (move_value tree m.inner p n) ∙ m.holds_there))
     cut)

@@ -1,6 +1,5 @@
 -- Squares with which a word may hold that asks its part at other nodes: those that are brought back from there.
 use Rattle.std.proofs.Common.{◌≡◌, ℕ, ◌<◌, true, Bool, List, length, get_or, sym, subst, arith}
-use Rattle.cq_position.specs.Search.{SearchedTree}
 use Rattle.cq_symmetry.specs.Images.{is_in}
 use Rattle.cql_syntax.specs.Meaning.{Names, unary_of}
 use Rattle.cql_syntax.specs.Values.{Value}
@@ -10,20 +9,33 @@ use Rattle.cql_columns.proofs.Filling.{live_below}
 use Rattle.cql_operators.specs.Elsewhere.{asks_elsewhere, AreLookedAt, AreBroughtBack}
 use Rattle.cql_operators.proofs.ElsewhereLaw.{holds_at}
 use Rattle.cql_pruning.specs.Covers.{AreCut, MayHold, AreAmong, AreEverywhere}
+use Rattle.cql_pruning.proofs.CoverForms.{KeepsHolding, Tried}
 
-pub elsewhere_cut : (tree : SearchedTree) (word : Unary) (live wide : List Bool) (opened outer : Names) (given : List ℕ) (v : Names → ℕ → Value) (among : ℕ) (there left back old new : List ℕ)
-    → asks_elsewhere word ≡ true → AreAsked tree live → AreLookedAt tree word live wide → AreAmong live old among → AreEverywhere wide among there
-    → AreCut wide (MayHold opened outer given v) there left → AreBroughtBack tree.game.nodes word left back
-    → AreCut live (λ n s. is_in (get_or back n 0) s ≡ true) old new → AreCut live (MayHold opened outer given (λ e. unary_of tree word (v e))) old new
-elsewhere_cut tree word live wide opened outer given v among there left back old new sure asked looked all every cut brought last = record {
-  count = last.count;
-  within = last.within;
+-- the word asks its part at other nodes, at all of which the squares stand that are in the sets
+pub record StandThere (t : Tried) (word : Unary) (wide : List Bool) (old there : List ℕ) : Type 0 where
+  pub sure : asks_elsewhere word ≡ true
+  pub looked : AreLookedAt t.tree word t.live wide
+  pub among : ℕ
+  pub all : AreAmong t.live old among
+  pub every : AreEverywhere wide among there
+
+-- of the sets those squares are left that are brought back from there
+pub record AreLeftBack (t : Tried) (word : Unary) (left old new : List ℕ) : Type 0 where
+  pub back : List ℕ
+  pub brought : AreBroughtBack t.tree.game.nodes word left back
+  pub cut : AreCut t.live (λ n s. is_in (get_or back n 0) s ≡ true) old new
+
+pub elsewhere_cut : (t : Tried) (word : Unary) (v : Names → ℕ → Value) (wide : List Bool) (there left old new : List ℕ) → AreAsked t.tree t.live → StandThere t word wide old there
+    → AreCut wide (MayHold t.opened t.outer t.name v) there left → AreLeftBack t word left old new → KeepsHolding t (λ e. unary_of t.tree word (v e)) old new
+elsewhere_cut t word v wide there left old new asked stand cut last = record {
+  count = last.cut.count;
+  within = last.cut.within;
   keeps = λ n s a p h.
-      let at = holds_at tree word (v p.inner) n sure p.holds_there in
-      let wide_there : is_live wide at.m ≡ true = looked.covers n at.m a at.asks at.down in
+      let at = holds_at t.tree word (v p.inner) n stand.sure p.holds_there in
+      let wide_there : is_live wide at.m ≡ true = stand.looked.covers n at.m a at.asks at.down in
       let kept : is_in (get_or left at.m 0) s ≡ true = cut.keeps at.m s wide_there
       (record { inner = p.inner; agree = p.agree; binds = p.binds; holds_there = at.holds_there })
-      (subst (λ y. is_in y s ≡ true) (sym (every.each at.m wide_there)) (all.each n s a h)) in
-      let low = live_below live n a in
-      last.keeps n s a (brought.each n at.m s (omega (arith, low, asked.count)) at.asks kept) h;
+      (subst (λ y. is_in y s ≡ true) (sym (stand.every.each at.m wide_there)) (stand.all.each n s a h)) in
+      let low = live_below t.live n a in
+      last.cut.keeps n s a (last.brought.each n at.m s (omega (arith, low, asked.count)) at.asks kept) h;
 }

@@ -12,7 +12,7 @@ use Rattle.cq_position.specs.Games.{searched}
 use Rattle.cql_syntax.specs.Hits.{is_hit}
 use Rattle.cql_syntax.specs.Meaning.{value, values}
 use Rattle.cql_syntax.specs.Trees.{FilterTree, FormTree, FilterTrees, filter_at, sort, no_filters, more_filters, with_filter}
-use Rattle.cql_syntax.specs.TreeOf.{filter_tree, filter_trees}
+use Rattle.cql_syntax.specs.TreeOf.{filter_tree, filter_trees, form_tree}
 use Rattle.cql_syntax.specs.Values.{Value, holds, amount}
 use Rattle.cql_syntax.specs.declared.tree.Filter.{Filter}
 use Rattle.cql_syntax.proofs.Lists.{filter_trees_more}
@@ -22,6 +22,7 @@ use Rattle.cql_columns.proofs.Chains.{all_begun, all_more, take_whole}
 use Rattle.cql_eval.specs.Hits.{hit_column, key_column, key_row_of, number_at, sort_numbers, item_numbers, AreKeysAtHits}
 use Rattle.cql_columns.proofs.Filling.{live_below, any_default, both_left, part_asked}
 use Rattle.cql_pruning.specs.Classes.{IsLeft}
+use Rattle.cql_pruning.proofs.Placing.{Placed}
 
 -- the searched nodes are asked for
 module _ (tree : SearchedTree) (all : List Bool) (is : all ≡ map (is_searched tree.variations tree.game.nodes) (numbers tree.game.nodes)) where
@@ -53,13 +54,14 @@ items_begun tree all left xs asked is = record {
   each = λ n. ap (λ l. is_live l n) is ∙ and_true (is_live all n) ∙ ap (λ b. is_live all n && b) (sym (all_begun tree [] [] n xs));
 }
 
-pub items_more : (tree : SearchedTree) (all : List Bool) (xs : List Filter) (i : ℕ) (f : Filter) (left given later : List Bool) → i < length xs → f ≡ get_or xs i f → given ≡ left
-    → AreAsked tree later → ((n : ℕ) → is_live later n ≡ (is_live given n && holds (value tree [] [] (filter_tree f) n))) → ItemsSoFar tree all xs i left → ItemsSoFar tree all xs (i + 1) later
-items_more tree all xs i f left given later below is same asked each had = record {
+pub items_more : (tree : SearchedTree) (all : List Bool) (x : Placed) (left given later : List Bool) → given ≡ left → AreAsked tree later
+    → ((n : ℕ) → is_live later n ≡ (is_live given n && holds (value tree [] [] (filter_tree x.filter) n))) → ItemsSoFar tree all x.items x.place left
+    → ItemsSoFar tree all x.items (x.place + 1) later
+items_more tree all x left given later same asked each had = record {
   asked = asked;
-  each = λ n. each n ∙ ap (λ l. is_live l n && holds (value tree [] [] (filter_tree f) n)) same ∙ ap (λ b. b && holds (value tree [] [] (filter_tree f) n)) (had.each n)
-      ∙ and_assoc (is_live all n) (list_all holds (values tree [] [] (filter_trees (take i xs)) n)) (holds (value tree [] [] (filter_tree f) n))
-      ∙ ap (λ b. is_live all n && b) (sym (all_more tree [] [] n xs i f below is));
+  each = λ n. each n ∙ ap (λ l. is_live l n && holds (value tree [] [] (filter_tree x.filter) n)) same ∙ ap (λ b. b && holds (value tree [] [] (filter_tree x.filter) n)) (had.each n)
+      ∙ and_assoc (is_live all n) (list_all holds (values tree [] [] (filter_trees (take x.place x.items)) n)) (holds (value tree [] [] (filter_tree x.filter) n))
+      ∙ ap (λ b. is_live all n && b) (sym (all_more tree [] [] n x.items x.place x.filter x.low x.is));
 }
 
 pub items_within : (tree : SearchedTree) (all : List Bool) (xs : List Filter) (i : ℕ) (left given again : List Bool) → given ≡ left → again ≡ all → ItemsSoFar tree all xs i left
@@ -162,23 +164,22 @@ rows_begun tree xs left rows none = record {
   entries = λ n l. made_begun (number_at tree n) (map (λ row. get_or row n None) rows) xs (ap (map (λ row. get_or row n None)) none);
 }
 
-pub rows_more : (tree : SearchedTree) (xs : List Filter) (i : ℕ) (f : Filter) (left given later : List Bool) (rows new : List (List (Option ℤ)))
-    → i < length xs → f ≡ get_or xs i f → given ≡ left → AreAsked tree left
-    → ((n : ℕ) → is_live later n ≡ true → is_live left n ≡ true) → new ≡ rows ++ map (key_row_of tree given) (item_numbers (filter_tree f))
-    → RowsSoFar tree xs i left rows → RowsSoFar tree xs (i + 1) later new
-rows_more tree xs i f left given later rows new below is same asked within more had = record {
-  lengths = made_more (λ g. length tree.game.nodes) (map length rows) (map length new) xs i f below is
-      (ap (map length) more ∙ map_append length rows (map (key_row_of tree given) (item_numbers (filter_tree f)))
-      ∙ ap (λ l. map length rows ++ l) (map_map length (key_row_of tree given) (item_numbers (filter_tree f))
-      ∙ ap (λ h. map h (item_numbers (filter_tree f))) (fun_ext (λ g. row_length tree given g)))) had.lengths;
+pub rows_more : (tree : SearchedTree) (x : Placed) (left given later : List Bool) (rows new : List (List (Option ℤ))) → given ≡ left → AreAsked tree left
+    → ((n : ℕ) → is_live later n ≡ true → is_live left n ≡ true) → new ≡ rows ++ map (key_row_of tree given) (item_numbers (filter_tree x.filter))
+    → RowsSoFar tree x.items x.place left rows → RowsSoFar tree x.items (x.place + 1) later new
+rows_more tree x left given later rows new same asked within more had = record {
+  lengths = made_more (λ g. length tree.game.nodes) (map length rows) (map length new) x.items x.place x.filter x.low x.is
+      (ap (map length) more ∙ map_append length rows (map (key_row_of tree given) (item_numbers (filter_tree x.filter)))
+      ∙ ap (λ l. map length rows ++ l) (map_map length (key_row_of tree given) (item_numbers (filter_tree x.filter))
+      ∙ ap (λ h. map h (item_numbers (filter_tree x.filter))) (fun_ext (λ g. row_length tree given g)))) had.lengths;
   entries = λ n l.
       let live = within n l in
       let low : n < length tree.game.nodes = (let b = live_below left n live in omega (arith, b, asked.count)) in
-      made_more (number_at tree n) (map (λ row. get_or row n None) rows) (map (λ row. get_or row n None) new) xs i f below is
-      (ap (map (λ row. get_or row n None)) more ∙ map_append (λ row. get_or row n None) rows (map (key_row_of tree given) (item_numbers (filter_tree f)))
+      made_more (number_at tree n) (map (λ row. get_or row n None) rows) (map (λ row. get_or row n None) new) x.items x.place x.filter x.low x.is
+      (ap (map (λ row. get_or row n None)) more ∙ map_append (λ row. get_or row n None) rows (map (key_row_of tree given) (item_numbers (filter_tree x.filter)))
       ∙ ap (λ l. map (λ row. get_or row n None) rows ++ l)
-      (map_map (λ row. get_or row n None) (key_row_of tree given) (item_numbers (filter_tree f))
-      ∙ ap (λ h. map h (item_numbers (filter_tree f))) (fun_ext (λ g. row_entry tree given g n low (ap (λ x. is_live x n) same ∙ live))))) (had.entries n live);
+      (map_map (λ row. get_or row n None) (key_row_of tree given) (item_numbers (filter_tree x.filter))
+      ∙ ap (λ h. map h (item_numbers (filter_tree x.filter))) (fun_ext (λ g. row_entry tree given g n low (ap (λ y. is_live y n) same ∙ live))))) (had.entries n live);
 }
 
 pub rows_all : (tree : SearchedTree) (xs : List Filter) (i : ℕ) (fs : FilterTrees) (left : List Bool) (rows : List (List (Option ℤ))) → length xs ≤ i
@@ -188,10 +189,18 @@ rows_all tree xs i fs left rows end same had = record {
   numbers = λ n l. made_all (number_at tree n) (map (λ row. get_or row n None) rows) xs i fs end same (had.entries n l);
 }
 
--- one sort item
+-- one sort item: a filter is a sort of this part
+pub record IsSort (f part : FilterTree) : Type 0 where
+  pub at : ℕ
+  pub least : Bool
+  pub text : List ℕ
+  pub is : f ≡ filter_at at (sort least text part)
 
 pub sort_form : (form : FormTree) (least : Bool) (text : List ℕ) (q p : FilterTree) → form ≡ sort least text q → q ≡ p → form ≡ sort least text p
 sort_form form least text q p is same = is ∙ ap (sort least text) same
+
+pub is_sort : (item : Filter) (least : Bool) (text : List ℕ) (q p : FilterTree) → form_tree item.form ≡ sort least text q → q ≡ p → IsSort (filter_tree item) p
+is_sort item least text q p is same = record { at = item.at; least = least; text = text; is = ap (filter_at item.at) (sort_form (form_tree item.form) least text q p is same) }
 
 pub row_is : (tree : SearchedTree) (asked : List Bool) (c : FilterColumn) (f : FilterTree) → AreAsked tree asked → IsColumn c asked (value tree [] [] f)
     → map (λ n. if is_live asked n then amount (shown c n) else None) (range_with_len 0 (length asked)) ≡ key_row_of tree asked f
@@ -204,12 +213,12 @@ row_is tree asked c f are column = ap₂ (λ h k. map h (range_with_len 0 k)) (f
 pub sort_asked : (tree : SearchedTree) (left later : List Bool) (c : FilterColumn) → AreAsked tree left → IsNumbered left c later → AreAsked tree later
 sort_asked tree left later c asked is = part_asked tree left later (λ n. is_some (amount (shown c n))) asked is.count is.each
 
-pub sort_each : (tree : SearchedTree) (asked left later : List Bool) (c : FilterColumn) (f part : FilterTree) (at : ℕ) (least : Bool) (text : List ℕ) → f ≡ filter_at at (sort least text part)
+pub sort_each : (tree : SearchedTree) (asked left later : List Bool) (c : FilterColumn) (f part : FilterTree) → IsSort f part
     → ((n : ℕ) → is_live left n ≡ true → is_live asked n ≡ true) → IsColumn c asked (value tree [] [] part) → IsNumbered left c later
     → (n : ℕ) → is_live later n ≡ (is_live left n && holds (value tree [] [] f n))
 unfolding value
-sort_each tree asked left later c f part at least text is within column numbered n =
-    numbered.each n ∙ by (is_live left n) (shown c n) (value tree [] [] part n) (λ l. column n (within n l)) ∙ ap (λ g. is_live left n && holds (value tree [] [] g n)) (sym is)
+sort_each tree asked left later c f part sorts within column numbered n =
+    numbered.each n ∙ by (is_live left n) (shown c n) (value tree [] [] part n) (λ l. column n (within n l)) ∙ ap (λ g. is_live left n && holds (value tree [] [] g n)) (sym sorts.is)
   where
     by : (b : Bool) (x y : Value) → (b ≡ true → x ≡ y) → (b && is_some (amount x)) ≡ (b && is_some (amount y))
     by true x y e = ap (λ z. is_some (amount z)) (e refl)
@@ -219,11 +228,10 @@ pub row_added : {A : Type 0} (f : A → List (Option ℤ)) (old new : List A) (r
     → map f new ≡ map f old ++ numbers ∷ []
 row_added f old new row numbers more is = ap (map f) more ∙ map_append f old (row ∷ []) ∙ ap (λ r. map f old ++ r ∷ []) is
 
-pub sort_keys : {A : Type 0} (f : A → List (Option ℤ)) (tree : SearchedTree) (asked : List Bool) (old new : List A) (row : List (Option ℤ))
-    (item part : FilterTree) (at : ℕ) (least : Bool) (text : List ℕ) → item ≡ filter_at at (sort least text part)
+pub sort_keys : {A : Type 0} (f : A → List (Option ℤ)) (tree : SearchedTree) (asked : List Bool) (old new : List A) (row : List (Option ℤ)) (item part : FilterTree) → IsSort item part
     → map f new ≡ map f old ++ row ∷ [] → row ≡ key_row_of tree asked part → map f new ≡ map f old ++ map (key_row_of tree asked) (item_numbers item)
-sort_keys f tree asked old new row item part at least text is more is_row =
-    more ∙ ap (λ r. map f old ++ r ∷ []) is_row ∙ ap (λ g. map f old ++ map (key_row_of tree asked) (item_numbers g)) (sym is)
+sort_keys f tree asked old new row item part sorts more is_row =
+    more ∙ ap (λ r. map f old ++ r ∷ []) is_row ∙ ap (λ g. map f old ++ map (key_row_of tree asked) (item_numbers g)) (sym sorts.is)
 
 -- another item
 pub item_each : (left later : List Bool) (c : FilterColumn) (v : ℕ → Value) → IsColumn c left v → IsNarrowed left c true later → (n : ℕ) → is_live later n ≡ (is_live left n && holds (v n))

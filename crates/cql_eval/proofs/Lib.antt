@@ -7,3 +7,4 @@ mod ElsewhereCut
 mod HereLaw
 pub mod HitsLaw
 pub mod SortsLaw
+mod Trying

@@ -1,9 +1,9 @@
 -- The sort items of a query, which are asked after all others.
-use Rattle.std.proofs.Common.{◌≡◌, ℕ, ◌+◌, ◌<◌, ◌≤◌, ◌&&◌, Bool, true, false, List, [], ◌++◌, length, take, drop, get_or, refl, sym, ap, ◌∙◌, subst}
+use Rattle.std.proofs.Common.{◌≡◌, ℕ, ◌+◌, ◌≤◌, ◌&&◌, Bool, true, false, List, [], length, take, refl, sym, ap, ◌∙◌, subst}
 use Rattle.std.specs.Prelude.{is_some}
 use Rattle.cq_position.specs.Search.{SearchedTree}
 use Rattle.cql_syntax.specs.Meaning.{Names, value}
-use Rattle.cql_syntax.specs.Trees.{FilterTree, filter_at, FilterTrees, sort}
+use Rattle.cql_syntax.specs.Trees.{FilterTree, FilterTrees}
 use Rattle.cql_syntax.specs.TreeOf.{filter_tree, filter_trees}
 use Rattle.cql_syntax.specs.Values.{Value, amount}
 use Rattle.cql_syntax.specs.declared.tree.Filter.{Filter}
@@ -11,10 +11,10 @@ use Rattle.cql_columns.specs.Columns.{is_live, shown, AreAsked, IsColumn, IsNumb
 use Rattle.cql_columns.specs.Costs.{filters_cost}
 use Rattle.cql_columns.specs.declared.filter_column.FilterColumn.{FilterColumn}
 use Rattle.cql_columns.proofs.Filling.{both_left, part_asked}
-use Rattle.cql_columns.proofs.Keeping.{written}
 use Rattle.cql_pruning.specs.Classes.{form_class, is_of, is_before, is_so_if, are_so, cost_of, IsLeft}
-use Rattle.cql_eval.proofs.HitsLaw.{ItemsSoFar}
-use Rattle.cql_pruning.proofs.ClassLaw.{is_left_then, is_left_same, so_begun, so_more, so_whole, so_next, so_all, cost_next, cost_all}
+use Rattle.cql_eval.proofs.HitsLaw.{IsSort, ItemsSoFar}
+use Rattle.cql_pruning.proofs.ClassLaw.{InPlace, left_after, after_is, is_left_then, is_left_same, so_begun, so_more, so_whole, so_next, so_all, cost_next, cost_all}
+use Rattle.cql_pruning.proofs.Placing.{Placed}
 
 and_true : (b : Bool) → b ≡ (b && true)
 and_true true = refl
@@ -35,22 +35,19 @@ sorted_begun tree all given left e fs xs is none had =
     (λ n. and_true (are_so (is_before 5) tree [] true fs n) ∙ ap (λ b. are_so (is_before 5) tree [] true fs n && b) (sym (so_begun (is_of 5) tree [] true xs n)))
     (subst (λ l. IsLeft tree l (are_so (is_before 5) tree [] true fs) left) is (subst (λ names. IsLeft tree given (are_so (is_before 5) tree names true fs) left) none had))
 
-pub sorted_more : (tree : SearchedTree) (all left given new : List Bool) (fs : FilterTrees) (xs : List Filter) (i : ℕ) (f : Filter) (len : ℕ) → i < length xs → f ≡ get_or xs i f
-    → len ≡ length new → given ≡ left → IsLeft tree all (sorted_so tree fs xs i) left → IsLeft tree given (is_so_if (is_of 5) tree [] true (filter_tree f)) new
-    → IsLeft tree all (sorted_so tree fs xs (i + 1)) (take len (new ++ drop (length new) left))
-sorted_more tree all left given new fs xs i f len below at count is had asked =
-    let one = is_so_if (is_of 5) tree [] true (filter_tree f) in
-    subst (IsLeft tree all (sorted_so tree fs xs (i + 1))) (sym (written len new left count))
-    (is_left_then tree all left new (sorted_so tree fs xs i) one (sorted_so tree fs xs (i + 1)) had (subst (λ l. IsLeft tree l one new) is asked)
-    (λ n. ap (λ b. are_so (is_before 5) tree [] true fs n && b) (so_more (is_of 5) tree [] true xs i f n below at)
-    ∙ sym (and_assoc (are_so (is_before 5) tree [] true fs n) (are_so (is_of 5) tree [] true (filter_trees (take i xs)) n) (one n))))
+pub sorted_more : (tree : SearchedTree) (all : List Bool) (w : InPlace) (fs : FilterTrees) (x : Placed) → IsLeft tree all (sorted_so tree fs x.items x.place) w.left
+    → IsLeft tree w.given (is_so_if (is_of 5) tree [] true (filter_tree x.filter)) w.later → IsLeft tree all (sorted_so tree fs x.items (x.place + 1)) (left_after w)
+sorted_more tree all w fs x had asked =
+    let one = is_so_if (is_of 5) tree [] true (filter_tree x.filter) in
+    subst (IsLeft tree all (sorted_so tree fs x.items (x.place + 1))) (sym (after_is w))
+    (is_left_then tree all w.left w.later (sorted_so tree fs x.items x.place) one (sorted_so tree fs x.items (x.place + 1)) had (subst (λ l. IsLeft tree l one w.later) w.same asked)
+    (λ n. ap (λ b. are_so (is_before 5) tree [] true fs n && b) (so_more (is_of 5) tree [] true x.items x.place x.filter n x.low x.is)
+    ∙ sym (and_assoc (are_so (is_before 5) tree [] true fs n) (are_so (is_of 5) tree [] true (filter_trees (take x.place x.items)) n) (one n))))
 
 -- the nodes that are left were there
-pub sorted_within : (tree : SearchedTree) (left given new : List Bool) (test : ℕ → Bool) (len : ℕ) → len ≡ length new → given ≡ left → IsLeft tree given test new
-    → (n : ℕ) → is_live (take len (new ++ drop (length new) left)) n ≡ true → is_live left n ≡ true
-sorted_within tree left given new test len count is asked n l =
-    ap (λ x. is_live x n) (sym is)
-    ∙ both_left (is_live given n) (test n) (sym (asked.each n) ∙ ap (λ x. is_live x n) (sym (written len new left count)) ∙ l)
+pub sorted_within : (tree : SearchedTree) (w : InPlace) (test : ℕ → Bool) → IsLeft tree w.given test w.later → (n : ℕ) → is_live (left_after w) n ≡ true → is_live w.left n ≡ true
+sorted_within tree w test asked n l =
+    ap (λ y. is_live y n) (sym w.same) ∙ both_left (is_live w.given n) (test n) (sym (asked.each n) ∙ ap (λ y. is_live y n) (sym (after_is w)) ∙ l)
 
 pub sorted_items : (tree : SearchedTree) (all left : List Bool) (fs : FilterTrees) (xs : List Filter) (i : ℕ) → length xs ≤ i → filter_trees xs ≡ fs
     → IsLeft tree all (sorted_so tree fs xs i) left → ItemsSoFar tree all xs i left
@@ -68,13 +65,13 @@ sorted_cost nodes xs fs is =
     ap (λ gs. cost_of (is_before 5) nodes fs + cost_of (is_of 5) nodes gs) is ∙ sym (cost_next nodes 5 fs) ∙ cost_all nodes fs
 
 -- one sort item
-pub sorted_one : (tree : SearchedTree) (live left : List Bool) (c : FilterColumn) (f part : FilterTree) (at : ℕ) (least : Bool) (text : List ℕ) → f ≡ filter_at at (sort least text part)
+pub sorted_one : (tree : SearchedTree) (live left : List Bool) (c : FilterColumn) (f part : FilterTree) → IsSort f part
     → AreAsked tree live → IsColumn c live (value tree [] [] part) → IsNumbered live c left → IsLeft tree live (is_so_if (is_of 5) tree [] true f) left
 unfolding value form_class
-sorted_one tree live left c f part at least text is asked column numbered = record {
+sorted_one tree live left c f part sorts asked column numbered = record {
   asked = part_asked tree live left (λ n. is_some (amount (shown c n))) asked numbered.count numbered.each;
   each = λ n. numbered.each n ∙ by (is_live live n) (shown c n) (value tree [] [] part n) (λ l. column n l)
-      ∙ ap (λ g. is_live live n && is_so_if (is_of 5) tree [] true g n) (sym is);
+      ∙ ap (λ g. is_live live n && is_so_if (is_of 5) tree [] true g n) (sym sorts.is);
 }
   where
     by : (b : Bool) (x y : Value) → (b ≡ true → x ≡ y) → (b && is_some (amount x)) ≡ (b && is_some (amount y))

@@ -17,6 +17,7 @@ use Rattle.cql_syntax.specs.declared.tree.Term.{Term}
 use Rattle.cql_pruning.specs.Covers.{AreCut, MayHave, MayHold}
 use Rattle.cql_pruning.specs.Ever.{AreEver}
 use Rattle.cql_pruning.proofs.CoverSome.{AddedFor}
+use Rattle.cql_eval.proofs.Trying.{tried}
 use Rattle.cql_eval.proofs.evaluate.+evaluate.Given as goal
 
 abbrev pub invariant-chains::left_by-loop-class : goal.invariant-chains::left_by-loop-class
@@ -102,8 +103,7 @@ invariant-covers::cover_each-loop-part g l = record {
 
 abbrev pub invariant-cover_some::cover_some-loop-part : goal.invariant-cover_some::cover_some-loop-part
 invariant-cover_some::cover_some-loop-part g l = record {
-  added : AddedFor (tree_in l.trial.scope.now) l.trial.live.now l.trial.opened.now l.trial.scope.now.names.now l.trial.name.now l.part-items
-      l.part-index l.sets l.initial.kept.items l.kept.items;
+  added : AddedFor (tried l.trial) l.part-items l.part-index l.sets l.initial.kept.items l.kept.items;
   count : length l.kept.items ≡ length l.trial.live.now;
   cost : l.steps ≡ l.fn.steps;
   flat : (i : ℕ) (f : Filter) → i < length l.part-items → f ≡ get_or l.part-items i f → IsFlat (filter_tree f);

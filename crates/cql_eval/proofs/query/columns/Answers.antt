@@ -20,9 +20,15 @@ loop-item-init g c = record {
 
 pub loop-item-preserved : goal.loop-item-preserved
 loop-item-preserved g c = record {
-  items = items_more
-      (searched_tree c.args.game.now c.args.query.now.variations) c.in_ok-all.all.items c.as_slice-item-items.result.now c.loop-item.item-index c.item-item.result c.loop-item.left.items _
-      c.in_ok-left-2.left.items c.loop-item-test.true c.item-item.is (search rules) c.in_ok-left-2.ensures.asked c.in_ok-left-2.ensures.each
+  items = items_more (searched_tree c.args.game.now c.args.query.now.variations) c.in_ok-all.all.items
+      (record {
+        items = c.as_slice-item-items.result.now;
+        place = c.loop-item.item-index;
+        filter = c.item-item.result;
+        low = c.loop-item-test.true;
+        is = c.item-item.is;
+      })
+      c.loop-item.left.items _ c.in_ok-left-2.left.items (search rules) c.in_ok-left-2.ensures.asked c.in_ok-left-2.ensures.each
       c.loop-item.invariant.items;
   keys = made_more (key_column (searched_tree c.args.game.now c.args.query.now.variations)) (map (λ row. row.items) c.loop-item.keys.items) (map (λ row. row.items) c.narrowed_by.new.keys.items)
       c.as_slice-item-items.result.now c.loop-item.item-index c.item-item.result c.loop-item-test.true c.item-item.is

@@ -1,10 +1,9 @@
 use Rattle.std.proofs.Common.{[], ap, sym, subst}
 use Rattle.cql_syntax.specs.Meaning.{value}
 use Rattle.cql_syntax.specs.TreeOf.{filter_tree, form_tree}
-use Rattle.cql_syntax.specs.Trees.{filter_at}
 use Rattle.cql_columns.specs.Scopes.{tree_in}
 use Rattle.cql_columns.specs.Columns.{IsColumn}
-use Rattle.cql_eval.proofs.HitsLaw.{item_each, row_is, sort_asked, sort_form, sort_each, sort_keys}
+use Rattle.cql_eval.proofs.HitsLaw.{item_each, row_is, sort_asked, is_sort, sort_each, sort_keys}
 use Rattle.cql_eval.proofs.query.narrowed_by.Goals as goal
 
 pub returns-in_ok-later-in-Sort-clause-asked : goal.returns-in_ok-later-in-Sort-clause-asked
@@ -14,8 +13,7 @@ returns-in_ok-later-in-Sort-clause-asked g c =
 pub returns-in_ok-later-in-Sort-clause-each : goal.returns-in_ok-later-in-Sort-clause-each
 returns-in_ok-later-in-Sort-clause-each g c =
     sort_each (tree_in c.args.scope.now) c.args.asked.now c.args.left.now c.in_ok-later-in-Sort.field-0.items c.in_ok-column-in-Sort.column (filter_tree c.args.item.now)
-    (filter_tree c.deref.result.now) c.args.item.now.at _ _
-    (ap (filter_at c.args.item.now.at) (sort_form _ _ _ _ _ (ap form_tree c.in-Sort.is) (ap filter_tree (sym c.deref.ensures))))
+    (filter_tree c.deref.result.now) (is_sort c.args.item.now _ _ _ _ (ap form_tree c.in-Sort.is) (ap filter_tree (sym c.deref.ensures)))
     c.requires.within
     (subst (λ e. IsColumn c.in_ok-column-in-Sort.column c.args.asked.now (value (tree_in c.args.scope.now) [] e (filter_tree c.deref.result.now))) c.requires.names
     c.in_ok-column-in-Sort.ensures.value)
@@ -24,8 +22,7 @@ returns-in_ok-later-in-Sort-clause-each g c =
 pub returns-in_ok-later-in-Sort-clause-keys : goal.returns-in_ok-later-in-Sort-clause-keys
 returns-in_ok-later-in-Sort-clause-keys g c =
     sort_keys (λ row. row.items) (tree_in c.args.scope.now) c.args.asked.now _ _ _ (filter_tree c.args.item.now) (filter_tree c.deref.result.now)
-    c.args.item.now.at _ _
-    (ap (filter_at c.args.item.now.at) (sort_form _ _ _ _ _ (ap form_tree c.in-Sort.is) (ap filter_tree (sym c.deref.ensures))))
+    (is_sort c.args.item.now _ _ _ _ (ap form_tree c.in-Sort.is) (ap filter_tree (sym c.deref.ensures)))
     c.in_ok-push_row-in-Sort.ensures
     (row_is (tree_in c.args.scope.now) c.args.asked.now c.in_ok-column-in-Sort.column (filter_tree c.deref.result.now) c.requires.asked
     (subst (λ e. IsColumn c.in_ok-column-in-Sort.column c.args.asked.now (value (tree_in c.args.scope.now) [] e (filter_tree c.deref.result.now))) c.requires.names

@@ -78,9 +78,16 @@ chains::left_by-loop-class-preserved g t c = record {
   evers = ever_later (tree_in c.args.scope.now) c.loop-class.left.items c.deref_mut.result.now c.ask_class.new.left _ c.as_slice-evers.result.now c.loop-class.left.len
       (omega (arith, c.ask_class.ensures.len, c.deref_mut.ensures.len)) c.deref_mut.ensures.value c.in_ok-ask_class.ensures.left c.loop-class.invariant.evers;
   left = class_left (tree_in c.args.scope.now) c.args.scope.now.names.now c.args.want c.loop-class.class
-      (filters_tree c.args.filters.now) c.args.live.now c.loop-class.left.items c.deref_mut.result.now c.ask_class.new.left
-      c.loop-class.left.len (omega (arith, c.ask_class.ensures.len, c.deref_mut.ensures.len)) c.deref_mut.ensures.value c.loop-class.invariant.left
-      c.in_ok-ask_class.ensures.left;
+      (filters_tree c.args.filters.now) c.args.live.now
+      (record {
+        left = c.loop-class.left.items;
+        given = c.deref_mut.result.now;
+        later = c.ask_class.new.left;
+        len = c.loop-class.left.len;
+        count = omega (arith, c.ask_class.ensures.len, c.deref_mut.ensures.len);
+        same = c.deref_mut.ensures.value;
+      })
+      c.loop-class.invariant.left c.in_ok-ask_class.ensures.left;
   cost = omega (
     arith,
     c.loop-class.invariant.cost,
@@ -141,9 +148,15 @@ chains::ask_class-loop-filter-preserved g t c = record {
       (λ n. so_more (is_of c.args.class)
       (tree_in c.args.scope.now) c.args.scope.now.names.now c.args.asking.now.want c.as_slice-filter-items.result.now c.loop-filter.filter-index
       c.filter-item.result n c.loop-filter-test.true c.filter-item.is);
-  cost = class_cost_more (is_of c.args.class) (searched_len (tree_in c.args.scope.now)) c.as_slice-filter-items.result.now c.loop-filter.filter-index c.filter-item.result
-      _ c.loop-filter.steps c.ask_if.new.steps
-      c.loop-filter-test.true c.filter-item.is c.loop-filter.invariant.cost c.ask_if.ensures.cost;
+  cost = class_cost_more (is_of c.args.class) (searched_len (tree_in c.args.scope.now))
+      (record {
+        items = c.as_slice-filter-items.result.now;
+        place = c.loop-filter.filter-index;
+        filter = c.filter-item.result;
+        low = c.loop-filter-test.true;
+        is = c.filter-item.is;
+      })
+      _ c.loop-filter.steps c.ask_if.new.steps c.loop-filter.invariant.cost c.ask_if.ensures.cost;
   rises = omega (arith, c.loop-filter.invariant.rises, c.ask_if.ensures.rises);
   flat = c.loop-filter.invariant.flat;
 }
@@ -158,10 +171,15 @@ chains::ask_class-returns-clause-left g t c =
 
 pub chains::ask_class-returns-in_err-ask_if-clause-cost : goal.chains::ask_class-returns-in_err-ask_if-clause-cost
 chains::ask_class-returns-in_err-ask_if-clause-cost g t c =
-    class_cost_within (is_of c.args.class)
-    (searched_len (tree_in c.args.scope.now)) c.as_slice-filter-items.result.now c.loop-filter.filter-index c.filter-item.result _ c.loop-filter.steps c.ask_if.new.steps
-    (filters_tree c.args.filters.now)
-    c.loop-filter-test.true c.filter-item.is c.loop-filter.invariant.cost c.ask_if.ensures.cost c.as_slice-filter-items.ensures.tree
+    class_cost_within (is_of c.args.class) (searched_len (tree_in c.args.scope.now))
+    (record {
+      items = c.as_slice-filter-items.result.now;
+      place = c.loop-filter.filter-index;
+      filter = c.filter-item.result;
+      low = c.loop-filter-test.true;
+      is = c.filter-item.is;
+    })
+    _ c.loop-filter.steps c.ask_if.new.steps (filters_tree c.args.filters.now) c.loop-filter.invariant.cost c.ask_if.ensures.cost c.as_slice-filter-items.ensures.tree
 
 pub chains::ask_if-returns-then-not-is_of_class-clause-left : goal.chains::ask_if-returns-then-not-is_of_class-clause-left
 chains::ask_if-returns-then-not-is_of_class-clause-left g t c =

@@ -17,6 +17,7 @@ use Rattle.cql_operators.specs.Elsewhere.{AreLookedAt, AreBroughtBack}
 use Rattle.cql_pruning.specs.Covers.{AreCut, AreJoined, HasSome, MayHave, MayHold}
 use Rattle.cql_pruning.proofs.CoverSome.{AddedFor, added_all, added_by, added_more, added_none, or_cut, some_cut}
 use Rattle.cql_eval.proofs.CoverFree.{free_cut, free_set_cut, no_steps, related_cut}
+use Rattle.cql_eval.proofs.Trying.{tried}
 use Rattle.cql_eval.proofs.CoverMoves.{asks_free, free_parts_cut}
 use Rattle.cql_pruning.proofs.PairLaw.{paired_cut}
 use Rattle.cql_pruning.proofs.CoverLaw.{cut_same, cut_then}
@@ -27,8 +28,7 @@ use Rattle.cql_eval.proofs.evaluate.+evaluate.Goals as goal
 pub covers::cover-returns-then-is_own-clause-cut : goal.covers::cover-returns-then-is_own-clause-cut
 covers::cover-returns-then-is_own-clause-cut g t c =
     on_ok_weaker c.cover_set.result
-    (λ cut. own_cut (tree_in c.args.trial.now.scope.now) c.args.trial.now.live.now c.args.trial.now.opened.now c.args.trial.now.scope.now.names.now
-    c.args.trial.now.name.now (filter_tree c.args.asked.now)
+    (λ cut. own_cut (tried c.args.trial.now) (filter_tree c.args.asked.now)
     c.args.sets.now c.cover_set.new.sets (c.is_own.ensures c.if-is_own.true) cut)
     c.cover_set.ensures.cut
 
@@ -39,8 +39,7 @@ covers::cover-returns-then-is_or-clause-cut g t c =
     (fun_ext (λ e. chain_form (tree_in c.args.trial.now.scope.now) e (filter_tree c.args.asked.now) c.args.asked.now.at c.in-Chain.chain (filters_tree c.in-Chain.parts)
     (ap (λ form. filter_at c.args.asked.now.at (form_tree form)) c.in-Chain.is)))
     (on_ok_weaker c.cover_some.result
-    (λ cut. or_cut (tree_in c.args.trial.now.scope.now) c.args.trial.now.live.now c.args.trial.now.opened.now c.args.trial.now.scope.now.names.now
-    c.args.trial.now.name.now c.in-Chain.chain (filters_tree c.in-Chain.parts)
+    (λ cut. or_cut (tried c.args.trial.now) c.in-Chain.chain (filters_tree c.in-Chain.parts)
     c.args.sets.now c.cover_some.new.sets (c.is_or.ensures c.if-is_or.true) cut)
     c.cover_some.ensures.cut)
 
@@ -51,8 +50,7 @@ covers::cover-returns-else-not-is_all-clause-cut g t c =
     (fun_ext (λ e. chain_form (tree_in c.args.trial.now.scope.now) e (filter_tree c.args.asked.now) c.args.asked.now.at c.in-Chain.chain (filters_tree c.in-Chain.parts)
     (ap (λ form. filter_at c.args.asked.now.at (form_tree form)) c.in-Chain.is)))
     (on_ok_weaker c.cover_all.result
-    (λ cut. all_cut (tree_in c.args.trial.now.scope.now) c.args.trial.now.live.now c.args.trial.now.opened.now c.args.trial.now.scope.now.names.now
-    c.args.trial.now.name.now c.in-Chain.chain (filters_tree c.in-Chain.parts)
+    (λ cut. all_cut (tried c.args.trial.now) c.in-Chain.chain (filters_tree c.in-Chain.parts)
     c.args.sets.now c.cover_all.new.sets (c.is_all.ensures c.if-not-is_all.false) cut)
     c.cover_all.ensures.cut)
 
@@ -63,41 +61,32 @@ covers::cover_set-returns-else-not-is_intersection-clause-cut g t c =
     (fun_ext (λ e. chain_form (tree_in c.args.trial.now.scope.now) e (filter_tree c.args.asked.now) c.args.asked.now.at c.in-Chain.chain (filters_tree c.in-Chain.parts)
     (ap (λ form. filter_at c.args.asked.now.at (form_tree form)) c.in-Chain.is)))
     (on_ok_weaker c.cover_each.result
-    (λ cut. common_cut (tree_in c.args.trial.now.scope.now) c.args.trial.now.live.now c.args.trial.now.opened.now c.args.trial.now.scope.now.names.now
-    c.args.trial.now.name.now c.in-Chain.chain (filters_tree c.in-Chain.parts)
+    (λ cut. common_cut (tried c.args.trial.now) c.in-Chain.chain (filters_tree c.in-Chain.parts)
     c.args.sets.now c.cover_each.new.sets (c.is_intersection.ensures c.if-not-is_intersection.false) cut)
     c.cover_each.ensures.cut)
 
 pub covers::cover-returns-in-Played-clause-cut : goal.covers::cover-returns-in-Played-clause-cut
 covers::cover-returns-in-Played-clause-cut g t c =
     on_ok_weaker c.cover_played.result
-    (λ cut. played_cut (tree_in c.args.trial.now.scope.now) c.args.trial.now.live.now c.args.trial.now.opened.now c.args.trial.now.scope.now.names.now
-    c.args.trial.now.name.now (filter_tree c.args.asked.now)
+    (λ cut. played_cut (tried c.args.trial.now) (filter_tree c.args.asked.now)
     c.args.asked.now.at c.in-Played.played c.args.sets.now c.cover_played.new.sets (ap (λ form. filter_at c.args.asked.now.at (form_tree form)) c.in-Played.is)
     cut)
     c.cover_played.ensures.cut
 
 pub cover_moves::cover_played-returns-then-not-asks_without-clause-cut : goal.cover_moves::cover_played-returns-then-not-asks_without-clause-cut
 cover_moves::cover_played-returns-then-not-asks_without-clause-cut g t c =
-    let tree = tree_in c.args.trial.now.scope.now in
-    move_cut tree c.args.trial.now.live.now c.args.trial.now.opened.now c.args.trial.now.scope.now.names.now c.args.trial.now.name.now
-    c.args.played.now c.is_own_part-origin.result c.is_own_part-goal.result c.is_own_part-taken.result
+    move_cut (tried c.args.trial.now) c.args.played.now c.is_own_part-origin.result c.is_own_part-goal.result c.is_own_part-taken.result
     c.args.sets.now c.cut_moves.new.sets c.is_own_part-origin.ensures c.is_own_part-goal.ensures c.is_own_part-taken.ensures c.cut_moves.ensures
 
 pub cover_moves::cover_played-returns-clause-cut : goal.cover_moves::cover_played-returns-clause-cut
 cover_moves::cover_played-returns-clause-cut g t c =
-    let tree = tree_in c.args.trial.now.scope.now in
-    let asks = c.in_ok-parts.ensures.asks in
     on_ok_weaker c.cut_unmet.result
     (λ cut. cut_then c.args.trial.now.live.now _ c.args.sets.now c.cut_moves.new.sets c.cut_unmet.new.sets
-    (move_cut tree c.args.trial.now.live.now c.args.trial.now.opened.now c.args.trial.now.scope.now.names.now c.args.trial.now.name.now
-    c.args.played.now c.is_own_part-origin.result c.is_own_part-goal.result c.is_own_part-taken.result
+    (move_cut (tried c.args.trial.now) c.args.played.now c.is_own_part-origin.result c.is_own_part-goal.result c.is_own_part-taken.result
     c.args.sets.now c.cut_moves.new.sets c.is_own_part-origin.ensures c.is_own_part-goal.ensures c.is_own_part-taken.ensures c.cut_moves.ensures)
-    (free_parts_cut tree c.args.trial.now.live.now c.as_slice-some.result.now asks.wide c.args.trial.now.opened.now
-    c.args.trial.now.scope.now.names.now c.args.trial.now.name.now c.args.played.now
-    c.in_ok-parts.parts.origin c.in_ok-goal.goal c.in_ok-parts.parts.taken c.in_ok-parts.parts.promoted c.cut_moves.new.sets c.cut_unmet.new.sets
-    (subst (HasSome tree c.args.trial.now.live.now c.cut_moves.new.sets) (sym c.as_slice-some.ensures.value) c.in_ok-some.ensures)
-    asks.before_live asks.origin c.in_ok-goal.ensures.asks asks.taken asks.promoted cut))
+    (free_parts_cut (tried c.args.trial.now) c.as_slice-some.result.now c.args.played.now c.in_ok-parts.parts c.in_ok-goal.goal c.cut_moves.new.sets c.cut_unmet.new.sets
+    (subst (HasSome (tree_in c.args.trial.now.scope.now) c.args.trial.now.live.now c.cut_moves.new.sets) (sym c.as_slice-some.ensures.value) c.in_ok-some.ensures)
+    c.in_ok-parts.ensures.asks c.in_ok-goal.ensures.asks cut))
     c.cut_unmet.ensures.cut
 
 pub cover_moves::free_columns-returns-clause-asks : goal.cover_moves::free_columns-returns-clause-asks
@@ -133,10 +122,14 @@ covers::cover_class-loop-part-init g t c = record {
 
 pub covers::cover_class-loop-part-preserved : goal.covers::cover_class-loop-part-preserved
 covers::cover_class-loop-part-preserved g t c = record {
-  cut = one_of_all (tree_in c.args.trial.now.scope.now) c.args.trial.now.live.now c.args.trial.now.opened.now c.args.trial.now.scope.now.names.now
-      c.args.trial.now.name.now c.as_slice-part-items.result.now c.loop-part.part-index
-      c.part-item.result (filters_tree c.args.parts.now) c.args.sets.now c.loop-part.sets c.cover_if.new.sets c.loop-part-test.true c.part-item.is
-      c.as_slice-part-items.ensures.tree
+  cut = one_of_all (tried c.args.trial.now) (record {
+    items = c.as_slice-part-items.result.now;
+    place = c.loop-part.part-index;
+    filter = c.part-item.result;
+    low = c.loop-part-test.true;
+    is = c.part-item.is;
+  })
+      (filters_tree c.args.parts.now) c.args.sets.now c.loop-part.sets c.cover_if.new.sets c.as_slice-part-items.ensures.tree
       c.loop-part.invariant.cut c.in_ok-cover_if.ensures.cut;
   cost = c.cover_if.ensures.cost ∙ c.loop-part.invariant.cost;
   flat = c.loop-part.invariant.flat;
@@ -151,10 +144,14 @@ covers::cover_each-loop-part-init g t c = record {
 
 pub covers::cover_each-loop-part-preserved : goal.covers::cover_each-loop-part-preserved
 covers::cover_each-loop-part-preserved g t c = record {
-  cut = one_of_sets (tree_in c.args.trial.now.scope.now) c.args.trial.now.live.now c.args.trial.now.opened.now c.args.trial.now.scope.now.names.now
-      c.args.trial.now.name.now c.as_slice-part-items.result.now c.loop-part.part-index
-      c.part-item.result (filters_tree c.args.parts.now) c.args.sets.now c.loop-part.sets c.cover_set.new.sets c.loop-part-test.true c.part-item.is
-      c.as_slice-part-items.ensures.tree
+  cut = one_of_sets (tried c.args.trial.now) (record {
+    items = c.as_slice-part-items.result.now;
+    place = c.loop-part.part-index;
+    filter = c.part-item.result;
+    low = c.loop-part-test.true;
+    is = c.part-item.is;
+  })
+      (filters_tree c.args.parts.now) c.args.sets.now c.loop-part.sets c.cover_set.new.sets c.as_slice-part-items.ensures.tree
       c.loop-part.invariant.cut c.in_ok-cover_set.ensures.cut;
   cost = c.cover_set.ensures.cost ∙ c.loop-part.invariant.cost;
   flat = c.loop-part.invariant.flat;
@@ -163,23 +160,29 @@ covers::cover_each-loop-part-preserved g t c = record {
 pub covers::cover_set-returns-in_ok-cover_set-in-Pair-clause-cut : goal.covers::cover_set-returns-in_ok-cover_set-in-Pair-clause-cut
 covers::cover_set-returns-in_ok-cover_set-in-Pair-clause-cut g t c =
     on_ok_weaker c.cover_related.result
-    (λ cut. pair_cut (tree_in c.args.trial.now.scope.now) c.args.trial.now.live.now c.args.trial.now.opened.now c.args.trial.now.scope.now.names.now
-    c.args.trial.now.name.now (filter_tree c.args.asked.now)
-    (filter_tree c.deref.result.now) (filter_tree c.deref-in-Pair.result.now) c.args.asked.now.at c.in-Pair.pair c.args.sets.now c.cover_set.new.sets c.cover_related.new.sets
-    (ap (λ form. filter_at c.args.asked.now.at (form_tree form)) c.in-Pair.is
-    ∙ sym (ap₂ (λ p q. filter_at c.args.asked.now.at (pair c.in-Pair.pair (filter_tree p) (filter_tree q))) c.deref.ensures c.deref-in-Pair.ensures))
-    (c.is_attack.ensures c.if-not-is_attack.false) c.in_ok-cover_set-in-Pair.ensures.cut cut)
+    (λ cut. pair_cut (tried c.args.trial.now) (filter_tree c.args.asked.now) c.in-Pair.pair
+    (filter_tree c.deref.result.now) (filter_tree c.deref-in-Pair.result.now) c.args.sets.now c.cover_set.new.sets c.cover_related.new.sets
+    (record {
+      at = c.args.asked.now.at;
+      is = ap (λ form. filter_at c.args.asked.now.at (form_tree form)) c.in-Pair.is
+          ∙ sym (ap₂ (λ p q. filter_at c.args.asked.now.at (pair c.in-Pair.pair (filter_tree p) (filter_tree q))) c.deref.ensures c.deref-in-Pair.ensures);
+      which = c.is_attack.ensures c.if-not-is_attack.false;
+    })
+    c.in_ok-cover_set-in-Pair.ensures.cut cut)
     c.cover_related.ensures.cut
 
 pub covers::cover-returns-else-not-is_own-clause-cut : goal.covers::cover-returns-else-not-is_own-clause-cut
 covers::cover-returns-else-not-is_own-clause-cut g t c =
     on_ok_weaker c.cover_related.result
-    (λ cut. turned_cut (tree_in c.args.trial.now.scope.now) c.args.trial.now.live.now c.args.trial.now.opened.now c.args.trial.now.scope.now.names.now
-    c.args.trial.now.name.now (filter_tree c.args.asked.now)
-    (filter_tree c.deref-in-Pair-2.result.now) (filter_tree c.deref-in-Pair.result.now) c.args.asked.now.at c.in-Pair.pair c.turned.result c.args.sets.now c.cover_related.new.sets
-    (ap (λ form. filter_at c.args.asked.now.at (form_tree form)) c.in-Pair.is
-    ∙ sym (ap₂ (λ p q. filter_at c.args.asked.now.at (pair c.in-Pair.pair (filter_tree p) (filter_tree q))) c.deref-in-Pair-2.ensures c.deref-in-Pair.ensures))
-    (c.is_attack.ensures c.if-not-is_attack.false) c.turned.ensures.attacks c.turned.ensures.attacked (c.is_own-in-Pair.ensures c.if-not-is_own.false)
+    (λ cut. turned_cut (tried c.args.trial.now) (filter_tree c.args.asked.now) c.in-Pair.pair c.turned.result
+    (filter_tree c.deref-in-Pair-2.result.now) (filter_tree c.deref-in-Pair.result.now) c.args.sets.now c.cover_related.new.sets
+    (record {
+      at = c.args.asked.now.at;
+      is = ap (λ form. filter_at c.args.asked.now.at (form_tree form)) c.in-Pair.is
+          ∙ sym (ap₂ (λ p q. filter_at c.args.asked.now.at (pair c.in-Pair.pair (filter_tree p) (filter_tree q))) c.deref-in-Pair-2.ensures c.deref-in-Pair.ensures);
+      which = c.is_attack.ensures c.if-not-is_attack.false;
+    })
+    (record { attacks = c.turned.ensures.attacks; attacked = c.turned.ensures.attacked }) (c.is_own-in-Pair.ensures c.if-not-is_own.false)
     cut)
     c.cover_related.ensures.cut
 
@@ -191,8 +194,7 @@ cover_squares::cover_square-returns-in_ok-cover_inner-in-Square-clause-cut g t c
     let squares = filter_tree c.deref-in-Square.result.now in
     let asked = c.args.asked.now in
     on_ok_weaker c.cover_pair.result
-    (λ cut. square_cut tree c.args.trial.now.live.now c.args.trial.now.opened.now c.args.trial.now.scope.now.names.now c.args.trial.now.name.now
-    (filter_tree asked) squares (filter_tree c.deref.result.now) asked.at every inner
+    (λ cut. square_cut (tried c.args.trial.now) (filter_tree asked) squares (filter_tree c.deref.result.now) asked.at every inner
     c.args.sets.now c.cover_pair.new.sets
     (ap (λ form. filter_at asked.at (form_tree form)) c.in-Square.is ∙ sym (square_same asked.at every _ _ _ _ _ _ c.as_slice-inner.ensures
     c.deref-in-Square.ensures c.deref.ensures))
@@ -209,40 +211,40 @@ cover_squares::cover_square-returns-in_ok-cover_inner-in-Square-clause-cut g t c
 
 pub cover_squares::cover_inner-returns-clause-cut : goal.cover_squares::cover_inner-returns-clause-cut
 cover_squares::cover_inner-returns-clause-cut g t c =
-    inner_cut (tree_in c.args.trial.now.scope.now) c.args.trial.now.live.now c.args.trial.now.opened.now _ c.args.trial.now.scope.now.names.now
-    c.args.trial.now.name.now c.args.inner.now (filter_tree c.args.part.now)
-    false c.args.sets.now c.cover.new.sets refl c.requires.other
+    inner_cut (tried c.args.trial.now) _ c.args.inner.now (filter_tree c.args.part.now) c.args.sets.now c.cover.new.sets c.requires.other
     (c.in_ok-wider.ensures ∙ ap (λ k. (c.args.inner.now, k) ∷ c.args.trial.now.opened.now) c.new.ensures) c.in_ok-cover.ensures.cut
 
 pub cover_squares::cover_pair-returns-clause-cut : goal.cover_squares::cover_pair-returns-clause-cut
 cover_squares::cover_pair-returns-clause-cut g t c =
-    let tree = tree_in c.args.trial.now.scope.now in
-    paired_cut tree c.args.trial.now.live.now c.as_slice-some.result.now c.args.trial.now.opened.now c.args.trial.now.scope.now.names.now
-    c.args.trial.now.name.now c.args.inner.now (filter_tree c.args.squares.now) (filter_tree c.args.part.now)
-    false c.in_ok-column.column c.args.sets.now c.cut_paired.new.sets (refl, c.requires.other)
-    (subst (HasSome tree c.args.trial.now.live.now c.args.sets.now) (sym c.as_slice-some.ensures.value) c.in_ok-some.ensures)
-    (c.is_free.ensures c.if-not-is_free.false) c.in_ok-column.ensures.value c.cut_paired.ensures.cut
+    paired_cut (tried c.args.trial.now) c.as_slice-some.result.now c.args.inner.now (filter_tree c.args.squares.now) (filter_tree c.args.part.now)
+    c.in_ok-column.column c.args.sets.now c.cut_paired.new.sets c.requires.other
+    (subst (HasSome (tree_in c.args.trial.now.scope.now) c.args.trial.now.live.now c.args.sets.now) (sym c.as_slice-some.ensures.value) c.in_ok-some.ensures)
+    (record { free = c.is_free.ensures c.if-not-is_free.false; column = c.in_ok-column.ensures.value }) c.cut_paired.ensures.cut
 
 pub covers::cover_elsewhere-returns-clause-cut : goal.covers::cover_elsewhere-returns-clause-cut
 covers::cover_elsewhere-returns-clause-cut g t c =
-    elsewhere_cut (tree_in c.args.trial.now.scope.now) c.args.word c.args.trial.now.live.now c.as_slice-wide.result.now c.args.trial.now.opened.now
-    c.args.trial.now.scope.now.names.now c.args.trial.now.name.now
-    (λ e. value (tree_in c.args.trial.now.scope.now) [] e (filter_tree c.args.part.now)) c.any_squares.result c.in_ok-there.there.items
-    c.cover.new.sets c.in_ok-back.back.items
-    c.args.sets.now c.cut.new.sets (sym c.looks_elsewhere.ensures ∙ c.if-not-looks_elsewhere.false) c.requires.asked
-    (subst (AreLookedAt (tree_in c.args.trial.now.scope.now) c.args.word c.args.trial.now.live.now) (sym c.as_slice-wide.ensures.value) c.in_ok-wide.ensures)
-    c.any_squares.ensures c.in_ok-there.ensures
+    elsewhere_cut (tried c.args.trial.now) c.args.word (λ e. value (tree_in c.args.trial.now.scope.now) [] e (filter_tree c.args.part.now))
+    c.as_slice-wide.result.now c.in_ok-there.there.items c.cover.new.sets c.args.sets.now c.cut.new.sets c.requires.asked
+    (record {
+      sure = sym c.looks_elsewhere.ensures ∙ c.if-not-looks_elsewhere.false;
+      looked = subst (AreLookedAt (tree_in c.args.trial.now.scope.now) c.args.word c.args.trial.now.live.now) (sym c.as_slice-wide.ensures.value) c.in_ok-wide.ensures;
+      among = c.any_squares.result;
+      all = c.any_squares.ensures;
+      every = c.in_ok-there.ensures;
+    })
     (subst (λ old. AreCut c.as_slice-wide.result.now (MayHold c.args.trial.now.opened.now c.args.trial.now.scope.now.names.now c.args.trial.now.name.now
     (λ e. value (tree_in c.args.trial.now.scope.now) [] e (filter_tree c.args.part.now))) old c.cover.new.sets) c.deref_mut.ensures.value c.in_ok-cover.ensures.cut)
-    (subst (λ left. AreBroughtBack c.args.trial.now.scope.now.game.now.nodes c.args.word left c.in_ok-back.back.items)
-    (written_sets c.in_ok-there.there.len c.cover.new.sets c.in_ok-there.there.items (omega (arith, c.cover.ensures.len, c.deref_mut.ensures.len))) c.in_ok-back.ensures)
-    c.cut.ensures
+    (record {
+      back = c.in_ok-back.back.items;
+      brought = subst (λ left. AreBroughtBack c.args.trial.now.scope.now.game.now.nodes c.args.word left c.in_ok-back.back.items)
+          (written_sets c.in_ok-there.there.len c.cover.new.sets c.in_ok-there.there.items (omega (arith, c.cover.ensures.len, c.deref_mut.ensures.len))) c.in_ok-back.ensures;
+      cut = c.cut.ensures;
+    })
 
 pub covers::cover-returns-in-Unary-clause-cut : goal.covers::cover-returns-in-Unary-clause-cut
 covers::cover-returns-in-Unary-clause-cut g t c =
     on_ok_weaker c.cover_elsewhere.result
-    (λ cut. unary_cut (tree_in c.args.trial.now.scope.now) c.args.trial.now.live.now c.args.trial.now.opened.now c.args.trial.now.scope.now.names.now
-    c.args.trial.now.name.now (filter_tree c.args.asked.now)
+    (λ cut. unary_cut (tried c.args.trial.now) (filter_tree c.args.asked.now)
     (filter_tree c.deref.result.now) c.args.asked.now.at c.in-Unary.word c.args.sets.now c.cover_elsewhere.new.sets
     (ap (λ form. filter_at c.args.asked.now.at (form_tree form)) c.in-Unary.is
     ∙ sym (ap (λ p. filter_at c.args.asked.now.at (unary c.in-Unary.word (filter_tree p))) c.deref.ensures))
@@ -251,8 +253,7 @@ covers::cover-returns-in-Unary-clause-cut g t c =
 
 pub cover_some::cover_some-loop-part-init : goal.cover_some::cover_some-loop-part-init
 cover_some::cover_some-loop-part-init g t c = record {
-  added = added_none (tree_in c.args.trial.now.scope.now) c.args.trial.now.live.now c.args.trial.now.opened.now c.args.trial.now.scope.now.names.now
-      c.args.trial.now.name.now c.as_slice-part-items.result.now c.args.sets.now c.in_ok-kept.kept.items;
+  added = added_none (tried c.args.trial.now) c.as_slice-part-items.result.now c.args.sets.now c.in_ok-kept.kept.items;
   count = c.in_ok-kept.ensures;
   cost = refl;
   flat = λ i f h e. filter_flat c.as_slice-part-items.result.now i f (filters_tree c.args.parts.now) h e c.as_slice-part-items.ensures.tree c.requires.flat;
@@ -260,14 +261,18 @@ cover_some::cover_some-loop-part-init g t c = record {
 
 pub cover_some::cover_some-loop-part-preserved : goal.cover_some::cover_some-loop-part-preserved
 cover_some::cover_some-loop-part-preserved g t c =
-    let For = AddedFor (tree_in c.args.trial.now.scope.now) c.args.trial.now.live.now c.args.trial.now.opened.now c.args.trial.now.scope.now.names.now
-    c.args.trial.now.name.now c.as_slice-part-items.result.now in
+    let For = AddedFor (tried c.args.trial.now) c.as_slice-part-items.result.now in
     let same = written_sets c.loop-part.kept.len c.add_covered.new.kept c.loop-part.kept.items (omega (arith, c.add_covered.ensures.len, c.deref_mut.ensures.len)) in
     record {
       added = subst (For (c.loop-part.part-index + 1) c.args.sets.now c.in_ok-kept.kept.items) (sym same)
-          (added_more (tree_in c.args.trial.now.scope.now) c.args.trial.now.live.now c.args.trial.now.opened.now c.args.trial.now.scope.now.names.now
-          c.args.trial.now.name.now c.as_slice-part-items.result.now c.loop-part.part-index
-          c.part-item.result c.args.sets.now c.in_ok-kept.kept.items c.deref_mut.result.now c.add_covered.new.kept c.part-item.is c.loop-part-test.true
+          (added_more (tried c.args.trial.now) (record {
+            items = c.as_slice-part-items.result.now;
+            place = c.loop-part.part-index;
+            filter = c.part-item.result;
+            low = c.loop-part-test.true;
+            is = c.part-item.is;
+          })
+          c.args.sets.now c.in_ok-kept.kept.items c.deref_mut.result.now c.add_covered.new.kept
           (subst (For c.loop-part.part-index c.args.sets.now c.in_ok-kept.kept.items) (sym c.deref_mut.ensures.value) c.loop-part.invariant.added)
           c.in_ok-add_covered.ensures.added);
       count = ap length same ∙ c.add_covered.ensures.len ∙ ap length c.deref_mut.ensures.value ∙ c.loop-part.invariant.count;
@@ -279,8 +284,7 @@ pub cover_some::cover_some-returns-clause-cut : goal.cover_some::cover_some-retu
 cover_some::cover_some-returns-clause-cut g t c =
     some_cut c.args.trial.now.live.now (MayHold c.args.trial.now.opened.now c.args.trial.now.scope.now.names.now c.args.trial.now.name.now
     (λ e n. some_holds (values (tree_in c.args.trial.now.scope.now) [] e (filters_tree c.args.parts.now) n))) c.in_ok-kept.kept.items _ c.args.sets.now c.cut.new.sets
-    (added_all (tree_in c.args.trial.now.scope.now) c.args.trial.now.live.now c.args.trial.now.opened.now c.args.trial.now.scope.now.names.now
-    c.args.trial.now.name.now c.as_slice-part-items.result.now c.loop-part.part-index
+    (added_all (tried c.args.trial.now) c.as_slice-part-items.result.now c.loop-part.part-index
     (filters_tree c.args.parts.now) c.args.sets.now c.in_ok-kept.kept.items c.loop-part.kept.items (omega (arith, c.loop-part-test.false))
     c.as_slice-part-items.ensures.tree c.loop-part.invariant.added) c.cut.ensures
 

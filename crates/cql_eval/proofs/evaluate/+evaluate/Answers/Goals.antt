@@ -4,6 +4,7 @@ use Rattle.std.specs.Prelude.{get_or}
 use Rattle.std.proofs.lemmas.Option.{IfSome_then}
 use Rattle.cql_syntax.specs.TreeOf.{filter_tree, form_tree, filters_tree, played_tree}
 use Rattle.cql_syntax.specs.Trees.{filter_at, more_filters, no_filters}
+use Rattle.cql_syntax.specs.Values.{as_truth, square_of}
 use Rattle.cql_columns.specs.Columns.{shown}
 use Rattle.cql_columns.specs.Scopes.{tree_in}
 use Rattle.cql_columns.specs.FlatTrees.{unflat}
@@ -12,7 +13,7 @@ use Rattle.cql_pruning.specs.Promoting.{ArePromoting}
 use Rattle.cql_pruning.proofs.AttackLaw.{only_one}
 use Rattle.cql_eval.proofs.FlatLaw.{filter_flat, form_flat}
 use Rattle.cql_eval.proofs.FormLaws.{IfOk_then}
-use Rattle.cql_pruning.proofs.MovedLaw.{goal_alone, goal_chain, goal_form, goal_met_is}
+use Rattle.cql_pruning.proofs.MovedLaw.{goal_alone, goal_chain, goal_form, goal_met_is, went}
 use Rattle.cql_eval.proofs.evaluate.+evaluate.Goals as goal
 
 pub goals::goal_truths-returns-in-Played-clause-value : goal.goals::goal_truths-returns-in-Played-clause-value
@@ -49,7 +50,8 @@ goals::goal_met-returns-clause-value g t c =
     = subst (ArePromoting tree c.is_some-promotes.result c.args.live.now) (sym c.as_slice-some.ensures.value) c.in_ok-some.ensures in
     IfOk_then c.moved_there-there.result c.moved_there-there.ensures (λ there given. IfSome_then there given (λ truths are n l.
     let at = are n in
-    goal_met_is tree c.args.binding.now.scope.now.names.now c.args.binding.now.name.now c.args.binding.now.every c.args.played.now (shown c.args.binding.now.squares.now n)
-    c.args.live.now c.as_slice-some.result.now c.is_some-promotes.result _ at.0 n c.in_ok-parts.parts c.requires.some
+    ap as_truth at.2
+    ∙ goal_met_is c.args.binding.now c.args.played.now c.args.live.now c.as_slice-some.result.now at.0 n c.in_ok-parts.parts
     (subst (λ o. AsksGoal o c.args.binding.now.name.now c.args.played.now) c.requires.opened (c.asks_goal.ensures c.if-not-asks_goal.false))
-    c.is_some-promotes.ensures looked at.1 c.in_ok-parts.ensures.value at.2 l))
+    (subst (λ wanted. ArePromoting tree wanted c.args.live.now c.as_slice-some.result.now) c.is_some-promotes.ensures looked) at.1 c.in_ok-parts.ensures.value l
+    ∙ ap (λ every. square_of every (shown c.args.binding.now.squares.now n) (went c.args.binding.now c.args.played.now n)) (sym c.requires.some)))

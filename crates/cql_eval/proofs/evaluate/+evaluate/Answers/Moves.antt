@@ -1,8 +1,8 @@
 -- What is answered of the move filter, in the recursion over filters.
-use Rattle.std.proofs.Common.{◌&&◌, ◌∙◌, arith, option_map, refl, sym, subst}
+use Rattle.std.proofs.Common.{◌∙◌, arith, option_map, sym, subst}
 use Rattle.cql_syntax.specs.Meaning.{value, before}
 use Rattle.cql_columns.specs.Scopes.{tree_in}
-use Rattle.cql_columns.specs.Columns.{is_live, shown}
+use Rattle.cql_columns.specs.Columns.{shown}
 use Rattle.cql_columns.specs.Costs.{searched_len}
 use Rattle.cql_operators.specs.Trees.{AreBeforeLive}
 use Rattle.cql_pruning.specs.Promoting.{ArePromoting}
@@ -19,7 +19,7 @@ played::played_column-returns-clause-value g t c =
     = subst (ArePromoting tree c.is_some-promotes.result c.args.live.now) (sym c.as_slice-some.ensures.value) c.in_ok-some.ensures in
     IfOk_then c.met_column.result c.met_column.ensures
     (λ column is n l. is n ∙ met_is tree c.args.scope.now.names.now c.args.played.now c.args.live.now some c.is_some-promotes.result
-    (is_live some n && is_as_asked tree c.in_ok-parts.parts (option_map (λ x. shown x n) c.in_ok-goal.goal) n) _ n c.is_some-promotes.ensures looked l refl
+    (is_as_asked tree c.in_ok-parts.parts (option_map (λ x. shown x n) c.in_ok-goal.goal) n) n c.is_some-promotes.ensures looked l
     (move_is tree c.args.scope.now.names.now c.args.played.now some c.in_ok-parts.parts c.in_ok-goal.goal
     c.in_ok-parts.ensures.value c.in_ok-goal.ensures.value n))
 

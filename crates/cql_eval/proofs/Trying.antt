@@ -1,0 +1,7 @@
+-- What the squares of a name are tried with, as the lemmas take it.
+use Rattle.cql_columns.specs.Scopes.{tree_in}
+use Rattle.cql_eval.specs.declared.evaluate.trial.Trial.{Trial}
+use Rattle.cql_pruning.proofs.CoverForms.{Tried}
+
+abbrev pub tried : Trial → Tried
+tried t = record { tree = tree_in t.scope.now; live = t.live.now; opened = t.opened.now; outer = t.scope.now.names.now; name = t.name.now }
