@@ -121,11 +121,15 @@ lone_bit : (mask bit s : ℕ) → bit < 64 → s < 64 → s ≢ bit → cleared 
 lone_bit mask bit s within h other empty =
     ap (λ n. n == 1) (sym (bit_at_clear_other w64 mask bit within s h other) ∙ ap (λ n. bit_at n s) empty ∙ bit_at-zero s)
 
+-- no square but one is an origin
+abbrev pub IsLone : Board → PieceMove → ℕ → Type 0
+IsLone p parts from = (s : ℕ) → s < 64 → (s == from) ≡ false → is_origin p parts s ≡ false
+
 -- so no other square is an origin
 pub none_elsewhere : (p : Board) (parts : PieceMove) (mask there bit from : ℕ) → parts.goal < 64 → bit < 64
     → IsBitboard mask (may_come p.side parts.piece (is_occupied p.men) parts.goal)
-    → IsBitboard there (λ s. stands p.men s (man_of p.side parts.piece)) → bit ≡ from → cleared (bit_and mask there) bit ≡ 0 → (s : ℕ) → s < 64 → (s == from) ≡ false → is_origin p parts s ≡ false
-none_elsewhere p parts mask there bit from low within m n same empty s h other =
+    → IsBitboard there (λ s. stands p.men s (man_of p.side parts.piece)) → bit ≡ from → cleared (bit_and mask there) bit ≡ 0 → IsLone p parts from
+none_elsewhere p parts mask there bit from low within m n same empty = λ s h other.
     origin_comes p parts mask there low m n s h
     (lone_bit (bit_and mask there) bit s within h (λ e. eqb-false s from other (e ∙ same)) empty)
 
@@ -143,7 +147,7 @@ none_kept v t (x ∷ xs) h =
 
 -- a test of other squares than one passes at no origin where no other square is one
 pub none_other : (p : Board) (parts : PieceMove) (from : ℕ) (v : ℕ → Bool) → ((s : ℕ) → v s ≡ true → (s == from) ≡ false)
-    → ((s : ℕ) → s < 64 → (s == from) ≡ false → is_origin p parts s ≡ false) → list_any v (origins p parts) ≡ false
+    → IsLone p parts from → list_any v (origins p parts) ≡ false
 unfolding origins
 none_other p parts from v elsewhere none =
     none_kept v (is_origin p parts) squares

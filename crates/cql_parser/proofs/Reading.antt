@@ -130,14 +130,20 @@ unexpected ts (FileName n) never = inr (refl, never)
 unexpected ts (Outcome o) never = inr (refl, never)
 unexpected ts (Mark m) never = inr (refl, never)
 
+-- a token at which the reader comes to a fault
+pub record FailsAt (x : QueryToken) (s u : Reached) (old new : Reader) (f : QueryFault) : Type 0 where
+  pub fed : state_shown u new ≡ feed planted most_open (state_shown s old) x
+  pub fails : is_fault u ≡ true
+  pub byte : f.byte ≡ x.at
+  pub reason : f.reason ≡ reason_of x.kind u
+
 pub fault_at : (ts rest : List QueryToken) (x : QueryToken) (s u : Reached) (old new : Reader) (f : QueryFault) → Keeps ts s old
-    → state_shown u new ≡ feed planted most_open (state_shown s old) x → is_fault u ≡ true → f.byte ≡ x.at
-    → f.reason ≡ reason_of x.kind u → IsFault (ts ++ (x ∷ rest)) f
-fault_at ts rest x s (reached.Opening place) old new f keeps fed fails byte_is reason_is = absurd cc
-fault_at ts rest x s reached.Reading old new f keeps fed fails byte_is reason_is = absurd cc
-fault_at ts rest x s reached.Done old new f keeps fed fails byte_is reason_is = absurd cc
-fault_at ts rest x s reached.Deep old new f keeps fed fails byte_is reason_is =
-    let is : read (ts ++ (x ∷ [])) ≡ Deep = plant_deep (read (ts ++ (x ∷ []))) (same_on ts x s reached.Deep old new keeps.same fed) in
+    → FailsAt x s u old new f → IsFault (ts ++ (x ∷ rest)) f
+fault_at ts rest x s (reached.Opening place) old new f keeps end = absurd (let e : false ≡ true = end.fails in cc)
+fault_at ts rest x s reached.Reading old new f keeps end = absurd (let e : false ≡ true = end.fails in cc)
+fault_at ts rest x s reached.Done old new f keeps end = absurd (let e : false ≡ true = end.fails in cc)
+fault_at ts rest x s reached.Deep old new f keeps end =
+    let is : read (ts ++ (x ∷ [])) ≡ Deep = plant_deep (read (ts ++ (x ∷ []))) (same_on ts x s reached.Deep old new keeps.same end.fed) in
     record {
       before = ts;
       token = x;
@@ -145,13 +151,13 @@ fault_at ts rest x s reached.Deep old new f keeps fed fails byte_is reason_is =
       spelled = refl;
       begins = living_begins most_open ts keeps.lives;
       dead = deep_is_dead most_open (ts ++ (x ∷ [])) is;
-      byte = byte_is;
-      reason = subst (IsReason (ts ++ (x ∷ [])) x.kind) (sym reason_is)
+      byte = end.byte;
+      reason = subst (IsReason (ts ++ (x ∷ [])) x.kind) (sym end.reason)
           (too_deep (ts ++ (x ∷ [])) x.kind (deep_begins most_open ts x keeps.lives (sym (feeds ts x) ∙ is)));
     }
-fault_at ts rest x s reached.Stuck old new f keeps fed fails byte_is reason_is =
+fault_at ts rest x s reached.Stuck old new f keeps end =
     let is : read (ts ++ (x ∷ [])) ≡ Stuck =
-    plant_stuck (read (ts ++ (x ∷ []))) (same_on ts x s reached.Stuck old new keeps.same fed) in
+    plant_stuck (read (ts ++ (x ∷ []))) (same_on ts x s reached.Stuck old new keeps.same end.fed) in
     record {
       before = ts;
       token = x;
@@ -159,8 +165,8 @@ fault_at ts rest x s reached.Stuck old new f keeps fed fails byte_is reason_is =
       spelled = refl;
       begins = living_begins most_open ts keeps.lives;
       dead = stuck_is_dead most_open (ts ++ (x ∷ [])) is;
-      byte = byte_is;
-      reason = subst (IsReason (ts ++ (x ∷ [])) x.kind) (sym reason_is)
+      byte = end.byte;
+      reason = subst (IsReason (ts ++ (x ∷ [])) x.kind) (sym end.reason)
           (unexpected (ts ++ (x ∷ [])) x.kind (stuck_never_begins most_open ts x keeps.lives (sym (feeds ts x) ∙ is)));
     }
 
@@ -202,11 +208,10 @@ kept_more ts i x s u old new low is keeps fed fine =
     ∙ sym (take_more ts i x low)) (kept_on (take i ts) x s u old new keeps fed fine)
 
 pub fault_here : (ts : List QueryToken) (i : ℕ) (x : QueryToken) (s u : Reached) (old new : Reader) (f : QueryFault) → i < length ts
-    → x ≡ get_or ts i x → Keeps (take i ts) s old → state_shown u new ≡ feed planted most_open (state_shown s old) x
-    → is_fault u ≡ true → f.byte ≡ x.at → f.reason ≡ reason_of x.kind u → IsFault ts f
-fault_here ts i x s u old new f low is keeps fed fails byte_is reason_is =
+    → x ≡ get_or ts i x → Keeps (take i ts) s old → FailsAt x s u old new f → IsFault ts f
+fault_here ts i x s u old new f low is keeps end =
     subst (λ t. IsFault t f) (ap (λ y. take i ts ++ (y ∷ drop (i + 1) ts)) is
-    ∙ split_at ts i x low) (fault_at (take i ts) (drop (i + 1) ts) x s u old new f keeps fed fails byte_is reason_is)
+    ∙ split_at ts i x low) (fault_at (take i ts) (drop (i + 1) ts) x s u old new f keeps end)
 
 pub query_here : (ts : List QueryToken) (i : ℕ) (s : Reached) (r : Reader) (q : QueryTree) → length ts ≤ i → IsEnded ts
     → Keeps (take i ts) s r → q ≡ query_in r → Spells most_open ts q

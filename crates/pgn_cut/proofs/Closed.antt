@@ -36,25 +36,24 @@ open_by game (l ∷ ls) =
     else (if ends_after game l then open_by [] ls
     else open_by (game ++ l ∷ []) ls)
 
--- a choice of three in each of the parts
-choice_splits : (place : ℕ) (rest : List Lexeme) (t u : Bool) (a b c closed_a closed_b closed_c : List Span) (open_a open_b open_c : List Lexeme)
-    → a ≡ closed_a ++ cut_from place open_a rest → b ≡ closed_b ++ cut_from place open_b rest → c ≡ closed_c ++ cut_from place open_c rest
-    → cond t a (cond u b c) ≡ cond t closed_a (cond u closed_b closed_c) ++ cut_from place (cond t open_a (cond u open_b open_c)) rest
-choice_splits place rest true u a b c ca cb cc oa ob oc is_a is_b is_c = is_a
-choice_splits place rest false true a b c ca cb cc oa ob oc is_a is_b is_c = is_b
-choice_splits place rest false false a b c ca cb cc oa ob oc is_a is_b is_c = is_c
+-- a choice in each of the parts
+choice_splits : (place : ℕ) (rest : List Lexeme) (t : Bool) (a b closed_a closed_b : List Span) (open_a open_b : List Lexeme)
+    → a ≡ closed_a ++ cut_from place open_a rest → b ≡ closed_b ++ cut_from place open_b rest
+    → cond t a b ≡ cond t closed_a closed_b ++ cut_from place (cond t open_a open_b) rest
+choice_splits place rest true a b ca cb oa ob is_a is_b = is_a
+choice_splits place rest false a b ca cb oa ob is_a is_b = is_b
 
 -- a cut goes on after the games that its first lexemes close
 cut_splits : (place : ℕ) (game ls rest : List Lexeme) → cut_from place game (ls ++ rest) ≡ closed_by game ls ++ cut_from place (open_by game ls) rest
 unfolding cut_from closed_by open_by
 cut_splits place game [] rest = refl
 cut_splits place game (l ∷ ls) rest =
-    choice_splits place rest (ends_before game l) (ends_after game l) _ _ _
-    (span_to l.at game ++ closed_by (l ∷ []) ls) (span_to (end l) (game ++ l ∷ []) ++ closed_by [] ls) (closed_by (game ++ l ∷ []) ls)
-    (open_by (l ∷ []) ls) (open_by [] ls) (open_by (game ++ l ∷ []) ls)
+    choice_splits place rest (ends_before game l) _ _ (span_to l.at game ++ closed_by (l ∷ []) ls) _ (open_by (l ∷ []) ls) _
     (ap (λ s. span_to l.at game ++ s) (cut_splits place (l ∷ []) ls rest) ∙ sym (append_assoc (span_to l.at game) (closed_by (l ∷ []) ls) _))
+    (choice_splits place rest (ends_after game l) _ _ (span_to (end l) (game ++ l ∷ []) ++ closed_by [] ls) (closed_by (game ++ l ∷ []) ls)
+    (open_by [] ls) (open_by (game ++ l ∷ []) ls)
     (ap (λ s. span_to (end l) (game ++ l ∷ []) ++ s) (cut_splits place [] ls rest) ∙ sym (append_assoc (span_to (end l) (game ++ l ∷ [])) (closed_by [] ls) _))
-    (cut_splits place (game ++ l ∷ []) ls rest)
+    (cut_splits place (game ++ l ∷ []) ls rest))
 
 -- spans of which each list has at most one, that end elsewhere, have no common front
 apart : (place : ℕ) (xs ys : List Span) → FinishesAt place xs → FinishesAt (place + 1) ys → common_prefix_len same_span xs ys ≡ 0

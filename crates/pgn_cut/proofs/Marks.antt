@@ -180,6 +180,6 @@ pub mark_ends : Closes → (game : OpenGame) → game ≡ progress_of [] → gam
     → StandsWith (record { state = Between; game = game; at = 3; first = true; place = 3; column = true }) (239 ∷ 187 ∷ 191 ∷ []) []
 mark_ends closes game is flat =
     let text = text_is closes (record { state = Between; game = game; at = 3; first = true; place = 3; column = true })
-    (239 ∷ 187 ∷ 191 ∷ []) [] [] [] is refl refl refl refl (omega arith, omega arith)
+    (239 ∷ 187 ∷ 191 ∷ []) [] [] [] is refl (record { column = refl; here = refl; place = refl }) (omega arith, omega arith)
     (λ more. let size : suc (suc (suc (length more))) ≡ 3 + length more = omega arith in ap (λ n. cut_from n [] (lexemes 3 true more)) size) in
     (inr text.0, text.1)

@@ -80,7 +80,7 @@ run_passed closes c run fed some stands all =
       column = get_or run
           (length run - 1) 0 == 10;
     }) (fed ++ run) (closed fed) t.kept (t.bytes ++ run) t.game
-    (run_open c.first c.state run t.bytes t.opened all) (run_column c.first t.bytes run some) (omega arith) (omega arith) (omega arith, omega arith)
+    (run_open c.first c.state run t.bytes t.opened all) (record { column = run_column c.first t.bytes run some; here = omega arith; place = omega arith }) (omega arith, omega arith)
     (λ more.
     let long = length-append run more in
     let total : length fed + length (run ++ more) ≡ length (fed ++ run) + length more = omega arith in

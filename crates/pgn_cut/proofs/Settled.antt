@@ -137,13 +137,19 @@ module _ (grow : ReadingsGrow) (next : StandsNext) (ends_white : WhiteEnds) (whi
       let size = ap length (first_byte bytes some) in
       found_here first bytes r f some dark is much (omega (arith, within)) kind len marker settled
 
+-- what a cutter is behind a run that begins with a lexeme, and the game that it closed
+pub record HasMet (c : Cutter) (run : List ℕ) (f : Found) (now : Cutter) (closed_ : Option Span) : Type 0 where
+  pub rest : IsBetween now (c.place + length run) (get_or run (length run - 1) 0 == 10)
+  pub deeper : now.game.depth ≤ c.game.depth + 1
+  pub cuts : (game : List Lexeme) (l : Lexeme) → Shows (record { at = c.at; end = c.place + f.len; first = c.first; kind = f.kind; marker = f.marker }) l
+      → c.game ≡ progress_of game → IsStepOfCut now.game closed_ l game
+
 -- a cutter between lexemes meets one
 pub lexeme_met : Closes → (c : Cutter) (run : List ℕ) (f : Found) → c.state ≡ Between → 0 < length run → IsFound c.first run f → (now : Cutter) (closed_ : Option Span)
-    → IsBetween now (c.place + length run) (get_or run (length run - 1) 0 == 10) → now.game.depth ≤ c.game.depth + 1
-    → ((game : List Lexeme) (l : Lexeme) → Shows (record { at = c.at; end = c.place + f.len; first = c.first; kind = f.kind; marker = f.marker }) l
-    → c.game ≡ progress_of game → IsStepOfCut now.game closed_ l game)
-    → (fed : List ℕ) → Stands c fed → StandsWith now (fed ++ run) (closed fed ++ option_to_list closed_)
-lexeme_met closes c run f between some found now closed_ rest deeper met fed stands =
+    → HasMet c run f now closed_ → (fed : List ℕ) → Stands c fed → StandsWith now (fed ++ run) (closed fed ++ option_to_list closed_)
+lexeme_met closes c run f between some found now closed_ met fed stands =
+    let rest = met.rest in
+    let deeper = met.deeper in
     ⊎_elim
     (λ mark. absurd (true≢false (sym (in_mark c fed mark) ∙ ap is_in_mark between)))
     (λ t.
@@ -157,12 +163,12 @@ lexeme_met closes c run f between some found now closed_ rest deeper met fed sta
     let place_is = rest.place_ in
     let size = found.size in
     let ends : c.place + f.len ≡ c.at + length found.text = omega arith in
-    let step = met t.kept (record { at = c.at; first = c.first; text = found.text; kind = f.kind })
+    let step = met.cuts t.kept (record { at = c.at; first = c.first; text = found.text; kind = f.kind })
     (record { at = refl; ends = ends; first = refl; alike = same_kind f.kind; marker = found.marked }) t.game in
     let col : first_at c.first run (length run) ≡ now.first = sym (run_column c.first [] run some) ∙ sym rest.first in
     let now_at : c.at + length run ≡ now.at = omega arith in
     let text = text_is closes now (fed ++ run) (closed fed ++ option_to_list closed_) step.kept [] step.stands (subst (λ s. IsOpen now.first s []) (sym rest.state) refl)
-    (rest.column_ ∙ sym rest.first) (omega arith) (omega arith) (omega arith, omega arith)
+    (record { column = rest.column_ ∙ sym rest.first; here = omega arith; place = omega arith }) (omega arith, omega arith)
     (λ more.
     let long = length-append run more in
     let n : ℕ = length (fed ++ run) + length more in

@@ -27,20 +27,26 @@ WhiteIsPassed = (at : ℕ) (first : Bool) (b : ℕ) (bs : List ℕ) → is_white
 abbrev pub Whenever : List ℕ → Type 0
 Whenever rest = Unit {0}
 
+-- a cutter stands at the end of a front, of which it keeps the last bytes
+pub record IsAtEnd (c : Cutter) (front bytes : List ℕ) : Type 0 where
+  pub column : c.column ≡ first_at c.first bytes (length bytes)
+  pub here : c.at + length bytes ≡ length front
+  pub place : c.place ≡ length front
+
 -- a cutter in a text, by the games that are closed
 pub text_is : Closes → (c : Cutter) (front : List ℕ) (games : List Span) (kept : List Lexeme) (bytes : List ℕ) → c.game ≡ progress_of kept → IsOpen c.first c.state bytes
-    → c.column ≡ first_at c.first bytes (length bytes) → c.at + length bytes ≡ length front → c.place ≡ length front → IsSound c
+    → IsAtEnd c front bytes → IsSound c
     → ((more : List ℕ) → cut (front ++ more) ≡ games ++ cut_from (length front + length more) kept (lexemes c.at c.first (bytes ++ more))) → HasTaken c front games
-text_is closes c front games kept bytes game opened column here place sound cuts =
-    let is = closes front games c.at c.first kept c.state bytes opened here cuts in (
+text_is closes c front games kept bytes game opened ends sound cuts =
+    let is = closes front games c.at c.first kept c.state bytes opened ends.here cuts in (
       record {
         kept = kept;
         bytes = bytes;
         game = game;
         opened = opened;
-        column = column;
-        here = here;
-        place = place;
+        column = ends.column;
+        here = ends.here;
+        place = ends.place;
         sound = sound;
         cuts = λ more. cuts more ∙ ap (λ g. g ++ cut_from (length front + length more) kept (lexemes c.at c.first (bytes ++ more))) (sym is);
       },
@@ -77,7 +83,7 @@ module _ (closes : Closes) (c : Cutter) (fed : List ℕ) (b : ℕ) (games : List
       let shallow = r.shallow in
       subst (λ n. HasTaken n (fed ++ b ∷ []) (games ++ [])) (sym now_is)
       (text_is closes (record { state = s; game = c.game; at = c.at; first = c.first; place = c.place + 1; column = b == 10 }) (fed ++ b ∷ []) (games ++ []) r.kept (r.bytes ++ b ∷ []) r.game opened
-      (sym (column_push c.first r.bytes b)) here_push place_push (omega arith, omega arith)
+      (record { column = sym (column_push c.first r.bytes b); here = here_push; place = place_push }) (omega arith, omega arith)
       (λ more. ready_cuts more ∙ ap (λ g. g ++ cut_from (length (fed ++ b ∷ []) + length more) r.kept (lexemes c.at c.first ((r.bytes ++ b ∷ []) ++ more))) (sym (append-nil games))))
 
   -- white space
@@ -93,7 +99,7 @@ module _ (closes : Closes) (c : Cutter) (fed : List ℕ) (b : ℕ) (games : List
       let here_now : c.place + 1 + 0 ≡ length (fed ++ b ∷ []) = let p = place_push in omega arith in
       subst (λ n. HasTaken n (fed ++ b ∷ []) (games ++ [])) (sym now_is)
       (text_is closes (record { state = Between; game = c.game; at = c.place + 1; first = b == 10; place = c.place + 1; column = b == 10 }) (fed ++ b ∷ []) (games ++ []) r.kept [] r.game refl
-      refl here_now place_push (omega arith, omega arith)
+      (record { column = refl; here = here_now; place = place_push }) (omega arith, omega arith)
       (λ more.
       let n : ℕ = length (fed ++ b ∷ []) + length more in
       ready_cuts more
@@ -119,7 +125,7 @@ module _ (closes : Closes) (c : Cutter) (fed : List ℕ) (b : ℕ) (games : List
       let now_at : c.at + length bytes ≡ now.at = here_push ∙ sym place_push ∙ sym between.at in
       let now_first : first_at c.first bytes (length bytes) ≡ now.first = column_push c.first r.bytes b ∙ sym between.first in
       text_is closes now (fed ++ b ∷ []) (games ++ option_to_list closed_) step.kept [] step.stands (subst (λ s. IsOpen now.first s []) (sym between.state) refl)
-      (between.column_ ∙ sym between.first) (omega arith) (between.place_ ∙ place_push) (omega arith, omega arith)
+      (record { column = between.column_ ∙ sym between.first; here = omega arith; place = between.place_ ∙ place_push }) (omega arith, omega arith)
       (λ more.
       let n : ℕ = length (fed ++ b ∷ []) + length more in
       ready_cuts more

@@ -301,7 +301,7 @@ module _ (closes : Closes) (c : Cutter) (run fed : List ℕ) (between : c.state 
       let col : first_at c.first run (length run) ≡ now.first = sym (run_column c.first [] run some) ∙ sym rest.first in
       let now_at : c.at + length run ≡ now.at = omega arith in
       let text = text_is closes now (fed ++ run) (closed fed) (t.kept ++ ls) [] (game ∙ same) (subst (λ s. IsOpen now.first s []) (sym rest.state) refl)
-      (rest.column_ ∙ sym rest.first) (omega arith) (omega arith) (omega arith, omega arith)
+      (record { column = rest.column_ ∙ sym rest.first; here = omega arith; place = omega arith }) (omega arith, omega arith)
       (λ more.
       let long = length-append run more in
       let n : ℕ = length (fed ++ run) + length more in

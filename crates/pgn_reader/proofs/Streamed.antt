@@ -23,7 +23,7 @@ use Rattle.pgn_reader.specs.Arranged.{standing_of}
 use Rattle.pgn_reader.specs.Shown.{shown, moves_in, Steps, StepsOver, IsLow}
 use Rattle.pgn_reader.specs.Reading.{IsWhole}
 use Rattle.pgn_reader.specs.Verdict.{HasTokenFault, place_or}
-use Rattle.pgn_reader.proofs.Tokens.{run_on, low_here, fault_step, end_in_loop, whole_in_loop}
+use Rattle.pgn_reader.proofs.Tokens.{run_on, low_here, fault_in_loop, end_in_loop, whole_in_loop}
 
 -- the reader has read the tokens before a place
 pub record IsReadTo (start : ℕ) (first : Bool) (bytes : List ℕ) (place : ℕ) (s : State) : Type 0 where
@@ -122,11 +122,15 @@ module _ (start : ℕ) (first : Bool) (bytes : List ℕ) (place : ℕ) (r : Read
   refused_by EscapeLine s x reason is found text_is short so_far fault steps = absurd steps
   refused_by (IsToken kind) s x reason is found text_is short so_far fault steps =
       let next = next_token kind is found so_far in
+      let known : Steps (feed (shown r) (read kind)) (fault_at (standing_of (shown r)) (read kind)) s (Err (Fault reason)) =
+      subst (λ y. Steps (feed (shown r) (read kind)) (fault_at (standing_of (shown r)) (read kind)) s (Err y)) fault steps in
+      let word = word_of start bytes (get_or (tokens_of start first bytes) so_far.index nothing_there) in
+      let here : Steps (feed (shown r) word) (fault_at (standing_of (shown r)) word) s (Err (Fault reason)) =
+      subst (λ v. Steps (feed (shown r) v) (fault_at (standing_of (shown r)) v) s (Err (Fault reason))) (same_here kind is found text_is so_far) known in
       record {
         short = short;
         index = so_far.index;
-        fault = fault_step (word_of start bytes) (tokens_of start first bytes) so_far.index nothing_there (read kind) r s x reason
-            (same_here kind is found text_is so_far) next.low so_far.stands so_far.few fault steps;
+        fault = fault_in_loop (word_of start bytes) (tokens_of start first bytes) so_far.index nothing_there r reason next.low so_far.stands so_far.few here.0 here.1;
         byte = sym (ap (place_or (start + length bytes)) (slice_get-get_or (tokens_of start first bytes) so_far.index nothing_there next.low)
             ∙ ap (λ t. t.at) next.here);
       }

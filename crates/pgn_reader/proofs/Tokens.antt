@@ -1,11 +1,9 @@
 -- The loop over the tokens.
-use Rattle.std.proofs.Common.{◌≡◌, ◌≢◌, ℕ, ◌+◌, ◌<◌, ◌≤◌, List, [], ◌∷◌, ◌++◌, length, take, map, get_or, Some, None, Err, refl, sym, ap, ◌∙◌, subst, arith}
+use Rattle.std.proofs.Common.{◌≡◌, ◌≢◌, ℕ, ◌+◌, ◌<◌, ◌≤◌, List, [], ◌∷◌, ◌++◌, length, take, map, get_or, Some, None, refl, sym, ap, ◌∙◌, subst, arith}
 use Rattle.std.proofs.Common.{inl, inr, ◌↔◌, reverse}
 use Rattle.cq_position.specs.Position.{IsPosition}
 use Rattle.cq_position.specs.Games.{Game, IsTree}
 use Rattle.std.proofs.lemmas.List.{take_all, take_more, get_or-map, length-map}
-use Rattle.cq_common.specs.declared.faults.Refusal.{Refusal}
-use Rattle.cq_common.specs.declared.faults.Refusal.TheVariants.{Fault}
 use Rattle.pgn_reader.specs.declared.fault.Reason.{Reason}
 use Rattle.pgn_reader.specs.declared.fault.Reason.TheVariants.{TooManyPositions}
 use Rattle.pgn_reader.specs.declared.token_machine.Reader.{Reader}
@@ -19,7 +17,7 @@ use Rattle.pgn_reader.specs.Verdict.{IsOnlyGame}
 use Rattle.pgn_reader.specs.Faults.{IsFault}
 use Rattle.pgn_reader.specs.Machine.{State, at, ended, stuck, feed, run, first}
 use Rattle.pgn_reader.specs.Arranged.{standing_of, nodes_of_rows}
-use Rattle.pgn_reader.specs.Shown.{head_of, shown_by, shown, moves_in, Steps, IsLow}
+use Rattle.pgn_reader.specs.Shown.{head_of, shown_by, shown, moves_in, IsLow}
 use Rattle.pgn_reader.specs.Reading.{IsWhole, ending_by, game_of}
 use Rattle.pgn_reader.proofs.Read.{run_append}
 use Rattle.pgn_reader.proofs.Whole.{IsEnd}
@@ -72,17 +70,6 @@ end_in_loop word tokens i r reason all is few why =
 pub whole_in_loop : {A : Type 0} (word : A → Word) (tokens : List A) (i : ℕ) (r : Reader) → length tokens ≤ i → run first (take i (map word tokens)) ≡ shown r
     → moves_in (shown r) ≤ 65535 → fault_at_end (standing_of (shown r)) ≡ None → IsWhole (map word tokens) r
 whole_in_loop word tokens i r all is few ends = record { is_run = all_run word tokens i (shown r) all is; few = few; ends = ends }
-
--- a step that is refused for a reason
-pub fault_step : {A : Type 0} (word : A → Word) (tokens : List A) (i : ℕ) (d : A) (w : Word) (r : Reader) (after : State) (x : Refusal Reason) (reason : Reason) → w ≡ word (get_or tokens i d)
-    → i < length tokens → run first (take i (map word tokens)) ≡ shown r → moves_in (shown r) ≤ 65535 → x ≡ Fault reason
-    → Steps (feed (shown r) w) (fault_at (standing_of (shown r)) w) after (Err x) → IsFault (map word tokens) i reason
-fault_step word tokens i d w r after x reason same low is few found steps =
-    let known : Steps (feed (shown r) w) (fault_at (standing_of (shown r)) w) after (Err (Fault reason)) =
-    subst (λ y. Steps (feed (shown r) w) (fault_at (standing_of (shown r)) w) after (Err y)) found steps in
-    let here : Steps (feed (shown r) (word (get_or tokens i d))) (fault_at (standing_of (shown r)) (word (get_or tokens i d))) after (Err (Fault reason)) =
-    subst (λ v. Steps (feed (shown r) v) (fault_at (standing_of (shown r)) v) after (Err (Fault reason))) same known in
-    fault_in_loop word tokens i d r reason low is few here.0 here.1
 
 -- the end of all tokens
 pub record IsEndOf (ts : List Word) (r : Reader) : Type 0 where

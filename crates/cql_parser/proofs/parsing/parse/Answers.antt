@@ -7,8 +7,8 @@ pub returns-then-is_fault : goal.returns-then-is_fault
 returns-then-is_fault c =
     fault_here c.args.tokens.now c.loop-token.token-index c.token-item.result c.loop-token.reached c.in_ok-reached.reached
     c.loop-token.reader c.feed.new.self _
-    c.loop-token-test.true c.token-item.is c.loop-token.invariant c.in_ok-reached.ensures (sym c.is_fault.ensures
-    ∙ c.if-is_fault.true) refl c.in_ok-reason_at.ensures
+    c.loop-token-test.true c.token-item.is c.loop-token.invariant
+    record { fed = c.in_ok-reached.ensures; fails = sym c.is_fault.ensures ∙ c.if-is_fault.true; byte = refl; reason = c.in_ok-reason_at.ensures }
 
 pub loop-token-preserved : goal.loop-token-preserved
 loop-token-preserved c =
