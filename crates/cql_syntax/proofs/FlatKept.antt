@@ -205,16 +205,17 @@ sorts_kept sorts (filter_at at (comment text)) = refl
 sorts_kept sorts (filter_at at (any kind fs)) = refl
 
 -- a filter that is like another but for its parts breaks no rule where the other breaks none, whatever kind is wanted that it has
-step : (s : Standing) (w : Kind) (i : ℕ) (f f' : FormTree) → (not (is_family f') && has_its_kind f') ≡ true → form_kind f' ≡ form_kind f
-    → below_top s.item f' ≡ below_top s.item f → past_four_sorts s.item f' ≡ past_four_sorts s.item f
-    → (unbound_name s.names f' ++ brace_in_comment f') ≡ (unbound_name s.names f ++ brace_in_comment f)
-    → is_long_line f' ≡ is_long_line f → is_fifth_square s.squares f' ≡ is_fifth_square s.squares f
+step : (g : Context) (s : Standing) (w : Kind) (i : ℕ) (f : FormTree) → (not (is_family (flat_form g f)) && has_its_kind (flat_form g f)) ≡ true
+    → below_top s.item (flat_form g f) ≡ below_top s.item f
+    → (unbound_name s.names (flat_form g f) ++ brace_in_comment (flat_form g f)) ≡ (unbound_name s.names f ++ brace_in_comment f)
+    → is_long_line (flat_form g f) ≡ is_long_line f → is_fifth_square s.squares (flat_form g f) ≡ is_fifth_square s.squares f
     → accepts w (form_kind f) ≡ true → breaks_none (record { standing = s; at = i; form = f }) ≡ true
-    → good (record { standing = wanting w s; at = i; form = f' }) ≡ true
-step s w i f f' own kind below past last long fifth a h =
-    let others : rest s.item s.names f' ≡ rest s.item s.names f = ap₂ (λ x y. x ++ y) below (ap₂ (λ x y. x ++ y) past last) in
+    → good (record { standing = wanting w s; at = i; form = flat_form g f }) ≡ true
+step g s w i f own below last long fifth a h =
+    let f' = flat_form g f in
+    let others : rest s.item s.names f' ≡ rest s.item s.names f = ap₂ (λ x y. x ++ y) below (ap₂ (λ x y. x ++ y) (past_kept g s.item f) last) in
     both _ _ own (both _ _ (both _ _
-    (accepted_empty (accepts w (form_kind f')) _ (rest s.item s.names f') (ap (accepts w) kind ∙ a)
+    (accepted_empty (accepts w (form_kind f')) _ (rest s.item s.names f') (ap (accepts w) (form_kind_kept g f) ∙ a)
     (ap is_empty others ∙ rest_empty (wrong_kind s.wanted (form_kind f)) (rest s.item s.names f) (left _ _ (left _ _ h))))
     (ap not long ∙ right _ _ (left _ _ h)))
     (ap not fifth ∙ right _ _ h))
@@ -227,25 +228,25 @@ family_kinds f gs =
 head : (g : Context) (s : Standing) (w : Kind) (i : ℕ) (f : FormTree) → accepts w (form_kind f) ≡ true → sound (record { standing = s; at = i; form = f }) ≡ true
     → good (record { standing = wanting w s; at = i; form = flat_form g f }) ≡ true
 unfolding flat
-head g s w i (designator d) a h = step s w i (designator d) (flat_form g (designator d)) refl refl refl (past_kept g s.item (designator d)) refl refl refl a h
-head g s w i (number k) a h = step s w i (number k) (flat_form g (number k)) refl refl refl (past_kept g s.item (number k)) refl refl refl a h
-head g s w i (name text) a h = step s w i (name text) (flat_form g (name text)) refl refl refl (past_kept g s.item (name text)) refl refl refl a h
-head g s w i (plain v) a h = step s w i (plain v) (flat_form g (plain v)) refl (form_kind_kept g (plain v)) refl (past_kept g s.item (plain v)) refl refl refl a h
-head g s w i (tagged field text) a h = step s w i (tagged field text) (flat_form g (tagged field text)) refl refl refl (past_kept g s.item (tagged field text)) refl refl refl a h
-head g s w i (outcome o) a h = step s w i (outcome o) (flat_form g (outcome o)) refl refl refl (past_kept g s.item (outcome o)) refl refl refl a h
-head g s w i (elo whose) a h = step s w i (elo whose) (flat_form g (elo whose)) refl refl refl (past_kept g s.item (elo whose)) refl refl refl a h
-head g s w i (unary u f) a h = step s w i (unary u f) (flat_form g (unary u f)) refl (form_kind_kept g (unary u f)) refl (past_kept g s.item (unary u f)) refl refl refl a h
-head g s w i (direction way m n f) a h = step s w i (direction way m n f) (flat_form g (direction way m n f)) refl refl refl (past_kept g s.item (direction way m n f)) refl refl refl a h
-head g s w i (chain c fs) a h = step s w i (chain c fs) (flat_form g (chain c fs)) refl refl refl (past_kept g s.item (chain c fs)) refl refl refl a h
-head g s w i (sum_of ts) a h = step s w i (sum_of ts) (flat_form g (sum_of ts)) refl refl refl (past_kept g s.item (sum_of ts)) refl refl refl a h
-head g s w i (pair c x y) a h = step s w i (pair c x y) (flat_form g (pair c x y)) refl refl refl (past_kept g s.item (pair c x y)) refl refl refl a h
-head g s w i (if_ x y z) a h = step s w i (if_ x y z) (flat_form g (if_ x y z)) refl refl refl (past_kept g s.item (if_ x y z)) refl refl refl a h
-head g s w i (square every text x y) a h = step s w i (square every text x y) (flat_form g (square every text x y)) refl refl refl (past_kept g s.item (square every text x y)) refl refl refl a h
-head g s w i (line l) a h = step s w i (line l) (flat_form g (line l)) refl refl refl (past_kept g s.item (line l)) refl (ap (λ n. nat_lt 64 n) (places_kept g l)) refl a h
-head g s w i (played p) a h = step s w i (played p) (flat_form g (played p)) refl refl refl (past_kept g s.item (played p)) refl refl refl a h
-head g s w i (transform t f) a h = step s w i (transform t f) (flat_form g (transform t f)) (family_kinds f (fitting g (members t) f)) refl refl (past_kept g s.item (transform t f)) refl refl refl a h
-head g s w i (sort least text f) a h = step s w i (sort least text f) (flat_form g (sort least text f)) refl refl refl (past_kept g s.item (sort least text f)) refl refl refl a h
-head g s w i (comment text) a h = step s w i (comment text) (flat_form g (comment text)) refl refl refl (past_kept g s.item (comment text)) refl refl refl a h
+head g s w i (designator d) a h = step g s w i (designator d) refl refl refl refl refl a h
+head g s w i (number k) a h = step g s w i (number k) refl refl refl refl refl a h
+head g s w i (name text) a h = step g s w i (name text) refl refl refl refl refl a h
+head g s w i (plain v) a h = step g s w i (plain v) refl refl refl refl refl a h
+head g s w i (tagged field text) a h = step g s w i (tagged field text) refl refl refl refl refl a h
+head g s w i (outcome o) a h = step g s w i (outcome o) refl refl refl refl refl a h
+head g s w i (elo whose) a h = step g s w i (elo whose) refl refl refl refl refl a h
+head g s w i (unary u f) a h = step g s w i (unary u f) refl refl refl refl refl a h
+head g s w i (direction way m n f) a h = step g s w i (direction way m n f) refl refl refl refl refl a h
+head g s w i (chain c fs) a h = step g s w i (chain c fs) refl refl refl refl refl a h
+head g s w i (sum_of ts) a h = step g s w i (sum_of ts) refl refl refl refl refl a h
+head g s w i (pair c x y) a h = step g s w i (pair c x y) refl refl refl refl refl a h
+head g s w i (if_ x y z) a h = step g s w i (if_ x y z) refl refl refl refl refl a h
+head g s w i (square every text x y) a h = step g s w i (square every text x y) refl refl refl refl refl a h
+head g s w i (line l) a h = step g s w i (line l) refl refl refl (ap (λ n. nat_lt 64 n) (places_kept g l)) refl a h
+head g s w i (played p) a h = step g s w i (played p) refl refl refl refl refl a h
+head g s w i (transform t f) a h = step g s w i (transform t f) (family_kinds f (fitting g (members t) f)) refl refl refl refl a h
+head g s w i (sort least text f) a h = step g s w i (sort least text f) refl refl refl refl refl a h
+head g s w i (comment text) a h = step g s w i (comment text) refl refl refl refl refl a h
 head g s w i (any kind fs) a h = absurd (cc)
 
 wanted_is : (s : Standing) (f : FilterTree) → list_all sound (occurrences s f) ≡ true → accepts s.wanted (filter_kind f) ≡ true
