@@ -12,7 +12,7 @@ use Rattle.cql_syntax.specs.Values.{Value, holds}
 use Rattle.cql_syntax.specs.declared.leaves.Unary.{Unary}
 use Rattle.cql_syntax.specs.declared.leaves.Unary.TheVariants.{Not, Complement, Count, Power, Light, Dark, Find, FindUp, Child, Parent}
 use Rattle.cql_values.proofs.Ranges.{left, right, from_range}
-use Rattle.cql_columns.specs.Columns.{is_live, AreAsked}
+use Rattle.cql_columns.specs.Columns.{AreAsked}
 use Rattle.cql_columns.proofs.Filling.{equal_or, split_last, any_default, or_left, or_right}
 use Rattle.cql_columns.proofs.FindLaw.{any_below}
 use Rattle.cql_columns.proofs.Wanting.{in_either}

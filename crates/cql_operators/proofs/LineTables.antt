@@ -1,7 +1,7 @@
 -- The atoms of a line one by one in a table.
-use Rattle.std.proofs.Common.{◌≡◌, ℕ, ◌+◌, ◌<◌, ◌≤◌, ◌&&◌, ◌||◌, Bool, true, false, List, [], ◌∷◌, length, drop, get_or, refl, sym, ap, ◌∙◌, subst, arith, ⊎_elim}
+use Rattle.std.proofs.Common.{◌≡◌, ℕ, ◌+◌, ◌<◌, ◌≤◌, ◌&&◌, ◌||◌, Bool, true, false, List, [], ◌∷◌, length, drop, refl, sym, ap, ◌∙◌, subst, arith, ⊎_elim}
 use Rattle.std.specs.List.{list_any}
-use Rattle.cq_common.specs.Spelling.{Pattern, one, joined}
+use Rattle.cq_common.specs.Spelling.{one}
 use Rattle.cq_position.specs.Search.{SearchedTree, IsStep}
 use Rattle.cql_lines.specs.Tables.{holds_in}
 use Rattle.cql_lines.specs.declared.table.AtomTable.{AtomTable}

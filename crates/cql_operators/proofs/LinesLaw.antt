@@ -1,5 +1,5 @@
 -- The tree of a game as a line has it, the line's number from the table, and what it costs.
-use Rattle.std.proofs.Common.{◌≡◌, Result, Ok, Err, IfOk, ℕ, zero, suc, ◌+◌, ◌*◌, ◌<◌, ◌≤◌, ◌&&◌, ◌||◌, pos, ℤ, Bool, true, false, List, [], ◌∷◌, ◌++◌, length, map, drop, take, get_or, Option, Some, None, option_map, refl, sym, ap, ap₂, ◌∙◌, subst, arith, ⊎_elim}
+use Rattle.std.proofs.Common.{◌≡◌, ℕ, zero, suc, ◌+◌, ◌*◌, ◌<◌, ◌≤◌, ◌&&◌, ◌||◌, pos, ℤ, Bool, true, false, List, [], ◌∷◌, ◌++◌, length, map, drop, take, get_or, Option, Some, None, option_map, refl, sym, ap, ap₂, ◌∙◌, subst, arith, ⊎_elim}
 use denote.Hole.Carrier as Carrier
 use Rattle.std.specs.Prelude.{not, IfSome, slice_get, if◌then◌else◌}
 use Rattle.std.specs.List.{range_with_len, count_by}
@@ -31,8 +31,7 @@ use Rattle.cql_syntax.specs.Places.{parts_places}
 use Rattle.cql_syntax.specs.TabledLines.{Searched, IsAsked, AreSpelledAlike, AreParents}
 use Rattle.cql_syntax.specs.TreeOf.{body_tree, part_trees, parts_tree, line_tree}
 use Rattle.cql_syntax.specs.Trees.{PartTrees}
-use Rattle.cql_syntax.specs.Values.{Value, as_number, holds as value_holds}
-use Rattle.cql_syntax.specs.declared.extents.Extent.{Extent}
+use Rattle.cql_syntax.specs.Values.{as_number, holds as value_holds}
 use Rattle.cql_syntax.specs.declared.extents.Extent.TheVariants.{Any, Within}
 use Rattle.cql_syntax.specs.declared.tree.Constituent.{Constituent}
 use Rattle.cql_syntax.specs.declared.tree.Line.{Line as OneLine, Line', out-Line}

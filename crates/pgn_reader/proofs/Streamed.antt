@@ -1,5 +1,5 @@
 -- The loop over the tokens of a text, each of which is read off the text as it is asked for.
-use Rattle.std.proofs.Common.{◌≡◌, ◌≢◌, ℕ, zero, suc, ◌+◌, ◌-◌, ◌<◌, ◌≤◌, Bool, List, [], ◌∷◌, ◌++◌, length, take, drop, map, get_or, slice_get, Result, Some, None, Ok, Err, refl, sym, ap, ◌∙◌, subst, arith}
+use Rattle.std.proofs.Common.{◌≡◌, ◌≢◌, ℕ, ◌+◌, ◌-◌, ◌<◌, ◌≤◌, Bool, List, [], ◌∷◌, ◌++◌, length, take, drop, get_or, Some, None, Ok, Err, refl, sym, ap, ◌∙◌, subst, arith}
 use Rattle.std.proofs.lemmas.List.{at_drop_more, length-drop}
 use Rattle.std.proofs.lemmas.Option.{slice_get-get_or, slice_get_past}
 use Rattle.cq_common.specs.declared.faults.Refusal.{Refusal}
@@ -12,7 +12,6 @@ use Rattle.pgn_lexer.specs.declared.token.TokenKind.{TokenKind}
 use Rattle.pgn_lexer.specs.declared.token.TokenKind.TheVariants.{Open}
 use Rattle.pgn_lexer.specs.Lexemes.{lexemes, lexemes_at, token_if, tokens_among, tokens_of}
 use Rattle.pgn_lexer.specs.Shown.{shown as lexeme_shown}
-use Rattle.pgn_reader.specs.declared.fault.GameFault.{GameFault}
 use Rattle.pgn_reader.specs.declared.fault.Reason.{Reason}
 use Rattle.pgn_reader.specs.declared.token_machine.Reader.{Reader}
 use Rattle.pgn_reader.specs.Words.{Word, word_of, words_of}

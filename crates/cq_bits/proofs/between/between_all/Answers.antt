@@ -1,4 +1,4 @@
-use Rattle.std.proofs.Common.{◌≡◌, ◌<◌, ◌^◌, true, arith, rules}
+use Rattle.std.proofs.Common.{◌≡◌, ◌<◌, ◌^◌, arith, rules}
 use Rattle.cq_bits.specs.Sets.{IsBetweenOne}
 use Rattle.cq_bits.proofs.Gathering.{gathered_none, gathered_all, more, smaller}
 use Rattle.cq_bits.proofs.between.between_all.Goals as goal

@@ -1,4 +1,4 @@
-use Rattle.std.proofs.Common.{rules, arith}
+use Rattle.std.proofs.Common.{rules}
 use Rattle.cq_crew.proofs.CrewDraws.{ends, goes_on, starts}
 use Rattle.cq_crew.proofs.crew.draw_all.Goals as goal
 

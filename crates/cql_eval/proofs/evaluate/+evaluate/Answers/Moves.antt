@@ -1,6 +1,6 @@
 -- What is answered of the move filter, in the recursion over filters.
 use Rattle.std.proofs.Common.{◌∙◌, arith, option_map, sym, subst}
-use Rattle.cql_syntax.specs.Meaning.{value, before}
+use Rattle.cql_syntax.specs.Meaning.{before}
 use Rattle.cql_columns.specs.Scopes.{tree_in}
 use Rattle.cql_columns.specs.Columns.{shown}
 use Rattle.cql_columns.specs.Costs.{searched_len}
