@@ -89,6 +89,8 @@ NAME = "./proofs/sign/Answers.antt:3:1: error: `returns`: `c.sum` has no field `
         (1, "error[mismatched-types]: expected u8\n", False, "NOT TRIED"),
         (1, NOTE + "only=1 proved=1\n", False, "NOT TRIED"),
         (2, "rattle: error: `signs` has no function `sign`\n", False, "NOT TRIED"),
+        (2, "rattle: error[unusable-built-library]: the rlib of `signs` at `/out/signs.rlib` holds\n", False, "remove crates/*/out"),
+        (2, "rattle: cannot read /out/signs.rlib/format: No such file or directory\n", False, "remove crates/*/out"),
         (3, NOTE + "only=1 proved=0\n", False, "NOT TRIED"),
         (-9, "", False, "NOT TRIED"),
     ],
