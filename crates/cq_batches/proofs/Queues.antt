@@ -115,8 +115,8 @@ low_size count size low = grind arith
 pub small : (q : Queue) (games : KeptGames) (m : ℕ) → Fills q games m → q.size < 2 ^ 24
 small q games m was = subst (λ (n : ℕ). n < 2 ^ 24) (sym was.size) (low_size (length (left_over games)) (size_of (left_over games)) (left_low [] games none_low))
 
-pub few : (q : Queue) (games : KeptGames) (m : ℕ) → Fills q games m → q.index + length q.open.items ≡ length games
-few q games m was = ap₂ (λ (x y : ℕ). x + y) was.index (ap length was.open_) ∙ sym (length-append (flat (full_batches games)) (left_over games)) ∙ ap length (all_there games)
+pub games_are_counted : (q : Queue) (games : KeptGames) (m : ℕ) → Fills q games m → q.index + length q.open.items ≡ length games
+games_are_counted q games m was = ap₂ (λ (x y : ℕ). x + y) was.index (ap length was.open_) ∙ sym (length-append (flat (full_batches games)) (left_over games)) ∙ ap length (all_there games)
 
 at_seam : (xs : List KeptGames) (y : KeptGames) (ys : List KeptGames) → slice_get (xs ++ y ∷ ys) (length xs) ≡ Some y
 at_seam [] y ys = refl
@@ -242,7 +242,7 @@ one_more : (games now : KeptGames) (g : KeptGame) → now ≡ games ++ g ∷ [] 
 one_more games now g more = ap length more ∙ length-append games (g ∷ [])
 
 pub numbers_push : (q : Queue) (g : KeptGame) (games now : KeptGames) (m : ℕ) → Fills q games m → length games < 2 ^ 61 → now ≡ q.open.items ++ g ∷ [] → q.index + length now < 2 ^ 62
-numbers_push q g games now m was low more = omega (arith, one_more q.open.items now g more, few q games m was, low)
+numbers_push q g games now m was low more = omega (arith, one_more q.open.items now g more, games_are_counted q games m was, low)
 
 pub few_push : (q : Queue) (g : KeptGame) (now : KeptGames) → now ≡ q.open.items ++ g ∷ [] → length now < 2 ^ 32
 few_push q g now more = omega (arith, one_more q.open.items now g more, q.few)

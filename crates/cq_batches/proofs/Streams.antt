@@ -35,8 +35,8 @@ pub record IsFed (front piece : List ℕ) (news : List Span) : Type 0 where
   pub last : List Span
   pub cuts : cut (front ++ piece) ≡ closed front ++ (news ++ last)
 
-pub fed : Grow → Split → (front piece : List ℕ) (news : List Span) → news ≡ drop (length (closed front)) (closed (front ++ piece)) → IsFed front piece news
-fed grow whole_ front piece news are =
+pub piece_is_fed : Grow → Split → (front piece : List ℕ) (news : List Span) → news ≡ drop (length (closed front)) (closed (front ++ piece)) → IsFed front piece news
+piece_is_fed grow whole_ front piece news are =
     let g = grow front piece in
     let w = whole_ (front ++ piece) in
     let same : news ≡ g.0 = are ∙ ap (drop (length (closed front))) g.1 ∙ drop-append_seam (closed front) g.0 in

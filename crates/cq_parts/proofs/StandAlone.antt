@@ -108,8 +108,8 @@ alone_sound i at f e =
     (sound_same i at f (first (is_sound o) (list_all is_sound (inner (standing i) f)) e))
     (ap (list_all is_sound) (inner_same (Some 0) i f) ∙ second (is_sound o) (list_all is_sound (inner (standing i) f)) e)
 
-one : (f : FilterTree) → stands_alone f ≡ true → list_all stands_alone (f ∷ []) ≡ true
-one f e = both (stands_alone f) true e refl
+one_stands_alone : (f : FilterTree) → stands_alone f ≡ true → list_all stands_alone (f ∷ []) ≡ true
+one_stands_alone f e = both (stands_alone f) true e refl
 
 mutual
   unfolding parts_of occurrences
@@ -120,7 +120,7 @@ mutual
   form_sound : (i : Option ℕ) (at : ℕ) (f : FormTree) → list_all is_sound (occurrences (standing i) (filter_at at f)) ≡ true → list_all stands_alone (form_parts at f) ≡ true
   form_sound i at (chain And fs) e = parts_sound fs (second (is_sound (record { standing = standing i; at = at; form = chain And fs })) (list_all is_sound (all_of (standing None) fs)) e)
   form_sound i at (chain All fs) e = parts_sound fs (second (is_sound (record { standing = standing i; at = at; form = chain All fs })) (list_all is_sound (all_of (standing None) fs)) e)
-  form_sound i at f e = one (filter_at at f) (alone_sound i at f e)
+  form_sound i at f e = one_stands_alone (filter_at at f) (alone_sound i at f e)
 
   parts_sound : (fs : FilterTrees) → list_all is_sound (all_of (standing None) fs) ≡ true → list_all stands_alone (all_parts fs) ≡ true
   parts_sound no_filters e = refl
@@ -136,7 +136,7 @@ item_sound k (filter_at at f) e = form_sound (Some k) at f e
 
 sort_sound : (k : ℕ) (f : FilterTree) → list_all is_sound (occurrences (standing (Some k)) f) ≡ true → list_all stands_alone (item_sorts f) ≡ true
 unfolding item_sorts
-sort_sound k (filter_at at (sort least text f)) e = one (filter_at at (sort least text f)) (alone_sound (Some k) at (sort least text f) e)
+sort_sound k (filter_at at (sort least text f)) e = one_stands_alone (filter_at at (sort least text f)) (alone_sound (Some k) at (sort least text f) e)
 sort_sound k (filter_at at f) e = refl
 
 items_sound : (k : ℕ) (fs : FilterTrees) → list_all is_sound (of_items k fs) ≡ true → list_all stands_alone (top_parts fs) ≡ true

@@ -82,9 +82,9 @@ own_at grow first b bs r n dark is len within =
       reads = sym same ∙ ap (reading first b) halves ∙ sym is ∙ ap (λ m. record { kind = r.kind; len = m }) fits;
     }
 
-own : ReadingsGrow → (first : Bool) (bytes : List ℕ) (r : Reading) → 0 < length bytes → is_white (get_or bytes 0 0) ≡ false
+own_reading : ReadingsGrow → (first : Bool) (bytes : List ℕ) (r : Reading) → 0 < length bytes → is_white (get_or bytes 0 0) ≡ false
     → r ≡ reading first (get_or bytes 0 0) (take (length bytes - 1) (drop 1 bytes)) → 0 < r.len → r.len ≤ length bytes → IsOwn first bytes r
-own grow first bytes r some dark is much within =
+own_reading grow first bytes r some dark is much within =
     let b : ℕ = get_or bytes 0 0 in
     let bs : List ℕ = take (length bytes - 1) (drop 1 bytes) in
     let all = first_byte bytes some in
@@ -97,7 +97,7 @@ module _ (grow : ReadingsGrow) (next : StandsNext) (ends_white : WhiteEnds) (whi
       → r ≡ reading first (get_or bytes 0 0) (take (length bytes - 1) (drop 1 bytes)) → 0 < r.len → r.len ≤ length bytes
       → f.kind ≡ r.kind → f.len ≡ r.len → f.marker ≡ marks r.kind (take r.len bytes) → IsSettled bytes r f.taken → IsFound first (take f.taken bytes) f
   found_here first bytes r f some dark is much within kind_is len_is marker_is settled =
-      let o = own grow first bytes r some dark is much within in
+      let o = own_reading grow first bytes r some dark is much within in
       let text : List ℕ = o.b ∷ o.bs in
       let size : length text ≡ r.len = sym (ap length o.text) ∙ length-take-le r.len bytes within in
       let marked : f.marker ≡ marks f.kind text = marker_is ∙ ap₂ marks (sym kind_is) o.text in

@@ -3,7 +3,7 @@ use Rattle.std.proofs.lemmas.List.{length-append}
 use Rattle.pgn_cut.specs.Cut.{closed}
 use Rattle.cq_batches.specs.Whole.{closed_games}
 use Rattle.cq_batches.proofs.KeptStay.{Split}
-use Rattle.cq_batches.proofs.Streams.{fed, few_closed, goes_on, inside, on_one, opened}
+use Rattle.cq_batches.proofs.Streams.{few_closed, goes_on, inside, on_one, opened, piece_is_fed}
 use Rattle.cq_batches.proofs.state.Batches.feed.Goals as goal
 
 pub keep_all-requires-clause-fills : goal.keep_all-requires-clause-fills
@@ -13,7 +13,7 @@ keep_all-requires-clause-fills c =
     let most = c.args.self.now.limits.1 in
     let are : c.as_slice.result.now ≡ drop (length (closed s.0)) (closed (s.0 ++ c.args.piece.now)) =
     c.as_slice.ensures.value ∙ c.in_ok-feed.ensures.games s.0 s.2.cutter ∙ ap (λ l. l ++ drop (length (closed s.0)) (closed (s.0 ++ c.args.piece.now))) c.new-spans.ensures.items in
-    let is = fed c.closed_games_stay.ensures.grow (λ f. (let x = c.closed_games_stay.ensures.whole f in (x.0, x.1))) s.0 c.args.piece.now c.as_slice.result.now are in (
+    let is = piece_is_fed c.closed_games_stay.ensures.grow (λ f. (let x = c.closed_games_stay.ensures.whole f in (x.0, x.1))) s.0 c.args.piece.now c.as_slice.result.now are in (
       closed_games s.0,
       s.1,
       s.2.open_ c.requires.reads,
@@ -30,7 +30,7 @@ keep_all-requires-clause-inside c =
     let s = c.requires.stands in
     let are : c.as_slice.result.now ≡ drop (length (closed s.0)) (closed (s.0 ++ c.args.piece.now)) =
     c.as_slice.ensures.value ∙ c.in_ok-feed.ensures.games s.0 s.2.cutter ∙ ap (λ l. l ++ drop (length (closed s.0)) (closed (s.0 ++ c.args.piece.now))) c.new-spans.ensures.items in
-    let is = fed c.closed_games_stay.ensures.grow (λ f. (let x = c.closed_games_stay.ensures.whole f in (x.0, x.1))) s.0 c.args.piece.now c.as_slice.result.now are in
+    let is = piece_is_fed c.closed_games_stay.ensures.grow (λ f. (let x = c.closed_games_stay.ensures.whole f in (x.0, x.1))) s.0 c.args.piece.now c.as_slice.result.now are in
     inside c.games_stand_apart.ensures.each c.args.self.now.window s.0 c.args.piece.now c.as_slice.result.now is.last c.args.self.now.taken s.2.opens s.2.taken is.cuts
 
 pub keep_all-requires-clause-archive : goal.keep_all-requires-clause-archive
@@ -42,7 +42,7 @@ returns-clause-stands c =
     let are : c.as_slice.result.now ≡ drop (length (closed front)) (closed (front ++ c.args.piece.now)) =
     c.as_slice.ensures.value ∙ c.in_ok-feed.ensures.games front was.cutter ∙ ap (λ l. l ++ drop (length (closed front)) (closed (front ++ c.args.piece.now))) c.new-spans.ensures.items in
     let split : Split = λ (f : List ℕ). (let x = c.closed_games_stay.ensures.whole f in (x.0, x.1)) in
-    let is = fed c.closed_games_stay.ensures.grow split front c.args.piece.now c.as_slice.result.now are in
+    let is = piece_is_fed c.closed_games_stay.ensures.grow split front c.args.piece.now c.as_slice.result.now are in
     let cutter = c.in_ok-feed.ensures.stands front was.cutter in
     goes_on c.games_stand_apart.ensures.each split c.args.self.now _ front c.args.piece.now m c.as_slice.result.now was is (record {
       cutter = cutter;

@@ -1,5 +1,5 @@
 use Rattle.std.proofs.Common.{◌≡◌, ℕ, ◌+◌, ◌<◌, ◌++◌, [], ◌∷◌, length, refl, sym, ap, subst, ◌∙◌, rules, true, false}
-use Rattle.cq_batches.proofs.Queues.{filled, grown, tested, small, few, few_low, few_push, numbers_push, starts_push}
+use Rattle.cq_batches.proofs.Queues.{filled, games_are_counted, grown, tested, small, few_low, few_push, numbers_push, starts_push}
 use Rattle.cq_batches.proofs.state.Queue.add.Goals as goal
 
 pub overflow_add-self : goal.overflow_add-self
@@ -7,7 +7,7 @@ overflow_add-self c = let s = small c.args.self.now c.requires.fills.0 c.require
 
 pub overflow_add-self-then-is_full : goal.overflow_add-self-then-is_full
 overflow_add-self-then-is_full c =
-    let f = few c.args.self.now c.requires.fills.0 c.requires.fills.1 c.requires.fills.2 in let b = c.requires.fills.3 in
+    let f = games_are_counted c.args.self.now c.requires.fills.0 c.requires.fills.1 c.requires.fills.2 in let b = c.requires.fills.3 in
     let e = c.len-count.ensures in let p = c.in_ok-push.ensures.len in let o = c.args.self.now.open.ok.0 in search rules
 
 pub returns-in_ok-push_back : goal.returns-in_ok-push_back
