@@ -7,7 +7,7 @@ use Rattle.cq_geometry.specs.Lines.{between_squares, lies_between}
 use Rattle.cq_geometry.proofs.Tables.{at_square}
 use Rattle.cq_position.specs.Bitboards.{contains}
 use Rattle.cq_bits.specs.Sets.{Has, IsSetOf}
-use Rattle.cq_sets.proofs.Bits.{nothing_there}
+use Rattle.cq_square_sets.proofs.Bits.{nothing_there}
 
 no : {A : Type 0} → false ≡ true → A
 no e = absurd (true≢false (sym e))

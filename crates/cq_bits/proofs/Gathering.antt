@@ -6,7 +6,7 @@ use Rattle.std.proofs.lemmas.Bool.{cases_eq}
 use Rattle.std.proofs.lemmas.Nat.{and_le_l}
 use Rattle.std.proofs.lemmas.Nat.Bits.{bit_at-trailing_zeros, bit_at_clear_same, bit_at_clear_other}
 use Rattle.cq_bits.specs.Sets.{Has, IsSetOf}
-use Rattle.cq_sets.proofs.Bits.{in_both, in_either, from_first, from_second, nothing_there}
+use Rattle.cq_square_sets.proofs.Bits.{in_both, in_either, from_first, from_second, nothing_there}
 
 -- the set without a square
 abbrev pub cleared : ℕ → ℕ → ℕ

@@ -8,8 +8,8 @@ use Rattle.cq_position.specs.Board.{man_at}
 use Rattle.cq_position.specs.Bitboards.{IsBitboard, bit_of}
 use Rattle.cq_position.specs.declared.men.Man.{Man}
 use Rattle.cq_bits.specs.Sets.{Has, has, IsSetOf, IsChosen, slides, goes_straight, goes_diagonally}
-use Rattle.cq_sets.proofs.Marked.{marks_or, marks_not}
-use Rattle.cq_sets.proofs.Bits.{nothing_there, in_either, in_both, both_have, from_first, from_second}
+use Rattle.cq_square_sets.proofs.Marked.{marks_or, marks_not}
+use Rattle.cq_square_sets.proofs.Bits.{nothing_there, in_either, in_both, both_have, from_first, from_second}
 
 pub one_more : (set number : ℕ) → number < 64 → (square : ℕ) → square < 64
     → Has (bit_or set (1 * 2 ^ number % 18446744073709551616)) square ↔ (Has set square ⊎ ((square ≡ number) × (true ≡ true)))

@@ -8,7 +8,7 @@ use Rattle.cq_position.specs.Board.{man_at}
 use Rattle.cq_position.specs.declared.men.Man.{Man}
 use Rattle.cq_position.specs.declared.men.Man.TheVariants.{K, Q, R, B, N, P, BlackK, BlackQ, BlackR, BlackB, BlackN, BlackP}
 use Rattle.cq_position.specs.Men.{same_man}
-pub use Rattle.cq_sets.specs.Sets.{Has, has, IsSetOf, IsStepped, IsSlid, reaches}
+pub use Rattle.cq_square_sets.specs.Sets.{Has, has, IsSetOf, IsStepped, IsSlid, reaches}
 
 -- a rook and a queen attack along their files and ranks (FIDE Laws of Chess, articles 3.3 and 3.4)
 abbrev pub goes_straight : Man → Bool

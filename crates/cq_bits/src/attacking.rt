@@ -2,13 +2,13 @@
 ghost use Rattle.std.specs.Prelude.{◌≡◌, ◌<◌};
 ghost use Rattle.cq_position.specs.Attacks.{attacks};
 ghost use Rattle.cq_position.specs.Board.{man_at};
-ghost use Rattle.cq_sets.specs.Bitboards.{IsBitboard};
+ghost use Rattle.cq_square_sets.specs.Bitboards.{IsBitboard};
 ghost use Rattle.cq_bits.specs.Sets.{Has, IsSetOf, IsAttacker, leaps_to};
 
 use crate::attacks::{Kind, either_side, standing};
 use cq_geometry::Square;
 use cq_position::{Man, Men, Position, attacks_from};
-use cq_sets::{
+use cq_square_sets::{
     BitSet64, king_steps, knight_steps, lowest_square, slanted_squares, steps_down, steps_up,
     straight_squares,
 };

@@ -1,12 +1,12 @@
 //! What the men of a set attack.
 ghost use Rattle.std.specs.Prelude.{◌≡◌, ℕ, ◌<◌, ◌↔◌, ◌⊎◌, ◌||◌, true, false};
 ghost use Rattle.cq_bits.specs.Sets.{Has, IsSetOf, IsAttacked, IsChosen, IsLeap, slides};
-ghost use Rattle.cq_sets.specs.Bitboards.{IsBitboard};
+ghost use Rattle.cq_square_sets.specs.Bitboards.{IsBitboard};
 ghost use Rattle.cq_position.specs.Board.{man_at, stands};
 ghost use Rattle.cq_bits.specs.Kinds.{is_of_kind};
 
 use cq_position::{Man, Men, Position, attacks_from};
-use cq_sets::{BitSet64, lowest_square, slide};
+use cq_square_sets::{BitSet64, lowest_square, slide};
 
 /// Expands to the union of the slides that are listed, each from its set in its direction.
 macro_rules! slides {

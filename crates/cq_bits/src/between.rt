@@ -6,7 +6,7 @@ ghost use Rattle.cq_bits.specs.Sets.{IsSetOf, IsBetween, IsBetweenOne};
 
 use crate::attacks::with_square;
 use cq_geometry::{Square, between};
-use cq_sets::{BitSet64, lowest_square};
+use cq_square_sets::{BitSet64, lowest_square};
 
 /// The squares strictly between a square of `a` and a square of `b` that are on one file, rank or diagonal.
 pub fn between_all(a: BitSet64, b: BitSet64) -> BitSet64

@@ -8,4 +8,4 @@ pub mod between;
 pub use attacking::{attackers, attackers_among};
 pub use attacks::attacked;
 pub use between::between_all;
-pub use cq_sets::{BitSet64, slide};
+pub use cq_square_sets::{BitSet64, slide};

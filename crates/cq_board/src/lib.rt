@@ -4,7 +4,6 @@
 mod board;
 mod laws;
 mod seat;
-mod shared;
 mod view;
 
 pub use laws::draws_stay_sound;

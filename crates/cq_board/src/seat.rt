@@ -3,6 +3,7 @@ ghost use Rattle.std.specs.Prelude.{◌≡◌, ◌^◌, ◌<◌, ◌≤◌, []};
 ghost use Rattle.std.specs.List.Sorted.{IsStrictlyIncreasing};
 ghost use Rattle.cq_board.specs.Views.{share};
 
+use cq_common::{Shared};
 use crate::view::{DrawnOnce, Terms, View};
 use atomic_table::{Seat, Table};
 use std::alloc::Global;
@@ -18,6 +19,8 @@ pub struct Board {
     ghost slots: { table.shared.table_id.slots ≡ 0 },
 }
 
+impl Shared for Board {}
+
 /// The right of one worker to draw, until it was answered None.
 #[derive(Drop)]
 pub struct ClaimSeat {
@@ -26,3 +29,5 @@ pub struct ClaimSeat {
     ghost increasing: { IsStrictlyIncreasing seat.me.0.drawn },
     ghost one_share: { share seat.me.0.numbers seat.me.0 ≡ 1 },
 }
+
+impl Shared for ClaimSeat {}

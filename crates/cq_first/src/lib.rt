@@ -4,7 +4,6 @@
 mod board;
 mod looking;
 mod seat;
-mod shared;
 mod view;
 
 pub use seat::{FirstBoard, FirstSeat};

@@ -4,8 +4,8 @@ use Rattle.std.proofs.lemmas.Bool.{cases_eq, eq-eqb, ne_eqb, false_from_ne_true}
 use Rattle.cq_geometry.specs.Squares.{squares}
 use Rattle.cq_geometry.specs.Steps.{stepped}
 use Rattle.cq_geometry.proofs.Tables.{at_squares}
-use Rattle.cq_sets.specs.Bitboards.{IsBitboard, is_goal}
-use Rattle.cq_sets.proofs.Marked.{marks_same, marks_none}
+use Rattle.cq_square_sets.specs.Bitboards.{IsBitboard, is_goal}
+use Rattle.cq_square_sets.proofs.Marked.{marks_same, marks_none}
 use Rattle.cq_position.specs.declared.men.Man.TheVariants.{Empty}
 use Rattle.cq_position.specs.declared.men.Piece.TheVariants.{Pawn}
 use Rattle.cq_position.specs.declared.men.Side.{Side}

@@ -11,8 +11,8 @@ use Rattle.cq_position.specs.declared.men.Promotion.TheVariants.{None as NoPromo
 use Rattle.cq_position.specs.declared.moves.Move.{Move}
 use Rattle.cq_position.specs.Board.{Board, man_at}
 use Rattle.cq_position.specs.Men.{is_of_side}
-use Rattle.cq_sets.specs.Bitboards.{IsBitboard, bit_of}
-use Rattle.cq_sets.proofs.Bits.{in_both}
+use Rattle.cq_square_sets.specs.Bitboards.{IsBitboard, bit_of}
+use Rattle.cq_square_sets.proofs.Bits.{in_both}
 use Rattle.cq_position.specs.Legal.{reaches}
 use Rattle.cq_position.specs.Legality.{legal_test}
 use Rattle.cq_moves.specs.LegalMoves.{move_of, all_moves, moves_from, moves_between, legal_list, legal_from, legal_between}

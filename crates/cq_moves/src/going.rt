@@ -15,7 +15,7 @@ use cq_geometry::{Square, Step, rank};
 use cq_position::attacks::{is_occupied, squares_attacked};
 use cq_position::home::castling_goal;
 use cq_position::{Man, Piece, Position, Side, is_of_side, man_of, opponent};
-use cq_sets::mark;
+use cq_square_sets::mark;
 
 /// The squares to which a man goes: bit k of the answer is square k.
 pub(crate) fn goals_from(position: &Position, mover: &Mover, origin: &Origin) -> u64
@@ -40,7 +40,7 @@ pub(crate) fn free_squares(position: &Position) -> u64
 }
 
 // The squares to which such a man on the square goes, whatever stands there.
-#[tactic(auto, using(cq_sets::proofs::Marked::marks_none))]
+#[tactic(auto, using(cq_square_sets::proofs::Marked::marks_none))]
 fn goals_of(man: Man, position: &Position, origin: &Origin) -> u64
     requires { IsOrigin position.now origin.now }
     ensures { IsBitboard result (legal.goes_as man position.now origin.now.from) }

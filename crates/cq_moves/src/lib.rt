@@ -15,8 +15,6 @@ mod sliders;
 
 pub use after::is_en_passant_capture;
 pub use castling::is_castling;
-pub use cq_position::home::castling_goal;
-pub use cq_sets::lowest_square;
 pub use legality::{is_legal, is_legal_seen};
 pub use list::legal_moves;
 pub use next_position::play;

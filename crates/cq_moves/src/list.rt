@@ -15,7 +15,7 @@ use arrayvec::ArrayVec;
 use cq_geometry::Square;
 use cq_position::position::is_pawn;
 use cq_position::{Move, Position, Promotion};
-use cq_sets::lowest_square;
+use cq_square_sets::lowest_square;
 
 /// The legal moves of a position, each once, in the order of the squares from which they go, then of their goals, then of the promotions
 /// to a queen, a rook, a bishop and a knight. The null move is none of them.
@@ -37,7 +37,7 @@ pub fn legal_moves(position: &Position) -> ArrayVec<Move, 512>
 }
 
 // Adds the legal moves from a square. A man that doesn't expose its king and is no pawn has no move that must be judged.
-#[tactic(auto, using(crate::proofs::Parts::plain_moves))]
+#[tactic(auto, using(crate::proofs::ValueParts::plain_moves))]
 fn add_moves_from(position: &Position, mover: &Mover, from: Square, moves: &mut ArrayVec<Move, 512>)
     requires mover { IsMover position.now mover.now }
     requires room { length moves.old.items + length (legal_from position.now from) ≤ 512 }

@@ -11,7 +11,7 @@ use crate::going::goals_from;
 use crate::mover::{Mover, Origin, is_legal_there, mover_of, origin_of};
 use cq_geometry::Square;
 use cq_position::{Move, Position, Promotion, in_check};
-use cq_sets::lowest_square;
+use cq_square_sets::lowest_square;
 
 /// Whether the side to move is mated: it is in check and has no legal move.
 pub fn is_mate(position: &Position) -> bool

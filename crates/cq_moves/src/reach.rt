@@ -16,7 +16,7 @@ use cq_position::position::is_pawn;
 use cq_position::{
     Man, Move, Piece, Position, Promotion, Side, is_of_side, king_of, man_of, opponent,
 };
-use cq_sets::mark;
+use cq_square_sets::mark;
 
 /// Whether a man of the side to move goes from one square to another, which holds none of its own men and no king. `attacked` tells whether
 /// the man attacks the other square.
@@ -45,7 +45,7 @@ pub(crate) fn attacks(position: &Position, attacked: u64, from: Square, to: Squa
 }
 
 /// A set that has each square from which a man of the side to move, being such a piece, goes to the goal. Bit k of the answer is square k.
-#[tactic(auto, using(cq_sets::proofs::Marked::marks_or))]
+#[tactic(auto, using(cq_square_sets::proofs::Marked::marks_or))]
 #[inline]
 pub fn origins_to(position: &Position, piece: Piece, goal: Square) -> u64
     ensures mask { IsBitboard result (may_come position.now.side piece (attack.is_occupied position.now.men) goal) }

@@ -7,7 +7,7 @@ ghost use Rattle.cq_position.specs.Outward.{is_straight, is_slanted, some_man};
 use cq_geometry::Square;
 use cq_position::attacks::{slanted_men, straight_men};
 use cq_position::{Men, Side};
-use cq_sets::{meets, slanted_lines, straight_lines};
+use cq_square_sets::{meets, slanted_lines, straight_lines};
 
 /// Whether a rook or queen of a side stands on the file or rank of a square, or a bishop or queen on a diagonal, whatever is between.
 #[inline]

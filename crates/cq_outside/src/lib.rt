@@ -21,10 +21,7 @@ pub mod system;
 
 pub use arguments::command_words;
 pub use calls::Calls;
-pub use cq_common::{
-    Bytes, Failed, NoMemory, OpenFault, Refusal, Shared, Steps, decimal_up_to, digits_len,
-    is_white, white_len,
-};
+pub use cq_common::{Bytes, Failed, NoMemory, OpenFault, Refusal};
 pub use desk::Desk;
 pub use edge::{FileDesk, StdSink};
 pub use gate::{Gate, OpenGate};

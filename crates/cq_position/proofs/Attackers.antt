@@ -28,8 +28,8 @@ use Rattle.cq_position.specs.declared.men.Piece.TheVariants.{Queen, Rook, Bishop
 use Rattle.cq_position.specs.Men.{same_man, is_of_side, king_of, pawn_of, man_of, opponent}
 use Rattle.cq_position.specs.Board.{man_at, stands}
 use Rattle.cq_position.specs.Attacks.{is_occupied, is_pawn_attack, attacks_as, attacks, attacker, is_attacked}
-use Rattle.cq_sets.specs.Bitboards.{IsBitboard, contains}
-use Rattle.cq_sets.proofs.Marked.{marks_same, marks_or}
+use Rattle.cq_square_sets.specs.Bitboards.{IsBitboard, contains}
+use Rattle.cq_square_sets.proofs.Marked.{marks_same, marks_or}
 use Rattle.cq_position.specs.Outward.{first_man, is_straight, is_slanted, knight_of, first_is, holds, pawn_origins, some_man}
 
 -- ---- tests of some element

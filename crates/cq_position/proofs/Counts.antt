@@ -9,7 +9,7 @@ use Rattle.cq_position.specs.declared.men.Man.{Man}
 use Rattle.cq_position.specs.declared.men.Man.TheVariants.{Empty}
 use Rattle.cq_position.specs.Men.{same_man}
 use Rattle.cq_position.specs.Board.{stands, count_of}
-use Rattle.cq_sets.specs.Bitboards.{IsBitboard, bit_of}
+use Rattle.cq_square_sets.specs.Bitboards.{IsBitboard, bit_of}
 
 of_bit : (b : Bool) → bit_of b ≡ cond b 1 0
 of_bit true = refl

@@ -3,7 +3,7 @@ use Rattle.std.proofs.Common.{◌≡◌, ◌≢◌, ℕ, zero, suc, ◌+◌, ◌
 use Rattle.std.specs.Prelude.{bit_or, bit_and, nat_lt, nat_le}
 use Rattle.std.specs.Int.{bit_at, bit_not, w64}
 use Rattle.std.proofs.lemmas.Nat.Bits.{bit_at-lt, bit_at_not, bit_at_set_same, bit_at_set_other, bit_at_clear_same, bit_at_clear_other}
-use Rattle.cq_sets.specs.Bitboards.{IsBitboard, bit_of}
+use Rattle.cq_square_sets.specs.Bitboards.{IsBitboard, bit_of}
 use Rattle.std.proofs.lemmas.Bool.Decides.{nat_tests}
 use Rattle.std.proofs.lemmas.Nat.{or_lt, and_le_l}
 use Rattle.cq_position.specs.declared.men.Man.{Man}
@@ -11,9 +11,9 @@ use Rattle.cq_position.specs.declared.men.Man.TheVariants.{K, Q, R, B, N, P, Bla
 use Rattle.cq_position.specs.declared.men.Side.TheVariants.{White, Black}
 use Rattle.cq_position.specs.Men.{man_number, is_of_side}
 use Rattle.cq_position.specs.Board.{man_at, stands}
-use Rattle.cq_sets.specs.Planes.{IsWith, AreWords, number_at, list_of}
-use Rattle.cq_sets.proofs.Words.{list_at}
-use Rattle.cq_sets.proofs.Marked.{marks_same, marks_or, marks_and, marks_not}
+use Rattle.cq_square_sets.specs.Planes.{IsWith, AreWords, number_at, list_of}
+use Rattle.cq_square_sets.proofs.Words.{list_at}
+use Rattle.cq_square_sets.proofs.Marked.{marks_same, marks_or, marks_and, marks_not}
 use Rattle.cq_position.specs.Planes.{man_numbered}
 use Rattle.cq_position.specs.Inside.{numbered}
 

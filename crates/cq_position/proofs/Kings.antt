@@ -18,8 +18,8 @@ use Rattle.cq_position.specs.Board.{man_at, stands, count_of, has_kings}
 use Rattle.cq_position.specs.Attacks.{attacked_king, is_attacked, in_check}
 use Rattle.cq_position.specs.King.{IsKingSquare}
 use Rattle.cq_position.proofs.Attackers.{any_same, any_pick}
-use Rattle.cq_sets.specs.Bitboards.{IsBitboard, bit_of}
-use Rattle.cq_sets.proofs.Shared.{some_set}
+use Rattle.cq_square_sets.specs.Bitboards.{IsBitboard, bit_of}
+use Rattle.cq_square_sets.proofs.Shared.{some_set}
 
 abbrev counted : Bool → ℕ
 counted b = cond b 1 0

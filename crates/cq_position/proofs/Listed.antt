@@ -5,8 +5,8 @@ use Rattle.std.specs.Bool.{Decides}
 use Rattle.std.proofs.lemmas.Bool.{cases_Bool, cases_eq, and_parts, eq-eqb, eqb-true, false_from_ne_true}
 use Rattle.std.proofs.lemmas.List.{ext_get_or, get_or-set_same, get_or-set_other, length-set}
 use Rattle.std.proofs.lemmas.Slice.Eq.{slice_eq-Decides}
-use Rattle.cq_sets.specs.Planes.{AreWords, list_of, word_of}
-use Rattle.cq_sets.proofs.Words.{words_back}
+use Rattle.cq_square_sets.specs.Planes.{AreWords, list_of, word_of}
+use Rattle.cq_square_sets.proofs.Words.{words_back}
 use Rattle.cq_position.specs.declared.men.Man.{Man}
 use Rattle.cq_position.specs.declared.men.Man.TheVariants.{Empty}
 use Rattle.cq_position.specs.Men.{man_number, same_man, same_men}

@@ -4,7 +4,7 @@ use Rattle.std.specs.List.{list_any}
 use Rattle.cq_geometry.specs.Squares.{rank_of, squares}
 use Rattle.cq_geometry.specs.Steps.{files_apart, is_king_step, is_knight_step}
 use Rattle.cq_geometry.specs.Lines.{is_orthogonal, is_diagonal, is_open}
-pub use Rattle.cq_sets.specs.Bitboards.{is_goal}
+pub use Rattle.cq_square_sets.specs.Bitboards.{is_goal}
 use Rattle.cq_position.specs.declared.men.Man.{Man}
 use Rattle.cq_position.specs.declared.men.Man.TheVariants.{Empty}
 use Rattle.cq_position.specs.declared.men.Piece.{Piece}

@@ -5,8 +5,8 @@ use Rattle.cq_position.specs.declared.men.Man.{Man}
 use Rattle.cq_position.specs.Men.{man_number}
 use Rattle.cq_position.specs.declared.planes.Men.TheInside.{Inside}
 use Rattle.cq_position.specs.Planes.{man_numbered}
-use Rattle.cq_sets.specs.Planes.{list_of, word_of, AreWords}
-use Rattle.cq_sets.proofs.Words.{words_back, AreBack, above}
+use Rattle.cq_square_sets.specs.Planes.{list_of, word_of, AreWords}
+use Rattle.cq_square_sets.proofs.Words.{words_back, AreBack, above}
 
 abbrev pub men_inside : Inside → List Man
 men_inside p = list_of man_numbered p.ones p.twos p.fours p.eights

@@ -2,7 +2,7 @@
 ghost use Rattle.std.specs.Prelude.{◌≡◌, ◌&&◌, ◌||◌};
 ghost use Rattle.cq_geometry.specs.Lines as lines;
 ghost use Rattle.cq_position.specs.Attacks as attack;
-ghost use Rattle.cq_sets.specs.Bitboards.{IsBitboard};
+ghost use Rattle.cq_square_sets.specs.Bitboards.{IsBitboard};
 
 use crate::king::king_square;
 use crate::men::{Man, Side, king_of, opponent};
@@ -10,7 +10,7 @@ pub use crate::outward::{is_attacked, slanted_men, straight_men};
 use crate::planes::Men;
 use crate::position::{Position, stands};
 use cq_geometry::{Square, between, files_apart, rank};
-use cq_sets::{king_steps, knight_steps, slanted_squares, steps_down, steps_up, straight_squares};
+use cq_square_sets::{king_steps, knight_steps, slanted_squares, steps_down, steps_up, straight_squares};
 
 /// The squares that the man on a square attacks, whatever stands there (FIDE Laws of Chess, articles 3.2 to 3.8): bit k of the
 /// answer is square k. An empty square attacks none.
@@ -80,7 +80,7 @@ pub fn is_occupied(men: &Men, square: Square) -> bool
 }
 
 /// The squares that a man attacks from a square of this board: bit k of the answer is square k.
-#[tactic(auto, using(cq_sets::proofs::Marked::marks_none))]
+#[tactic(auto, using(cq_square_sets::proofs::Marked::marks_none))]
 pub fn squares_attacked(man: Man, men: &Men, from: Square) -> u64
     ensures { IsBitboard result (attack.attacks_as man (attack.is_occupied men.now) from) }
 {

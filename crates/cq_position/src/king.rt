@@ -4,7 +4,7 @@ ghost use Rattle.cq_position.specs.King.{IsKingSquare};
 use crate::men::{Piece, Side};
 use crate::position::Position;
 use cq_geometry::Square;
-use cq_sets::lowest_square;
+use cq_square_sets::lowest_square;
 
 /// The square on which the king of a side stands.
 pub fn king_square(position: &Position, side: Side) -> Square

@@ -2,7 +2,7 @@
 ghost use Rattle.std.specs.Prelude.{◌≡◌, ◌&&◌};
 ghost use Rattle.cq_geometry.specs.Lines as lines;
 ghost use Rattle.cq_geometry.specs.Steps as steps;
-ghost use Rattle.cq_sets.specs.Bitboards.{IsBitboard};
+ghost use Rattle.cq_square_sets.specs.Bitboards.{IsBitboard};
 ghost use Rattle.cq_position.specs.Attacks as attack;
 ghost use Rattle.cq_position.specs.Board.{man_at};
 ghost use Rattle.cq_position.specs.Board as board;
@@ -13,7 +13,7 @@ use crate::attacks::pawn_squares;
 use crate::men::{Man, Piece, Side, opponent};
 use crate::planes::Men;
 use cq_geometry::Square;
-use cq_sets::{
+use cq_square_sets::{
     king_steps, knight_steps, meets, slanted_lines, slanted_squares, straight_lines,
     straight_squares,
 };

@@ -1,8 +1,8 @@
 //! The men on the board as four sets of squares.
 ghost use Rattle.std.specs.Prelude.{◌≡◌, ◌<◌, ◌&&◌, ◌==◌, ℕ, replicate, slice_set};
 ghost use Rattle.std.specs.Int.{bit_at};
-ghost use Rattle.cq_sets.specs.Bitboards.{IsBitboard};
-ghost use Rattle.cq_sets.specs.Planes.{IsWith};
+ghost use Rattle.cq_square_sets.specs.Bitboards.{IsBitboard};
+ghost use Rattle.cq_square_sets.specs.Planes.{IsWith};
 ghost use Rattle.cq_position.specs.declared.men.Man.TheVariants.{Empty};
 ghost use Rattle.cq_position.specs.Board.{man_at};
 ghost use Rattle.cq_position.specs.Board as board;

@@ -1,6 +1,6 @@
 -- The lines that answer a query which is refused, accepted or explained.
 use Rattle.std.specs.Prelude.{ℕ, List, [], ◌++◌, codes}
-use Rattle.cql_flat_text.specs.FlatText.{items_text}
+use Rattle.cql_rewrite.specs.FlatText.{items_text}
 use Rattle.cql_syntax.specs.Flat.{flat_query}
 use Rattle.cql_syntax.specs.Trees.{QueryTree}
 use Rattle.cq_queries.specs.declared.status.Status.{Status}

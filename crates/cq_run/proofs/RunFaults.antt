@@ -8,17 +8,17 @@ use Rattle.cq_report.specs.Queries.{query_line}
 use Rattle.cq_queries.specs.declared.status.Status.{Status}
 use Rattle.cq_queries.specs.declared.status.Status.TheVariants.{Done, DoneWithRefusals, QueryRefused, WordsRefused, OpenFault, ReadFault, WriteFault, NoMemory, ArchiveTooLong}
 use Rattle.cq_queries.specs.Views.{SourceView, DeskView, IsUnwritten, NoWriteFailed}
-use Rattle.cq_answers.specs.Promise.{Wanted, SaysOfAnswer}
-use Rattle.cq_answers.specs.FirstGame.{wanted}
-use Rattle.cq_answers.specs.ManyQueries.{texts_of_all}
+use Rattle.cq_search.specs.Promise.{Wanted, SaysOfAnswer}
+use Rattle.cq_search.specs.FirstGame.{wanted}
+use Rattle.cq_search.specs.ManyQueries.{texts_of_all}
 use Rattle.cq_run.specs.Run.{Call, from_desk, IsUnmoved}
 use Rattle.cq_queries.specs.Files.{Opened, FailsToOpen, TakesQuery, LacksMemory, no_memory_to_open, no_memory_to_read, Reading, a_query, some_queries}
 use Rattle.cq_run.specs.Run.{WritesUsage, AnswersFile, archive_answered, archive_unopened, archive_out_of_memory}
 use Rattle.cq_queries.specs.Lines.{RefusesQuery, AcceptsQuery, WritesFlat}
 use Rattle.cq_run.specs.Run.{OverText, text_accepted, text_refused, text_out_of_memory, OverFile, file_accepted, file_refused, file_unopened, file_unread, file_out_of_memory}
 use Rattle.cq_run.specs.Run.{SaysAccepted, Explains, RunsMade, DoesJob, AnswersItsFault}
-use Rattle.cq_answers.specs.SelfRun.{WritesTotals, WritesMade, totals_written, made_out_of_memory}
-use Rattle.cq_answers.specs.declared.totals.Totals.{Totals}
+use Rattle.cq_search.specs.SelfRun.{WritesTotals, WritesMade, totals_written, made_out_of_memory}
+use Rattle.cq_search.specs.declared.totals.Totals.{Totals}
 use Rattle.cq_queries.proofs.Sinks.{wrote_none}
 
 -- counts that stand still, and the one that may rise

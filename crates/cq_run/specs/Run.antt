@@ -21,12 +21,12 @@ use Rattle.cq_queries.specs.Queries.{IsQuery, IsQueryFault}
 use Rattle.cq_queries.specs.QueryFiles.{HoldsQueries, IsManyFault, most_in_file}
 use Rattle.cq_queries.specs.Files.{Opened, FailsToOpen, TakesQuery, FailsToRead, LacksMemory, Reading, a_query, some_queries}
 use Rattle.cq_queries.specs.Lines.{text_for_err, RefusesQuery, AcceptsQuery, WritesFlat}
-use Rattle.cq_answers.specs.ManyQueries.{texts_of_all}
-use Rattle.cq_answers.specs.SelfRun.{WritesMade}
-use Rattle.cq_answers.specs.FirstGame.{wanted}
+use Rattle.cq_search.specs.ManyQueries.{texts_of_all}
+use Rattle.cq_search.specs.SelfRun.{WritesMade}
+use Rattle.cq_search.specs.FirstGame.{wanted}
 use Rattle.cq_queries.specs.Views.{SourceView, DeskView, Sinks, Writes, WritesPrefix, IsUnwritten, NoWriteFailed}
 use Rattle.cq_queries.specs.Views.{ErrFailed, SinkFailed}
-use Rattle.cq_answers.specs.Promise.{IsOneOf, AnswerPromise, Suffices, Wanted}
+use Rattle.cq_search.specs.Promise.{IsOneOf, AnswerPromise, Suffices, Wanted}
 
 -- what a call of `run` was lent, as it began and as it ended
 pub record Call : Type 0 where

@@ -5,14 +5,14 @@ ghost use Rattle.cq_words.specs.Jobs.{IsInRange};
 ghost use Rattle.cq_words.specs.declared.job.Job.TheVariants as jobs;
 ghost use Rattle.cql_syntax.specs.QueryTrees.{trees_of};
 ghost use Rattle.cql_syntax.specs.TreeOf.{query_tree};
-ghost use Rattle.cq_answers.specs.FirstGame.{wanted};
-ghost use Rattle.cq_answers.specs.ManyQueries.{texts_of_all};
+ghost use Rattle.cq_search.specs.FirstGame.{wanted};
+ghost use Rattle.cq_search.specs.ManyQueries.{texts_of_all};
 ghost use Rattle.cq_run.specs.Run.{call_of, Promise, AnswersFile, OverFile, SaysAccepted, Explains, DoesJob, WritesUsage};
 ghost use Rattle.cq_queries.specs.Views.{SinkView, desk_view, sink_view, sinks_of};
 ghost use Rattle.cq_queries.specs.Files.{a_query};
 
 use crate::selfrun::answer_text_over_made;
-use cq_answers::{Crew, answer_many_with, answer_with};
+use cq_search::{Crew, answer_many_with, answer_with};
 use cq_common::{OpenFault, Refusal};
 use cq_outside::{Desk, Gate, Sink, write_all_of};
 use cq_queries::laws::{

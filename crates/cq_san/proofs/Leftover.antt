@@ -9,8 +9,8 @@ use Rattle.std.proofs.lemmas.List.Elements.{All-head, All-tail, All-weaker}
 use Rattle.cq_geometry.specs.Squares.{squares}
 use Rattle.cq_geometry.proofs.Board.{squares_board}
 use Rattle.cq_position.specs.Board.{Board, stands}
-use Rattle.cq_sets.specs.Bitboards.{IsBitboard, bit_of}
-use Rattle.cq_sets.proofs.Marked.{marks_and}
+use Rattle.cq_square_sets.specs.Bitboards.{IsBitboard, bit_of}
+use Rattle.cq_square_sets.proofs.Marked.{marks_and}
 use Rattle.cq_position.specs.Attacks.{is_occupied}
 use Rattle.cq_position.specs.Men.{man_of}
 use Rattle.std.proofs.lemmas.Nat.Bits.{bit_at_clear_other, bit_at-zero}

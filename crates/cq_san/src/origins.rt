@@ -1,7 +1,7 @@
 //! The squares from which a move comes that agrees with the parts of a text.
 ghost use Rattle.std.specs.Prelude.{◌≡◌, ◌<◌, ◌==◌, ◌&&◌, not, ℕ, Bool, true, false, map};
 ghost use Rattle.cq_position.specs.Attacks.{is_occupied};
-ghost use Rattle.cq_sets.specs.Bitboards.{IsBitboard};
+ghost use Rattle.cq_square_sets.specs.Bitboards.{IsBitboard};
 ghost use Rattle.cq_moves.specs.Candidates.{may_come};
 ghost use Rattle.cq_position.specs.Board.{Board, stands};
 ghost use Rattle.cq_position.specs.Men.{man_of};
@@ -16,10 +16,11 @@ use crate::fit::comes_from;
 use crate::parts::PieceMove;
 use arrayvec::ArrayVec;
 use cq_geometry::Square;
-use cq_moves::{castling_goal, is_castling, is_legal_seen, origins_to};
+use cq_moves::{is_castling, is_legal_seen, origins_to};
+use cq_position::home::castling_goal;
 use cq_position::home::king_home;
 use cq_position::{Move, Position, Promotion, Side, man_of};
-use cq_sets::lowest_square;
+use cq_square_sets::lowest_square;
 
 /// The squares from which a legal move comes, other than castling, that agrees with the parts.
 pub(crate) fn origins(position: &Position, parts: &PieceMove) -> ArrayVec<Square, 64>

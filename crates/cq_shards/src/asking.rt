@@ -1,8 +1,8 @@
 //! The query of a plan, which is asked of games.
-ghost use Rattle.cq_shards.specs.Answers.{query_in};
+ghost use Rattle.cq_shards.specs.PlanQuery.{query_in};
 
 use crate::finding::find;
-use cq_answered::{Asked, GameAnswer, answer_found};
+use crate::{Asked, GameAnswer, answer_found};
 use cq_common::NoMemory;
 use cql_plan::Plan;
 use pgn_tree::Game;

@@ -1,11 +1,11 @@
 //! What a plan finds in a game, by a thread that counts no steps.
 ghost use Rattle.std.specs.Prelude.{◌≡◌, ◌≢◌, ◌<◌, [], map, Some, IfOk};
 ghost use Rattle.cql_syntax.specs.Hits.{hits, keys};
-ghost use Rattle.cql_plan.specs.Plans.{keys_of, nodes_of};
+ghost use Rattle.cql_plan.specs.Verdicts.{keys_of, nodes_of};
 ghost use Rattle.cql_syntax.specs.QueryTrees.{trees_of};
-ghost use Rattle.cq_parts.specs.Plans.{queries_of};
-ghost use Rattle.cq_parts.specs.Verdicts as all;
-ghost use Rattle.cq_shards.specs.Answers.{query_in};
+ghost use Rattle.cq_shared.specs.Plans.{queries_of};
+ghost use Rattle.cq_shared.specs.Verdicts as all;
+ghost use Rattle.cq_shards.specs.PlanQuery.{query_in};
 
 use cq_common::{NoMemory, Steps};
 use cq_shared::{SharedPlan, Verdicts, match_all};

@@ -1,36 +1,77 @@
-//! The queries of a plan of several, which are asked of games all at once.
-ghost use Rattle.cql_syntax.specs.QueryTrees.{trees_of};
-ghost use Rattle.cq_parts.specs.Plans.{queries_of};
+//! The answers of one game to several queries.
+ghost use Rattle.std.specs.Prelude.{◌≡◌, ◌<◌, length, IfOk, Err};
+ghost use Rattle.pgn_batches.specs.Games.{games_of, number_of};
+ghost use Rattle.cq_shards.specs.Rows.{IsRowAt, answers_back};
 
-use crate::finding::find_all;
-use cq_answered::{AllAsked, GameAnswer, answer_found};
+use crate::answering::{read_at, refused};
+use crate::answers::GameAnswer;
+use crate::asked::AllAsked;
+use pgn_batches::Batch;
 use cq_common::NoMemory;
-use cq_shared::SharedPlan;
+use pgn_reader::GameFault;
 use pgn_tree::Game;
 use std::alloc::Global;
 
-/// A plan whose queries are asked.
+/// The answers of the game that has this number in the archive. The first query's stands last, and is taken off first.
 #[derive(Drop)]
-pub(crate) struct AskedPlans<'a> {
-    pub(crate) plan: &'a SharedPlan,
+pub(crate) struct GameRow {
+    pub(crate) index: u64,
+    pub(crate) answers: Vec<GameAnswer>,
 }
 
-impl<'a> AllAsked for AskedPlans<'a> {
-    ghost queries = { λ asked. trees_of (queries_of asked.plan.now) };
-
-    fn len(&self) -> u32 {
-        self.plan.len()
-    }
-
-    fn answers(&self, alloc: Global, game: &Game, index: u64) -> Result<Vec<GameAnswer>, NoMemory> {
-        let plan = self.plan;
-        let found = find_all(alloc, plan, game)?;
-        let mut answers = Vec::with_capacity(alloc, plan.len() as usize)?;
-        for q in (0..plan.len()).rev() {
-            let query = plan.query(q);
-            let answer = answer_found(alloc, query, game, index, found.nodes(q), found.keys(q))?;
-            answers.push(answer)?;
+impl GameRow {
+    /// The export in the first query's answer; nothing where there is none.
+    pub(crate) fn text(&self) -> &[u8] {
+        match self.answers.last() {
+            Some(answer) => answer.text(),
+            None => &[],
         }
-        Ok(answers)
     }
+}
+
+/// The answers of the game that has this number in a batch. It is read once, and all queries are asked of it at once.
+pub(crate) fn row_at<A: AllAsked>(
+    alloc: Global,
+    asked: &A,
+    batch: &Batch,
+    number: u64,
+) -> Result<GameRow, NoMemory>
+    requires { number < length (games_of batch.now) }
+    ensures { IfOk result (IsRowAt (A.queries asked.now) (number_of batch.now) (games_of batch.now) number) }
+{
+    let outcome = read_at(alloc, batch, number)?;
+    let index = batch.index() + number;
+    let answers = answers_read(alloc, asked, &outcome, index)?;
+    Ok(GameRow { index, answers })
+}
+
+// The answers of a game that is read so.
+fn answers_read<A: AllAsked>(
+    alloc: Global,
+    asked: &A,
+    outcome: &Result<Game, GameFault>,
+    index: u64,
+) -> Result<Vec<GameAnswer>, NoMemory>
+    ensures { IfOk result (λ answers. answers.items ≡ answers_back (A.queries asked.now) index outcome.now) }
+{
+    match outcome {
+        Ok(game) => asked.answers(alloc, game, index),
+        Err(fault) => all_refused(alloc, asked, *fault, index),
+    }
+}
+
+// The answers of a faulty game.
+fn all_refused<A: AllAsked>(
+    alloc: Global,
+    asked: &A,
+    fault: GameFault,
+    index: u64,
+) -> Result<Vec<GameAnswer>, NoMemory>
+    ensures { IfOk result (λ answers. answers.items ≡ answers_back (A.queries asked.now) index (Err fault)) }
+{
+    let mut answers = Vec::with_capacity(alloc, asked.len() as usize)?;
+    for _q in (0..asked.len()).rev() {
+        answers.push(refused(index, fault))?;
+    }
+    Ok(answers)
 }

@@ -6,13 +6,13 @@ use Rattle.std.proofs.lemmas.Bool.Decides.{nat_tests}
 use Rattle.std.proofs.lemmas.List.{take_more, take_all}
 use Rattle.std.proofs.lemmas.List.Sums.{sum_by-cons}
 use Rattle.cq_position.specs.Games.{Game}
-use Rattle.cq_parts.specs.declared.part.Part.{Part}
-use Rattle.cq_parts.specs.declared.nodes.Nodes.{Nodes}
-use Rattle.cq_parts.specs.Known.{all_shown}
-use Rattle.cq_parts.specs.Matching.{is_left, meets, meets_if, is_class, is_before, cost_if, costs_if, part_cost, plan_cost, cost_at, AreLeft, AreReady, IsReady, CoversWanted, IsRowAt, IsNarrowedBy, IsNarrowedIf, HasRow, sort_class}
-use Rattle.cq_parts.specs.Parts.{PartTree}
-use Rattle.cq_parts.specs.Singles.{shown}
-use Rattle.cq_parts.specs.Wanted.{both, Admits, TakesAtMost}
+use Rattle.cq_shared.specs.declared.part.Part.{Part}
+use Rattle.cq_shared.specs.declared.nodes.Nodes.{Nodes}
+use Rattle.cq_shared.specs.Known.{all_shown}
+use Rattle.cq_shared.specs.Matching.{is_left, meets, meets_if, is_class, is_before, cost_if, costs_if, part_cost, plan_cost, cost_at, AreLeft, AreReady, IsReady, CoversWanted, IsRowAt, IsNarrowedBy, IsNarrowedIf, HasRow, sort_class}
+use Rattle.cq_shared.specs.Parts.{PartTree}
+use Rattle.cq_shared.specs.Singles.{shown}
+use Rattle.cq_shared.specs.Wanted.{both, Admits, TakesAtMost}
 
 and_true : (p : Bool) → (p && true) ≡ p
 and_true true = refl

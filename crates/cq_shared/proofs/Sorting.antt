@@ -2,10 +2,10 @@
 use Rattle.std.proofs.Common.{◌≡◌, ℕ, ◌+◌, ◌<◌, true, List, [], ◌∷◌, ◌++◌, length, take, get_or, sym, ap, ◌∙◌, subst}
 use Rattle.std.proofs.lemmas.List.{take_more}
 use Rattle.cq_position.specs.Games.{Game}
-use Rattle.cq_parts.specs.Matching.{is_left, HasRow, HaveRows}
-use Rattle.cq_parts.specs.declared.nodes.Nodes.{Nodes}
-use Rattle.cq_parts.specs.declared.nodes.Row.{Row}
-use Rattle.cq_parts.specs.declared.part.Part.{Part}
+use Rattle.cq_shared.specs.Matching.{is_left, HasRow, HaveRows}
+use Rattle.cq_shared.specs.declared.nodes.Nodes.{Nodes}
+use Rattle.cq_shared.specs.declared.nodes.Row.{Row}
+use Rattle.cq_shared.specs.declared.part.Part.{Part}
 
 module _ (game : Game) where
   row_kept : (left later : List Nodes) (p : Part) (r : Row) → ((q n : ℕ) → is_left later q n ≡ true → is_left left q n ≡ true) → HasRow game left p r.numbers.items

@@ -15,11 +15,11 @@ use Rattle.cql_syntax.specs.TreeOf.{filters_tree}
 use Rattle.cql_syntax.specs.Trees.{FilterTree, filter_at, FormTree, sort, FilterTrees, no_filters, more_filters}
 use Rattle.cql_syntax.specs.Values.{holds}
 use Rattle.cql_values.specs.Trees.{searched_tree}
-use Rattle.cq_parts.specs.Matching.{tree_for, holds_at, part_holds, part_cost, sort_number, IsTold, IsRowAt}
-use Rattle.cq_parts.specs.Parts.{first_of, alone, is_single}
-use Rattle.cq_parts.specs.Singles.{shown}
-use Rattle.cq_parts.specs.declared.part.Part.{Part}
-use Rattle.cq_parts.proofs.Keyed.{SortForm, form_sorts, sort_has}
+use Rattle.cq_shared.specs.Matching.{tree_for, holds_at, part_holds, part_cost, sort_number, IsTold, IsRowAt}
+use Rattle.cq_shared.specs.Parts.{first_of, alone, is_single}
+use Rattle.cq_shared.specs.Singles.{shown}
+use Rattle.cq_shared.specs.declared.part.Part.{Part}
+use Rattle.cq_shared.proofs.Keyed.{SortForm, form_sorts, sort_has}
 
 -- nodes that are asked for
 

@@ -2,26 +2,26 @@
 use Rattle.std.proofs.Common.{◌≡◌, ℕ, ◌+◌, ◌<◌, ◌≤◌, ◌&&◌, true, List, [], ◌∷◌, length, map, get_or, refl, sym, ap, ap₂, ◌∙◌, subst, arith, Bool}
 use Rattle.std.specs.List.{filter}
 use Rattle.cq_position.specs.Games.{Game}
-use Rattle.cql_needs.specs.Plans.{query_of}
+use Rattle.cql_plan.specs.Plans.{query_of}
 use Rattle.cql_syntax.specs.Hits.{hits}
-use Rattle.cq_parts.specs.Askers.{asked_query, AreAskers}
-use Rattle.cq_parts.specs.Beginning.{HaveBegun}
-use Rattle.cq_parts.specs.Known.{all_shown}
-use Rattle.cq_parts.specs.Matching.{is_before, is_class, costs_if, plan_cost, AreLeft}
-use Rattle.cq_parts.specs.Parts.{PartTree, parts_in_all, different, equal_parts}
+use Rattle.cq_shared.specs.Askers.{asked_query, AreAskers}
+use Rattle.cq_shared.specs.Beginning.{HaveBegun}
+use Rattle.cq_shared.specs.Known.{all_shown}
+use Rattle.cq_shared.specs.Matching.{is_before, is_class, costs_if, plan_cost, AreLeft}
+use Rattle.cq_shared.specs.Parts.{PartTree, parts_in_all, different, equal_parts}
 use Rattle.cql_syntax.specs.QueryTrees.{trees_of}
-use Rattle.cq_parts.specs.Plans.{plan_parts}
-use Rattle.cq_parts.specs.Reading.{AreFound}
-use Rattle.cq_parts.specs.Singles.{shown}
-use Rattle.cq_parts.specs.Wanted.{both, is_asked_in, asked_parts, TakeAtMost}
-use Rattle.cq_parts.specs.declared.nodes.Nodes.{Nodes}
-use Rattle.cq_parts.specs.declared.part.Asker.{Asker}
-use Rattle.cq_parts.specs.declared.part.Part.{Part}
+use Rattle.cq_shared.specs.Plans.{plan_parts}
+use Rattle.cq_shared.specs.Reading.{AreFound}
+use Rattle.cq_shared.specs.Singles.{shown}
+use Rattle.cq_shared.specs.Wanted.{both, is_asked_in, asked_parts, TakeAtMost}
+use Rattle.cq_shared.specs.declared.nodes.Nodes.{Nodes}
+use Rattle.cq_shared.specs.declared.part.Asker.{Asker}
+use Rattle.cq_shared.specs.declared.part.Part.{Part}
 use Rattle.cq_shared.proofs.After.{left_next, cost_next, cost_all, cost_some, still_admits}
-use Rattle.cq_parts.proofs.Begun.{begun_admits}
-use Rattle.cq_parts.proofs.Keyed.{class_low}
-use Rattle.cq_parts.proofs.Makings.{equal_is, plan_trees}
-use Rattle.cq_parts.proofs.Meeting.{met_before, meets_hit}
+use Rattle.cq_shared.proofs.Begun.{begun_admits}
+use Rattle.cq_shared.proofs.Keyed.{class_low}
+use Rattle.cq_shared.proofs.Makings.{equal_is, plan_trees}
+use Rattle.cq_shared.proofs.Meeting.{met_before, meets_hit}
 
 -- all classes of parts
 

@@ -4,11 +4,11 @@ ghost use Rattle.std.specs.List.{list_any};
 ghost use Rattle.cql_columns.specs.Columns.{AreAsked};
 ghost use Rattle.cql_eval.specs.Hits.{hits_of, keys_of, AreKeysAtHits};
 ghost use Rattle.cql_syntax.specs.TreeOf.{filters_tree};
-ghost use Rattle.cq_parts.specs.Matching.{tree_for, sort_class, part_cost, cost_at, IsTold, IsRowAt};
-ghost use Rattle.cq_parts.specs.Singles.{shown};
+ghost use Rattle.cq_shared.specs.Matching.{tree_for, sort_class, part_cost, cost_at, IsTold, IsRowAt};
+ghost use Rattle.cq_shared.specs.Singles.{shown};
 
 use cq_common::{NoMemory, Steps};
-use cq_parts::{Asked, Part};
+use crate::{Asked, Part};
 use cql_eval::{Column, hit_columns_at};
 use cql_pruning::order::SORTS;
 use pgn_tree::Game;

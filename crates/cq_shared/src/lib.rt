@@ -1,11 +1,26 @@
 //! Several queries over one game: each of the different parts of their plan is asked at most once a game.
 //!
-//! `cq_parts/specs/Matching` has what each part tells of a game, and costs; `cq_parts/specs/Verdicts` what is found of each query.
+//! `specs/Parts` has the parts of a query and defines when two parts are the same; `specs/Matching` has the result and the cost of each
+//! part in a game; `specs/Verdicts` the result of each query.
 #![tactic(auto)]
 
 mod asking;
+mod beginning;
+mod finding;
+mod found;
+mod keys;
+mod known;
+pub mod laws;
 mod matching;
+mod narrowing;
+mod nodes;
+mod part;
+mod plan;
 mod several;
+mod single;
+mod table;
+mod verdicts;
 
-pub use cq_parts::{SharedPlan, Verdicts, laws};
+pub use plan::SharedPlan;
 pub use several::match_all;
+pub use verdicts::Verdicts;

@@ -1,12 +1,12 @@
 //! One game against all parts of a plan.
 ghost use Rattle.std.specs.Prelude.{true, IfOk};
-ghost use Rattle.cq_parts.specs.Matching.{sort_class, is_before, is_class, AreLeft, AreReady, IsReady};
-ghost use Rattle.cq_parts.specs.Matching.{IsNarrowedBy, IsNarrowedIf, HasRow, HaveRows};
-ghost use Rattle.cq_parts.specs.Wanted.{TakesAtMost, TakeAtMost};
+ghost use Rattle.cq_shared.specs.Matching.{sort_class, is_before, is_class, AreLeft, AreReady, IsReady};
+ghost use Rattle.cq_shared.specs.Matching.{IsNarrowedBy, IsNarrowedIf, HasRow, HaveRows};
+ghost use Rattle.cq_shared.specs.Wanted.{TakesAtMost, TakeAtMost};
 
 use crate::asking::asked_at;
 use cq_common::{NoMemory, Steps};
-use cq_parts::{Narrowed, Nodes, Part, Row, Sorted, narrowed, wanted_nodes};
+use crate::{Narrowed, Nodes, Part, Row, Sorted, narrowed, wanted_nodes};
 use cql_pruning::order::SORTS;
 use pgn_tree::Game;
 use std::alloc::Global;

@@ -1,15 +1,15 @@
 //! The hits of several queries in one game, and their keys.
 ghost use Rattle.std.specs.Prelude.{◌≡◌, ◌+◌, ◌<◌, ◌≤◌, length, map, All, AllPairs, IfOk};
 ghost use Rattle.cql_syntax.specs.Hits.{hits};
-ghost use Rattle.cq_parts.specs.Matching.{plan_cost};
+ghost use Rattle.cq_shared.specs.Matching.{plan_cost};
 ghost use Rattle.cql_syntax.specs.QueryTrees.{trees_of};
-ghost use Rattle.cq_parts.specs.Plans.{queries_of, plan_parts};
-ghost use Rattle.cq_parts.specs.Wanted.{asked_parts};
-ghost use Rattle.cq_parts.specs.Verdicts.{nodes_of, keys_of, HaveKeys};
+ghost use Rattle.cq_shared.specs.Plans.{queries_of, plan_parts};
+ghost use Rattle.cq_shared.specs.Wanted.{asked_parts};
+ghost use Rattle.cq_shared.specs.Verdicts.{nodes_of, keys_of, HaveKeys};
 
 use crate::matching::{left_by, sorted_by};
 use cq_common::{NoMemory, Steps};
-use cq_parts::{SharedPlan, Verdicts, began, found_all};
+use crate::{SharedPlan, Verdicts, began, found_all};
 use pgn_tree::Game;
 use std::alloc::Global;
 use std::sync::ledger::Ledger;

@@ -10,7 +10,7 @@ use cq_common::NoMemory;
 use cql_columns::binding::Binding;
 use cql_columns::filter_column::blank_truths;
 use cql_columns::spans::{asked_end, first_asked};
-use cql_here::{Place, is_asked_here, square_here};
+use cql_local::{Place, is_asked_here, square_here};
 use cql_syntax::Filter;
 use cql_values::names::Names;
 use std::alloc::Global;

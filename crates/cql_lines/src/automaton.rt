@@ -1,6 +1,8 @@
 //! The automaton of a pattern.
 ghost use Rattle.std.specs.Prelude.{◌≤◌, length};
 
+use cq_common::Shared;
+
 /// How a path may go on: the places that may read its next node, and whether it may end.
 #[derive(Clone, Copy, Debug)]
 pub struct Next {
@@ -23,3 +25,5 @@ pub struct Automaton {
     pub(crate) first: u64,
     ghost few: { length rules.items ≤ 64 },
 }
+
+impl Shared for Automaton {}

@@ -11,7 +11,6 @@ mod plain;
 mod rows;
 mod sets;
 pub mod shape;
-mod shared;
 pub mod table;
 mod tree;
 mod values;

@@ -4,6 +4,8 @@ ghost use Rattle.cql_lines.specs.declared.shape.Limits.{Limits as SomeLimits};
 ghost use Rattle.cql_lines.specs.Limits.{longest_limit};
 ghost use Rattle.cql_lines.specs.Shapes.{joined, is_searched};
 
+use cq_common::Shared;
+
 /// A node of the tree.
 #[derive(Clone, Copy, Debug)]
 pub struct Spot {
@@ -31,3 +33,5 @@ pub struct Shape {
     ghost whole: { (n p : ℕ) → joined primary spots.items n ≡ Some p → is_searched spots.items p ≡ true },
     ghost short: { (e : SomeLimits) → extent ≡ Some e → e.most ≤ longest_limit },
 }
+
+impl Shared for Shape {}

@@ -2,6 +2,7 @@
 ghost use Rattle.std.specs.Prelude.{◌≤◌, length};
 ghost use Rattle.cql_lines.specs.Limits.{most_nodes};
 
+use cq_common::Shared;
 use std::marker::PhantomData;
 use std::sync::ledger::Ledger;
 
@@ -17,3 +18,5 @@ pub struct AtomTable<L: Ledger> {
     ghost few: { atoms ≤ 64 },
     ghost nodes: { length words.items ≤ most_nodes },
 }
+
+impl<L: Ledger + Send + Sync> Shared for AtomTable<L> {}

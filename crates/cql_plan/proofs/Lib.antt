@@ -2,3 +2,14 @@ pub mod Items
 pub mod ItemsHeld
 pub mod Matched
 pub mod RowsLaw
+pub mod Gathered
+pub mod InEach
+pub mod Sound
+pub mod Standing
+pub mod Flattened
+pub mod ItemsLeft
+pub mod KeysLaw
+pub mod MenLaw
+pub mod Needed
+pub mod NeedsParts
+pub mod NeedsRows

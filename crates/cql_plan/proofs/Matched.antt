@@ -4,7 +4,7 @@ use Rattle.cq_position.specs.Games.{Game}
 use Rattle.cql_values.specs.Trees.{searched_tree}
 use Rattle.cql_syntax.specs.Hits.{hits, hits_in, keys, all_keys}
 use Rattle.cql_syntax.specs.Trees.{FilterTrees, QueryTree}
-use Rattle.cql_needs.specs.Plans.{IsAskedFor}
+use Rattle.cql_plan.specs.Plans.{IsAskedFor}
 use Rattle.cql_plan.specs.declared.verdict.Verdict.{Verdict}
 
 -- a game that is turned away has no hit

@@ -9,10 +9,10 @@ use Rattle.cql_syntax.specs.Hits.{is_hit, hits_in, key_of, item_keys, chosen}
 use Rattle.cql_syntax.specs.Meaning.{value}
 use Rattle.cql_syntax.specs.Trees.{FilterTree, filter_at, sort, FilterTrees}
 use Rattle.cql_syntax.specs.Values.{Value, as_number, amount, of_both, holds, chosen_from}
-use Rattle.cql_needs.specs.Rows.{key_in}
+use Rattle.cql_plan.specs.KeyRows.{key_in}
 use Rattle.cql_plan.specs.Rows.{IsRowOf, AreRowsFrom}
-use Rattle.cql_needs.proofs.Items.{hits_are_inside}
-use Rattle.cql_needs.proofs.Needed.{hits_hit, hit_searched}
+use Rattle.cql_plan.proofs.ItemsLeft.{hits_are_inside}
+use Rattle.cql_plan.proofs.Needed.{hits_hit, hit_searched}
 
 -- whether a node is a hit
 pub column_hit : (tree : SearchedTree) (items : FilterTrees) (hits : List Bool) (k : ℕ) → hits ≡ hit_column tree items → k < length tree.game.nodes

@@ -1,3 +1,9 @@
 pub mod Items
-pub mod Plans
+pub mod Verdicts
 pub mod Rows
+pub mod Joined
+pub mod Lifted
+pub mod Needs
+pub mod NeedsRows
+pub mod Plans
+pub mod KeyRows

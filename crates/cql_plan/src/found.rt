@@ -9,7 +9,7 @@ ghost use Rattle.cql_plan.specs.Rows.{AreRowsFrom};
 
 use cq_common::NoMemory;
 use cql_eval::Column;
-use cql_needs::key_over;
+use crate::key_over;
 use cql_syntax::{Filter, FlatQuery, Form};
 use cql_values::walks::push_if;
 use pgn_tree::Game;

@@ -1,14 +1,24 @@
-//! The match of one game by a plan: the hits of its query, and the keys of its sort items.
+//! The plan that is made once of a query for many games, and the match of one game by it: the hits of its query, and its sort keys.
 //!
-//! `cql_needs/specs/Needs` has what turns a game away, `cql_syntax/specs/Hits` the hits and the keys.
+//! `specs/Needs` defines which games have no hit by their men alone, `specs/Plans` the contents of a plan. `specs/Joined` defines the form
+//! of the query that is asked: it has the query's hits and keys, and costs no more looks. `cql_syntax/specs/Hits` has hits and keys.
 #![tactic(auto)]
 
 mod found;
+mod joining;
+mod keyed;
+mod keys;
+pub mod laws;
+mod lifting;
 mod matching;
-mod shared;
+mod members;
+mod needs;
+mod plan;
 mod verdict;
 
-pub use cql_joined::join;
-pub use cql_needs::{Plan, key_over, laws, may_hold};
+pub use joining::join;
+pub use keys::key_over;
 pub use matching::match_game;
+pub use plan::Plan;
+pub use plan::making::may_hold;
 pub use verdict::Verdict;

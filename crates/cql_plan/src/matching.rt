@@ -2,9 +2,9 @@
 ghost use Rattle.std.specs.Prelude.{◌≡◌, ◌≢◌, ◌+◌, ◌<◌, ◌≤◌, [], true, false, length, map, Some, All, AllPairs, IfOk, OnOk};
 ghost use Rattle.cq_position.specs.Search.{nodes_in};
 ghost use Rattle.cql_columns.specs.Costs.{filters_cost, searched_len};
-ghost use Rattle.cql_needs.specs.Needs.{query_passes};
-ghost use Rattle.cql_needs.specs.Plans.{query_of};
-ghost use Rattle.cql_plan.specs.Plans.{nodes_of, keys_of};
+ghost use Rattle.cql_plan.specs.Needs.{query_passes};
+ghost use Rattle.cql_plan.specs.Plans.{query_of};
+ghost use Rattle.cql_plan.specs.Verdicts.{nodes_of, keys_of};
 ghost use Rattle.cql_syntax.specs.Flat.{flat_query};
 ghost use Rattle.cql_syntax.specs.Hits.{hits, keys};
 ghost use Rattle.cql_syntax.specs.TreeOf.{query_tree};
@@ -12,7 +12,7 @@ ghost use Rattle.cql_values.specs.Trees.{searched_tree};
 
 use crate::verdict::{Verdict, find};
 use cq_common::{NoMemory, Steps};
-use cql_needs::{Plan, may_hold};
+use crate::{Plan, may_hold};
 use pgn_tree::Game;
 use std::alloc::Global;
 use std::sync::ledger::Ledger;

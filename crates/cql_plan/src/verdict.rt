@@ -5,10 +5,10 @@ ghost use Rattle.cql_columns.specs.Costs.{filters_cost, searched_len};
 ghost use Rattle.cql_syntax.specs.Hits.{hits_in, all_keys};
 ghost use Rattle.cql_syntax.specs.TreeOf.{filters_tree};
 ghost use Rattle.cql_values.specs.Trees.{searched_tree};
-ghost use Rattle.cql_plan.specs.Plans.{nodes_of, keys_of};
+ghost use Rattle.cql_plan.specs.Verdicts.{nodes_of, keys_of};
 
 use crate::found::{Told, hits, keys};
-use cq_common::{NoMemory, Steps};
+use cq_common::{NoMemory, Shared, Steps};
 use cql_eval::hit_columns;
 use cql_syntax::FlatQuery;
 use pgn_tree::Game;
@@ -21,6 +21,8 @@ pub struct Verdict {
     pub(crate) nodes: Vec<u32>,
     pub(crate) keys: Vec<i64>,
 }
+
+impl Shared for Verdict {}
 
 impl Verdict {
     /// The numbers of the nodes at which the query hits, increasing.

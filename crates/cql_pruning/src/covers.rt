@@ -12,7 +12,7 @@ ghost use Rattle.cql_pruning.specs.Covers.{AreCut, IsCut, AreSetsOf, IsOfMove, H
 
 use cq_common::NoMemory;
 use cq_geometry::Square;
-use cq_sets::mark;
+use cq_square_sets::mark;
 use cql_columns::filter_column::{FilterColumn, blank_sets, set_at};
 use cql_columns::nodes::same;
 use cql_columns::scope::Scope;

@@ -1,3 +1,8 @@
 pub mod Made
-pub mod PlayedParts
+pub mod PlayedRolled
 pub mod Meant
+pub mod Rows
+pub mod Placed
+pub mod PartsSame
+pub mod Texts
+pub mod Pairs

@@ -1,2 +1,4 @@
 pub mod Kept
 pub mod Meant
+pub mod FlatText
+pub mod Sums

@@ -14,7 +14,7 @@ use cql_contexts::contexts::{
     word_image,
 };
 use cql_contexts::fits::fits;
-use cql_same::same_filter;
+use crate::same_filter;
 use cql_syntax::{
     Body, Constituent, Constituents, Designator, Filter, Filters, FlatQuery, Form, Line, Played,
     Term, Terms, TypedQuery, kind_of,

@@ -1,11 +1,17 @@
 //! Transforms written out: a query becomes one without families that means the same at every node of every game, and has a text.
 //!
-//! `cql_syntax/specs/Flat` has the flat form, `cql_flat_text/specs/FlatText` its text.
+//! `cql_syntax/specs/Flat` has the flat form and `specs/FlatText` its text. `cql_syntax/specs/Same` defines when two filters are the same,
+//! `cql_syntax/specs/Unplaced` when they are the same but for their places.
 #![tactic(auto)]
 
 mod flat;
+mod leaves;
+mod pieces;
+mod same;
+mod sums;
+mod text;
+mod words;
 
-pub use cql_contexts::{contexts, fits};
-pub use cql_flat_text::flat_text;
-pub use cql_same::{same_filter, same_unplaced};
 pub use flat::expand;
+pub use same::{same_filter, same_unplaced};
+pub use text::flat_text;

@@ -1,7 +1,7 @@
 //! Why a query is refused.
 
 use crate::leaves::Kind;
-use cq_common::Bytes;
+use cq_common::{Bytes, Shared};
 
 /// The fault of a query, and where it stands.
 #[derive(Drop, Debug, PartialEq, Eq)]
@@ -10,6 +10,8 @@ pub struct QueryFault {
     pub byte: u32,
     pub reason: QueryReason,
 }
+
+impl Shared for QueryFault {}
 
 /// What is wrong with a query.
 #[derive(Drop, Debug, PartialEq, Eq)]

@@ -3,6 +3,7 @@ ghost use Rattle.std.specs.Prelude.{◌≡◌, true, false};
 ghost use Rattle.cql_syntax.specs.FlatItems.{has_family, kinds_agree, break_no_rule};
 ghost use Rattle.cql_syntax.specs.TreeOf.{filters_tree};
 
+use cq_common::Shared;
 use crate::tree::Filters;
 
 /// A query whose families are written out: there are none in its items, the parts of each `Any` are of the kind that it names, and no
@@ -16,3 +17,5 @@ pub struct FlatQuery {
     pub ghost kinds: { kinds_agree (filters_tree items) ≡ true },
     pub ghost accepted: { break_no_rule (filters_tree items) ≡ true },
 }
+
+impl Shared for FlatQuery {}

@@ -10,7 +10,6 @@ pub mod flat_laws;
 mod kinds;
 pub mod laws;
 pub mod leaves;
-mod shared;
 pub mod token;
 pub mod tree;
 pub mod typed;

@@ -1,7 +1,7 @@
 //! The tokens of a query text.
 
 use crate::leaves::{Designator, Outcome};
-use cq_common::Bytes;
+use cq_common::{Bytes, Shared};
 
 /// A token, and where it stands.
 #[derive(Drop, PartialEq, Eq)]
@@ -10,6 +10,8 @@ pub struct QueryToken {
     pub at: u32,
     pub kind: QueryTokenKind,
 }
+
+impl Shared for QueryToken {}
 
 /// What a token is.
 #[derive(Drop, PartialEq, Eq)]

@@ -7,7 +7,7 @@ ghost use Rattle.cql_syntax.specs.TreeOf.{filter_tree, body_tree, filters_in, te
 
 use crate::extents::Extent;
 use crate::leaves::{Chain, Designator, Field, Kind, Mark, Of, Outcome, Pair, Plain, Unary, Way};
-use cq_common::{Bytes, NoMemory};
+use cq_common::{Bytes, NoMemory, Shared};
 use cq_symmetry::Family;
 use std::alloc::Global;
 
@@ -140,6 +140,8 @@ pub struct Query {
     pub match_text: Bytes,
     pub items: Filters,
 }
+
+impl Shared for Query {}
 
 #[tactic(auto, using(crate::proofs::Lists::filters_tree_in, crate::proofs::Lists::filters_tree_rolled, crate::proofs::Lists::filter_trees_snoc))]
 impl Filters {

@@ -3,6 +3,7 @@ ghost use Rattle.std.specs.Prelude.{◌≡◌, None, false};
 ghost use Rattle.cql_syntax.specs.TreeFaults.{tree_fault, has_any};
 ghost use Rattle.cql_syntax.specs.TreeOf.{query_tree};
 
+use cq_common::Shared;
 use crate::tree::Query;
 
 /// A query whose tree has no fault, and no `Any`, which no query text gives.
@@ -12,3 +13,5 @@ pub struct TypedQuery {
     pub ghost accepted: { tree_fault (query_tree query) ≡ None },
     pub ghost written: { has_any (query_tree query) ≡ false },
 }
+
+impl Shared for TypedQuery {}

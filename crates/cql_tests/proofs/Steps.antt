@@ -7,7 +7,7 @@ use Rattle.cql_columns.specs.Costs.{filter_cost}
 use Rattle.cql_syntax.specs.Trees.{filter_at, plain}
 use Rattle.cql_syntax.specs.declared.leaves.Plain.TheVariants.{Wtm}
 use Rattle.cql_values.specs.Trees.{searched_tree}
-use Rattle.cq_parts.specs.Matching.{part_cost, plan_cost}
+use Rattle.cq_shared.specs.Matching.{part_cost, plan_cost}
 
 -- a step for each searched node
 pub wtm_cost : (game : Game) (variations : Bool) (at : ℕ)

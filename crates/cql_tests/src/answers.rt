@@ -2,7 +2,7 @@
 ghost use Rattle.std.specs.Prelude.{◌≡◌, ◌≤◌, length, IfOk};
 
 use crate::plans::read_query;
-use cq_answers::{answer, answer_many};
+use cq_search::{answer, answer_many};
 use cq_common::{NoMemory, Refusal};
 use cq_outside::{MemSource, OpenGate, SureSink};
 use cq_queries::Status;

@@ -5,7 +5,7 @@ ghost use Rattle.cq_position.specs.Search.{nodes_in};
 ghost use Rattle.cql_syntax.specs.Trees.{filter_at, plain};
 ghost use Rattle.cql_syntax.specs.declared.leaves.Plain.TheVariants.{Wtm};
 ghost use Rattle.cql_values.specs.Trees.{searched_tree};
-ghost use Rattle.cq_parts.specs.Matching.{plan_cost};
+ghost use Rattle.cq_shared.specs.Matching.{plan_cost};
 
 use crate::plans::read_query;
 use cq_common::{NoMemory, Refusal};

@@ -16,7 +16,7 @@ use Rattle.cq_position.specs.Board.{stands, man_at}
 use Rattle.cq_position.specs.Men.{same_man}
 use Rattle.cq_position.specs.declared.men.Man.{Man}
 use Rattle.cq_position.specs.declared.men.Man.TheVariants.{K, Q, R, B, N, P, BlackK, BlackQ, BlackR, BlackB, BlackN, BlackP, Empty}
-use Rattle.cq_sets.proofs.Marked.{marks_or, marks_and}
+use Rattle.cq_square_sets.proofs.Marked.{marks_or, marks_and}
 use Rattle.cq_symmetry.specs.Images.{is_in}
 use Rattle.cql_syntax.specs.Values.{worth}
 use Rattle.cql_values.specs.Squares.{worth_there}

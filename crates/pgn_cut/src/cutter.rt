@@ -24,7 +24,7 @@ use crate::pairs::pair_len;
 use crate::span::Span;
 use crate::state::State;
 use crate::words::words_len;
-use cq_common::{NoMemory, is_white};
+use cq_common::{NoMemory, Shared, is_white};
 use pgn_lexer::{
     LexemeKind, TokenKind, lexemes_follow, lexemes_stand_apart, longest_reading,
     readings_are_longest, readings_grow, white_space_is_passed,
@@ -41,6 +41,8 @@ pub struct Cutter {
     place: u64,
     column: bool,
 }
+
+impl Shared for Cutter {}
 
 // A byte of a mark that turned out to be none.
 fn bad_byte(at: u64) -> Look

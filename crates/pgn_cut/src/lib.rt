@@ -11,7 +11,6 @@ mod found;
 mod game;
 mod laws;
 mod pairs;
-mod shared;
 mod span;
 mod state;
 mod whole;

@@ -1,5 +1,7 @@
 //! Where a game stands in its archive.
 
+use cq_common::Shared;
+
 /// A game of an archive: the place of its first byte, the place after its last, and whether its first byte stands in
 /// the first column. Places count from the archive's first byte.
 #[derive(Clone, Copy, Debug, PartialEq, Eq)]
@@ -8,3 +10,5 @@ pub struct Span {
     pub end: u64,
     pub first: bool,
 }
+
+impl Shared for Span {}

@@ -10,6 +10,15 @@ pub mod Plain
 pub mod PlainMoves
 pub mod Written
 pub mod GameJson
-pub mod Parts
+pub mod ValueParts
 pub mod SameBoards
 pub mod SameGame
+pub mod Entries
+pub mod Grown
+pub mod Numbers
+pub mod Opening
+pub mod Pages
+pub mod Parts
+pub mod Placing
+pub mod Refusals
+pub mod Writings

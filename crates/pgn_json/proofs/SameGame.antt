@@ -26,7 +26,7 @@ use Rattle.pgn_json.specs.Same.{game_read, node_read, tag_read}
 use Rattle.pgn_json.proofs.GameJson.{game_written}
 use Rattle.pgn_json.proofs.Left.{others, others_many, other_at}
 use Rattle.pgn_json.proofs.OneValue.{one_spelled}
-use Rattle.pgn_json.proofs.Parts.{SameNotes, after_one, characters_in, map_back, member_at, members_back, members_in, number_in, same_notes, size, size_if, values_back, values_in}
+use Rattle.pgn_json.proofs.ValueParts.{SameNotes, after_one, characters_in, map_back, member_at, members_back, members_in, number_in, same_notes, size, size_if, values_back, values_in}
 use Rattle.pgn_json.proofs.SameBoards.{fen_same}
 use Rattle.pgn_json.proofs.Steps.{has_position, led_to, parent_low}
 

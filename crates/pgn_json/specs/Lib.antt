@@ -9,3 +9,13 @@ pub mod Json
 pub mod GameValue
 pub mod Kept
 pub mod Same
+pub mod Line
+pub mod Jobs
+pub mod Status
+pub mod Lines
+pub mod Writing
+pub mod Pages
+pub mod Parts
+pub mod Texts
+pub mod Making
+pub mod Promise

@@ -1,19 +1,34 @@
-//! The text of a game as JSON (RFC 8259).
+//! The text of a game as JSON (RFC 8259), and the top call of `pgnjson`.
 //!
-//! `specs/Strings` says how a text is written as a JSON string, `specs/Values` how objects and arrays are, and `specs/Json` what is
-//! written of a game. `specs/Data` has JSON values, and `specs/Grammar` says which texts spell them. Laws say that a line is read as the
-//! value of its game (`specs/GameValue`), and that lines tell games apart but for the bytes of their texts (`specs/Same`).
+//! `specs/Strings` defines how a text is written as a JSON string, `specs/Values` how objects and arrays are, and `specs/Json` the text of
+//! a game. `specs/Data` has JSON values, and `specs/Grammar` the texts that spell them. Laws say that a line is read as the value of its
+//! game (`specs/GameValue`), and that lines tell games apart but for the bytes of their texts (`specs/Same`). `specs/Promise` is the
+//! promise of the top call.
 #![tactic(auto)]
 
+mod answering;
 mod game;
+mod job;
 mod laws;
+mod line;
+mod making;
 mod node;
 mod notes;
 mod plies;
+mod status;
 mod strings;
+mod taking;
+mod texts;
+mod top_call;
+mod words;
+mod writing;
 
 pub use game::json_line;
+pub use job::{Job, WordsRefused};
 pub use laws::{
     games_are_kept, lines_are_json, lines_are_utf8, same_lines_have_the_same_game,
     strings_are_read_back, texts_are_bytes,
 };
+pub use status::Status;
+pub use top_call::{answer_command, refuse_command, run};
+pub use words::read_words;

@@ -2,3 +2,7 @@ pub mod Fills
 pub mod Streams
 pub mod Covers
 pub mod Apart
+pub mod Cuts
+pub mod Numbers
+pub mod Opening
+pub mod Refusals

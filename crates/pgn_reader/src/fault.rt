@@ -1,11 +1,15 @@
 //! Why a text is no game.
 
+use cq_common::Shared;
+
 /// Where a game's first fault stands, counted from the archive's first byte, and what it is.
 #[derive(Clone, Copy, Debug, PartialEq, Eq)]
 pub struct GameFault {
     pub byte: u64,
     pub reason: Reason,
 }
+
+impl Shared for GameFault {}
 
 /// What is wrong at a token of a game, or at its end.
 #[derive(Clone, Copy, Debug, PartialEq, Eq)]

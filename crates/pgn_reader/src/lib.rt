@@ -8,7 +8,6 @@ mod laws;
 mod line;
 mod preface;
 mod row;
-mod shared;
 mod text;
 mod token_machine;
 mod whole_game;

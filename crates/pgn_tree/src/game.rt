@@ -13,7 +13,7 @@ ghost use Rattle.pgn_tree.specs.Notes.{noted_node};
 use crate::node::Node;
 use crate::notes::Notes;
 use crate::tags::Tags;
-use cq_common::NoMemory;
+use cq_common::{NoMemory, Shared};
 use cq_position::{GameResult, Man, Move, Position};
 use std::alloc::Global;
 use std::marker::Model;
@@ -32,6 +32,8 @@ pub struct Game {
     result: GameResult,
     nodes: Vec<Node>,
 }
+
+impl Shared for Game {}
 
 impl Model for Game {
     ghost use Rattle.cq_position.specs.Games.{Game};

@@ -10,7 +10,6 @@ mod game;
 pub mod laws;
 mod node;
 mod notes;
-mod shared;
 mod tags;
 
 pub use comment::{first_word, single_spaced};

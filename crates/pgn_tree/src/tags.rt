@@ -3,7 +3,7 @@ ghost use Rattle.std.specs.Prelude.{◌≡◌, ◌<◌, true, [], length, IfOk, 
 ghost use Rattle.std.specs.Option.{option_copied};
 ghost use Rattle.cq_position.specs.Games.{tag_at, tag_value, with_tag, HaveDistinctNames};
 
-use cq_common::{Bytes, NoMemory};
+use cq_common::{Bytes, NoMemory, Shared};
 use indexmap::IndexMap;
 use std::alloc::Global;
 use std::marker::Model;
@@ -16,6 +16,8 @@ pub struct Tags {
     alloc: Global,
     pairs: IndexMap<Vec<u8>, Bytes>,
 }
+
+impl Shared for Tags {}
 
 impl Model for Tags {
     ghost use Rattle.std.specs.Prelude.{ℕ, List};

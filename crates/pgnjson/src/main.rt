@@ -3,7 +3,7 @@
 
 use cq_outside::system::{Words, WordsFault};
 use cq_outside::{FileDesk, StdSink, command_words};
-use pgn_json_run::{answer_command, refuse_command};
+use pgn_json::{answer_command, refuse_command};
 use std::process::ExitCode;
 
 // The real things are made here and handed over; what is done with them is the contract of `answer_command`.

@@ -2,7 +2,7 @@
 #![tactic(auto)]
 
 use cq_outside::{FileDesk, StdSink, command_words};
-use pgn_pieces_run::answer_command;
+use pgn_pieces::answer_command;
 use std::process::ExitCode;
 
 // The real things are made here and handed over; what is done with them is the contract of `answer_command`.

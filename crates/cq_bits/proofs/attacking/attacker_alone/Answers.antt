@@ -4,8 +4,8 @@ use Rattle.std.specs.Int.{trailing_zeros, w64}
 use Rattle.std.proofs.lemmas.Nat.{and_le_r}
 use Rattle.std.proofs.lemmas.Nat.Bits.{bit_at-trailing_zeros}
 use Rattle.cq_position.specs.Attacks.{attacks}
-use Rattle.cq_sets.proofs.Bits.{in_both, both_have, nothing_there}
-use Rattle.cq_sets.proofs.Marked.{marks_one}
+use Rattle.cq_square_sets.proofs.Bits.{in_both, both_have, nothing_there}
+use Rattle.cq_square_sets.proofs.Marked.{marks_one}
 use Rattle.cq_bits.specs.Sets.{Has, IsAttacker}
 use Rattle.cq_bits.proofs.Members.{bitboard_has}
 use Rattle.cq_bits.proofs.attacking.attacker_alone.Goals as goal

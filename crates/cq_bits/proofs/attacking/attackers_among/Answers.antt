@@ -1,4 +1,4 @@
-use Rattle.cq_sets.proofs.Bits.{in_both, both_have}
+use Rattle.cq_square_sets.proofs.Bits.{in_both, both_have}
 use Rattle.cq_bits.proofs.attacking.attackers_among.Goals as goal
 
 pub returns-else-among-to : goal.returns-else-among-to

@@ -1,4 +1,4 @@
-use Rattle.cq_sets.proofs.Marked.{marks_same, marks_or, marks_and}
+use Rattle.cq_square_sets.proofs.Marked.{marks_same, marks_or, marks_and}
 use Rattle.cq_position.specs.Attacks.{is_occupied}
 use Rattle.cq_position.proofs.Attackers.{empty_seen}
 use Rattle.cq_bits.proofs.Outward.{seen_attacks}

@@ -1,4 +1,4 @@
-use Rattle.cq_sets.proofs.Marked.{marks_or, marks_and}
+use Rattle.cq_square_sets.proofs.Marked.{marks_or, marks_and}
 use Rattle.cq_bits.proofs.attacking.leapers_of.Goals as goal
 
 pub returns : goal.returns

@@ -1,4 +1,4 @@
-use Rattle.cq_sets.proofs.Marked.{marks_or}
+use Rattle.cq_square_sets.proofs.Marked.{marks_or}
 use Rattle.cq_bits.proofs.attacks.either_side.Goals as goal
 
 pub returns : goal.returns

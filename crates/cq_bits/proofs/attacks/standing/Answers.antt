@@ -1,4 +1,4 @@
-use Rattle.cq_sets.proofs.Marked.{marks_same, marks_or}
+use Rattle.cq_square_sets.proofs.Marked.{marks_same, marks_or}
 use Rattle.cq_position.specs.Board.{man_at}
 use Rattle.cq_bits.proofs.OnSquares.{nobody_there, straight_there, diagonal_there}
 use Rattle.cq_bits.proofs.attacks.standing.Goals as goal

@@ -1,4 +1,4 @@
-use Rattle.cq_sets.proofs.Marked.{marks_and, marks_or}
+use Rattle.cq_square_sets.proofs.Marked.{marks_and, marks_or}
 use Rattle.cq_position.specs.Attacks.{is_occupied}
 use Rattle.cq_moves.proofs.Targets.{pawn_marks}
 use Rattle.cq_moves.proofs.going.captures.Goals as goal

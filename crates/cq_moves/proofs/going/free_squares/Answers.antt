@@ -1,5 +1,5 @@
 use Rattle.std.proofs.Common.{◌<◌, ◌^◌, rules}
-use Rattle.cq_sets.proofs.Marked.{marks_and, marks_not}
+use Rattle.cq_square_sets.proofs.Marked.{marks_and, marks_not}
 use Rattle.cq_moves.proofs.going.free_squares.Goals as goal
 
 pub returns : goal.returns

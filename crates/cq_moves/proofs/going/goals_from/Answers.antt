@@ -1,4 +1,4 @@
-use Rattle.cq_sets.proofs.Marked.{marks_and, marks_same, marks_none}
+use Rattle.cq_square_sets.proofs.Marked.{marks_and, marks_same, marks_none}
 use Rattle.std.proofs.Common.{false, sym, ◌&&◌, ◌∙◌}
 use Rattle.cq_position.specs.Legal.{reaches, goes_as}
 use Rattle.cq_position.specs.Board.{man_at}

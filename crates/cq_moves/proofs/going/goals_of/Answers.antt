@@ -1,5 +1,5 @@
 use Rattle.std.proofs.Common.{inl, inr}
-use Rattle.cq_sets.proofs.Marked.{marks_or}
+use Rattle.cq_square_sets.proofs.Marked.{marks_or}
 use Rattle.cq_moves.proofs.going.goals_of.Goals as goal
 
 pub returns-in-K : goal.returns-in-K

@@ -1,4 +1,4 @@
-use Rattle.cq_sets.proofs.Marked.{marks_and}
+use Rattle.cq_square_sets.proofs.Marked.{marks_and}
 use Rattle.cq_moves.proofs.Targets.{empty_marks}
 use Rattle.cq_moves.proofs.going.single_goals.Goals as goal
 

@@ -1,4 +1,4 @@
-use Rattle.cq_sets.proofs.Marked.{marks_or}
+use Rattle.cq_square_sets.proofs.Marked.{marks_or}
 use Rattle.cq_moves.proofs.reach.origins_to.Goals as goal
 
 pub returns-in-King-clause-mask : goal.returns-in-King-clause-mask

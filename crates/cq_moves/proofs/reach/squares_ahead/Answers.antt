@@ -1,4 +1,4 @@
-use Rattle.cq_sets.proofs.Marked.{marks_or}
+use Rattle.cq_square_sets.proofs.Marked.{marks_or}
 use Rattle.cq_moves.proofs.reach.squares_ahead.Goals as goal
 
 pub returns-in-White : goal.returns-in-White

@@ -1,5 +1,5 @@
 use Rattle.cq_position.specs.Attacks.{is_occupied}
-use Rattle.cq_sets.proofs.Marked.{marks_queen}
+use Rattle.cq_square_sets.proofs.Marked.{marks_queen}
 use Rattle.cq_position.proofs.attacks.queen_squares.Goals as goal
 
 pub returns : goal.returns

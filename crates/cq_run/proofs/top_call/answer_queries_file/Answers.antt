@@ -2,7 +2,7 @@ use Rattle.std.proofs.Common.{List, subst}
 use Rattle.cql_syntax.specs.Trees.{QueryTree}
 use Rattle.cql_syntax.specs.declared.typed.TypedQuery.{TypedQuery}
 use Rattle.cql_syntax.specs.QueryTrees.{trees_of}
-use Rattle.cq_answers.specs.ManyQueries.{texts_of_all}
+use Rattle.cq_search.specs.ManyQueries.{texts_of_all}
 use Rattle.cq_queries.specs.Views.{desk_view, sink_view, sinks_of}
 use Rattle.cq_run.specs.Run.{call_of, AnswersFile}
 use Rattle.cq_queries.specs.Files.{some_queries}

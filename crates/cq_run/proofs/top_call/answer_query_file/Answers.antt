@@ -1,6 +1,6 @@
 use Rattle.cql_syntax.specs.TreeOf.{query_tree}
 use Rattle.cql_syntax.specs.Trees.{QueryTree}
-use Rattle.cq_answers.specs.FirstGame.{wanted}
+use Rattle.cq_search.specs.FirstGame.{wanted}
 use Rattle.cq_queries.specs.Views.{desk_view, sink_view, sinks_of}
 use Rattle.cq_run.specs.Run.{AnswersFile, call_of}
 use Rattle.cq_queries.specs.Files.{a_query}

@@ -2,7 +2,7 @@ use Rattle.std.proofs.Common.{◌&&◌, not, ap, sym, subst, ◌∙◌}
 use Rattle.cq_position.specs.Attacks.{is_occupied}
 use Rattle.cq_position.specs.Legal as legal
 use Rattle.cq_position.specs.Legality.{legal_test}
-use Rattle.cq_sets.specs.Bitboards.{IsBitboard}
+use Rattle.cq_square_sets.specs.Bitboards.{IsBitboard}
 use Rattle.cq_moves.specs.Candidates.{may_come}
 use Rattle.cq_san.specs.Fits as fit
 use Rattle.cq_san.specs.Origins as origin

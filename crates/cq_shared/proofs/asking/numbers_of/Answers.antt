@@ -1,7 +1,7 @@
 use Rattle.std.proofs.Common.{sym, ◌∙◌}
 use Rattle.cql_eval.specs.Hits.{hits_of, keys_of}
 use Rattle.cql_syntax.specs.TreeOf.{filters_tree}
-use Rattle.cq_parts.specs.Matching.{tree_for}
+use Rattle.cq_shared.specs.Matching.{tree_for}
 use Rattle.cq_shared.proofs.Telling.{one_row}
 use Rattle.cq_shared.proofs.asking.numbers_of.Goals as goal
 

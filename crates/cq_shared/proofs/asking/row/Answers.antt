@@ -1,6 +1,6 @@
 use Rattle.std.proofs.Common.{get_or, false, None, [], cond, ap, arith}
 use Rattle.cql_eval.specs.Hits.{hits_of, keys_of}
-use Rattle.cq_parts.proofs.Unions.{filled_none, filled_more, filled_all, past_end}
+use Rattle.cq_shared.proofs.Unions.{filled_none, filled_more, filled_all, past_end}
 use Rattle.cq_shared.proofs.asking.row.Goals as goal
 
 pub loop-k-init : goal.loop-k-init

@@ -1,6 +1,6 @@
 use Rattle.std.proofs.Common.{get_or, false, None, [], cond}
 use Rattle.cql_eval.specs.Hits.{hits_of, keys_of}
-use Rattle.cq_parts.proofs.Unions.{Filled}
+use Rattle.cq_shared.proofs.Unions.{Filled}
 use Rattle.cq_shared.proofs.asking.row.Given as goal
 
 abbrev pub invariant-loop-k : goal.invariant-loop-k

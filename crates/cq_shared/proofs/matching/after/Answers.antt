@@ -1,7 +1,7 @@
 use Rattle.std.proofs.Common.{◌≡◌, Bool, List, sym, subst}
-use Rattle.cq_parts.specs.Matching.{CoversWanted}
-use Rattle.cq_parts.specs.declared.nodes.Nodes.{Nodes}
-use Rattle.cq_parts.specs.declared.part.Part.{Part}
+use Rattle.cq_shared.specs.Matching.{CoversWanted}
+use Rattle.cq_shared.specs.declared.nodes.Nodes.{Nodes}
+use Rattle.cq_shared.specs.declared.part.Part.{Part}
 use Rattle.cq_shared.proofs.After.{cost_wanted, narrowed_row}
 use Rattle.cq_shared.proofs.matching.after.Goals as goal
 

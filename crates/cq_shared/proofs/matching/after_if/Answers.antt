@@ -1,6 +1,6 @@
 use Rattle.std.proofs.Common.{arith}
 use Rattle.std.proofs.lemmas.Bool.{ne_eqb, eq-eqb}
-use Rattle.cq_parts.specs.Matching.{is_class}
+use Rattle.cq_shared.specs.Matching.{is_class}
 use Rattle.cq_shared.proofs.After.{narrowed_not, narrowed_taken, cost_taken}
 use Rattle.cq_shared.proofs.matching.after_if.Goals as goal
 

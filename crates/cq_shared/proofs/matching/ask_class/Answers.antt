@@ -1,6 +1,6 @@
 use Rattle.std.proofs.Common.{arith, take}
-use Rattle.cq_parts.specs.Matching.{is_class}
-use Rattle.cq_parts.specs.Wanted.{both}
+use Rattle.cq_shared.specs.Matching.{is_class}
+use Rattle.cq_shared.specs.Wanted.{both}
 use Rattle.cq_shared.proofs.After.{left_none, left_more, left_all, still_ready, cost_more, still_admits}
 use Rattle.cq_shared.proofs.matching.ask_class.Goals as goal
 

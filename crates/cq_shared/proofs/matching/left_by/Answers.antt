@@ -1,5 +1,5 @@
 use Rattle.std.proofs.Common.{◌≡◌, ◌+◌, arith, subst}
-use Rattle.cq_parts.specs.Matching.{is_before, AreLeft}
+use Rattle.cq_shared.specs.Matching.{is_before, AreLeft}
 use Rattle.cq_shared.proofs.After.{left_begun, left_next, all_still_ready, cost_next, cost_later, still_admits}
 use Rattle.cq_shared.proofs.matching.left_by.Goals as goal
 

@@ -1,5 +1,5 @@
-use Rattle.cq_parts.specs.Matching.{is_before, AreLeft}
-use Rattle.cq_parts.specs.Wanted.{TakeAtMost}
+use Rattle.cq_shared.specs.Matching.{is_before, AreLeft}
+use Rattle.cq_shared.specs.Wanted.{TakeAtMost}
 use Rattle.cq_shared.proofs.matching.left_by.Given as goal
 
 abbrev pub invariant-loop-class : goal.invariant-loop-class

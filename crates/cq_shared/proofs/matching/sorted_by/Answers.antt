@@ -1,7 +1,7 @@
 use Rattle.std.proofs.Common.{arith, subst, take}
 use Rattle.std.proofs.lemmas.List.{take_all}
-use Rattle.cq_parts.specs.Matching.{is_class, HaveRows}
-use Rattle.cq_parts.specs.Wanted.{both}
+use Rattle.cq_shared.specs.Matching.{is_class, HaveRows}
+use Rattle.cq_shared.specs.Wanted.{both}
 use Rattle.cq_shared.proofs.After.{left_more, left_all, still_ready, cost_more, narrowed_fewer, still_admits}
 use Rattle.cq_shared.proofs.Sorting.{rows_more}
 use Rattle.cq_shared.proofs.matching.sorted_by.Goals as goal

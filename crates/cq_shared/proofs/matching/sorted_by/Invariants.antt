@@ -1,7 +1,7 @@
 use Rattle.std.proofs.Common.{Bool, ◌+◌, ◌≤◌, take, drop}
-use Rattle.cq_parts.specs.Matching.{is_class, costs_if, AreLeft, HaveRows}
-use Rattle.cq_parts.specs.Wanted.{both, AdmitsAll}
-use Rattle.cq_parts.specs.declared.part.Part.{Part}
+use Rattle.cq_shared.specs.Matching.{is_class, costs_if, AreLeft, HaveRows}
+use Rattle.cq_shared.specs.Wanted.{both, AdmitsAll}
+use Rattle.cq_shared.specs.declared.part.Part.{Part}
 use Rattle.cq_shared.proofs.matching.sorted_by.Given as goal
 
 abbrev pub invariant-loop-k : goal.invariant-loop-k

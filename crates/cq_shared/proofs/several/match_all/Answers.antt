@@ -1,13 +1,13 @@
 use Rattle.std.proofs.Common.{◌≡◌, ◌∙◌, ap, sym, subst, map, arith, IfOk}
-use Rattle.cql_needs.specs.Plans.{query_of}
+use Rattle.cql_plan.specs.Plans.{query_of}
 use Rattle.cql_syntax.specs.Hits.{hits}
-use Rattle.cq_parts.specs.Askers.{asked_query}
-use Rattle.cq_parts.specs.Matching.{is_before, plan_cost}
-use Rattle.cq_parts.specs.Plans.{askers_of, each_part_of, plan_parts}
-use Rattle.cq_parts.specs.Verdicts.{nodes_of, keys_of, HaveKeys}
+use Rattle.cq_shared.specs.Askers.{asked_query}
+use Rattle.cq_shared.specs.Matching.{is_before, plan_cost}
+use Rattle.cq_shared.specs.Plans.{askers_of, each_part_of, plan_parts}
+use Rattle.cq_shared.specs.Verdicts.{nodes_of, keys_of, HaveKeys}
 use Rattle.cq_shared.proofs.After.{all_still_ready}
-use Rattle.cq_parts.proofs.Begun.{begun_ready}
-use Rattle.cq_parts.proofs.Makings.{plan_trees}
+use Rattle.cq_shared.proofs.Begun.{begun_ready}
+use Rattle.cq_shared.proofs.Makings.{plan_trees}
 use Rattle.cq_shared.proofs.Whole.{plan_lent, are_found, hits_of_all, first_cost, both_cost, all_cost, asked_cost}
 use Rattle.cq_shared.proofs.several.match_all.Goals as goal
 

@@ -4,7 +4,7 @@ use Rattle.cql_values.specs.Trees.{searched_tree}
 use Rattle.cql_eval.specs.Hits.{keys_of}
 use Rattle.cql_syntax.specs.TreeOf.{filter_tree, form_tree}
 use Rattle.cql_syntax.specs.Trees.{filter_at}
-use Rattle.cql_needs.specs.Rows.{key_in}
+use Rattle.cql_plan.specs.KeyRows.{key_in}
 use Rattle.cql_plan.proofs.RowsLaw.{sorts_by, sort_row, row_given, entries_there, key_added}
 use Rattle.cql_plan.proofs.found.add_key.Goals as goal
 

@@ -4,7 +4,7 @@ use Rattle.cq_position.specs.Games.{is_searched}
 use Rattle.cql_values.specs.Trees.{searched_tree}
 use Rattle.cql_syntax.specs.Hits.{is_hit}
 use Rattle.cql_syntax.specs.TreeOf.{filters_tree}
-use Rattle.cql_needs.proofs.Items.{hits_increase, hits_are_inside}
+use Rattle.cql_plan.proofs.ItemsLeft.{hits_increase, hits_are_inside}
 use Rattle.cql_plan.proofs.Items.{found_below, found_more, all_found}
 use Rattle.cql_plan.proofs.RowsLaw.{column_hit}
 use Rattle.cql_plan.proofs.found.hits.Goals as goal

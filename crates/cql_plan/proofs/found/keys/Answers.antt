@@ -5,8 +5,8 @@ use Rattle.cql_syntax.specs.Hits.{is_hit, all_keys}
 use Rattle.cql_syntax.specs.TreeOf.{filter_tree, filters_tree, filter_trees}
 use Rattle.cql_plan.specs.Rows.{AreRowsFrom}
 use Rattle.cql_plan.proofs.ItemsHeld.{item_at_hits}
-use Rattle.cql_needs.proofs.Items.{filters_left}
-use Rattle.cql_needs.proofs.Needed.{hits_hit}
+use Rattle.cql_plan.proofs.ItemsLeft.{filters_left}
+use Rattle.cql_plan.proofs.Needed.{hits_hit}
 use Rattle.cql_plan.proofs.RowsLaw.{rows_there, rows_split, hits_told}
 use Rattle.cql_plan.proofs.found.keys.Goals as goal
 

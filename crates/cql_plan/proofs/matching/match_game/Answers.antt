@@ -3,7 +3,7 @@ use Rattle.cq_position.specs.Search.{nodes_in}
 use Rattle.cql_values.specs.Trees.{searched_tree}
 use Rattle.cql_syntax.specs.Hits.{hits}
 use Rattle.cql_syntax.specs.TreeOf.{filters_tree, query_tree}
-use Rattle.cql_needs.specs.Plans.{query_of}
+use Rattle.cql_plan.specs.Plans.{query_of}
 use Rattle.cql_plan.proofs.Matched.{none_found, asked_keys}
 use Rattle.cql_plan.proofs.matching.match_game.Goals as goal
 

@@ -9,7 +9,7 @@ use Rattle.cql_syntax.specs.declared.tree.Played.{out-Played}
 use Rattle.cql_syntax.proofs.Lists.{filter_trees_more, term_trees_more, part_trees_more}
 use Rattle.cql_syntax.proofs.PlayedParts.{played_is}
 use Rattle.cql_rewrite.proofs.Made.{flat_all_snoc, flat_terms_snoc, flat_parts_snoc, members_made, flats, family_flat}
-use Rattle.cql_rewrite.proofs.PlayedParts.{played_rolled}
+use Rattle.cql_rewrite.proofs.PlayedRolled.{played_rolled}
 use Rattle.cql_rewrite.proofs.flat.+flat.Goals as goal
 
 pub flat_all-loop-filter-preserved : goal.flat_all-loop-filter-preserved

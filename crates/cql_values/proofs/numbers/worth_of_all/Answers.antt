@@ -1,6 +1,6 @@
 use Rattle.std.proofs.Common.{◌&&◌, arith}
 use Rattle.cq_position.specs.Board.{man_at}
-use Rattle.cq_sets.proofs.Marked.{marks_or, marks_and}
+use Rattle.cq_square_sets.proofs.Marked.{marks_or, marks_and}
 use Rattle.cq_symmetry.specs.Images.{is_in}
 use Rattle.cql_values.proofs.Counted.{own_squares, worth_in_all, is_pawn, is_minor, is_rook, is_queen}
 use Rattle.cql_values.proofs.numbers.worth_of_all.Goals as goal

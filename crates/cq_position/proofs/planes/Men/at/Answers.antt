@@ -1,6 +1,6 @@
 use Rattle.std.proofs.Common.{sym}
 use Rattle.cq_position.specs.declared.men.Man.TheVariants.{Empty}
-use Rattle.cq_sets.proofs.Words.{list_at}
+use Rattle.cq_square_sets.proofs.Words.{list_at}
 use Rattle.cq_position.specs.Planes.{man_numbered}
 use Rattle.cq_position.proofs.planes.Men.at.Goals as goal
 

@@ -4,8 +4,8 @@ use Rattle.cq_position.specs.declared.men.Man.{Man}
 use Rattle.cq_position.specs.declared.men.Man.TheVariants.{Empty}
 use Rattle.cq_position.specs.Board.{man_at}
 use Rattle.cq_position.specs.Planes.{man_numbered}
-use Rattle.cq_sets.specs.Planes.{list_of}
-use Rattle.cq_sets.proofs.Words.{list_at, with_one, with_one_below}
+use Rattle.cq_square_sets.specs.Planes.{list_of}
+use Rattle.cq_square_sets.proofs.Words.{list_at, with_one, with_one_below}
 use Rattle.cq_position.proofs.planes.Men.carry.Goals as goal
 
 pub invariant_of-self : goal.invariant_of-self

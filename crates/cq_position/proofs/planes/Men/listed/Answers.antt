@@ -1,5 +1,5 @@
 use Rattle.std.proofs.Common.{◌≡◌, length, refl, sym, ap, ◌∙◌}
-use Rattle.cq_sets.proofs.Words.{list_length}
+use Rattle.cq_square_sets.proofs.Words.{list_length}
 use Rattle.cq_position.specs.Board.{man_at}
 use Rattle.cq_position.specs.Planes.{man_numbered}
 use Rattle.cq_position.proofs.Listed.{same_start, same_more, same_end}

@@ -1,4 +1,4 @@
-use Rattle.cq_sets.proofs.Words.{with_one, with_one_below}
+use Rattle.cq_square_sets.proofs.Words.{with_one, with_one_below}
 use Rattle.cq_position.specs.Planes.{man_numbered}
 use Rattle.cq_position.proofs.Digits.{digits_of, digits_below}
 use Rattle.cq_position.proofs.planes.Men.set.Goals as goal

@@ -1,5 +1,0 @@
-use Rattle.cq_answered.proofs.UpToFirst.{cut_off}
-use Rattle.cq_answered.proofs.laws.ordered_answers_are_cut_off_behind_the_first_match.Goals as goal
-
-pub returns : goal.returns
-returns c = cut_off

@@ -1,5 +1,0 @@
-use Rattle.cq_answered.proofs.Beside.{ordered_answers}
-use Rattle.cq_answered.proofs.laws.ordered_answers_stand_beside_their_games.Goals as goal
-
-pub returns : goal.returns
-returns c = ordered_answers

@@ -1,7 +1,0 @@
-use Rattle.std.proofs.Common.{◌≡◌, ◌++◌, length}
-use Rattle.cq_parts.proofs.Unions.{AreNarrowed}
-use Rattle.cq_parts.proofs.narrowing.narrowed.Given as goal
-
-abbrev pub invariant-loop-nodes : goal.invariant-loop-nodes
-invariant-loop-nodes l =
-    (l.fn.left.items ≡ l.yielded ++ l.nodes-iterator.rest.items) × AreNarrowed l.game l.part l.fn.left.items l.later.items (length l.yielded)

@@ -1,0 +1,213 @@
+//! Answering several queries over one reading of an archive.
+ghost use Rattle.std.specs.Prelude.{◌≡◌, ◌++◌, ◌≤◌, ◌^◌, false, length, map, IfOk};
+ghost use Rattle.std.specs.Fn.{FnReturnsAt};
+ghost use Rattle.std.specs.Thread.{IsSync};
+ghost use Rattle.pgn_batches.specs.declared.batch.Batch.{Batch};
+ghost use Rattle.cql_syntax.specs.QueryTrees.{trees_of};
+ghost use Rattle.cq_shared.specs.Plans.{queries_of};
+ghost use Rattle.cq_shards.specs.Many.{AreManyOf, answers_in};
+ghost use Rattle.cq_search.specs.ManyQueries.{faults_alone, texts_of_all};
+ghost use Rattle.cq_search.specs.ManyWriting.{FoundByAll};
+ghost use Rattle.cq_search.specs.Promise.{AnswerPromise};
+ghost use Rattle.cq_queries.specs.Views.{source_view, sink_view, sinks_of};
+ghost use Rattle.cq_search.specs.Takers.{Reading, StopsIn, Taken};
+
+use crate::crew::Crew;
+use crate::keeping::{keep_batch, none_kept};
+use crate::laws::archives_come_in_batches;
+use crate::outputs::write_outputs;
+use crate::refused::status_of;
+use crate::tally::Tally;
+use pgn_batches::{Batch, Ended, Taker, take_batches};
+use cq_common::{NoMemory, Refusal};
+use cq_outside::{Gate, Sink, Source};
+use cq_queries::Status;
+use cq_shards::laws::ordered_answers_stand_beside_their_games;
+use cq_shards::{GameAnswer, ManyAnswers, run_many};
+use cq_shared::SharedPlan;
+use cq_words::Settings;
+use cql_syntax::TypedQuery;
+use std::alloc::Global;
+use std::thread::Threads;
+
+/// Answers the queries of `plan` over the games of one batch after the other, writes the lines of the faulty ones and keeps those that
+/// match.
+#[derive(Drop)]
+struct AllQueries<'a, F> {
+    alloc: Global,
+    plan: &'a SharedPlan,
+    answer: F,
+    tally: Tally,
+    kept: Vec<Vec<GameAnswer>>,
+    ghost few: { (1 ≤ length (trees_of (queries_of plan.now))) × (length (trees_of (queries_of plan.now)) ≤ 16) },
+}
+
+impl<'a, F: Fn(&Batch) -> Result<ManyAnswers, NoMemory>, O: Sink, E: Sink> Taker<O, E>
+    for AllQueries<'a, F> {
+    type Stop = Status;
+
+    ghost has_taken = { λ was now games. (F.IsAlwaysCallable now.taker.answer
+        × ((batch : Batch) (r : _) → FnReturnsAt F.Fn now.taker.answer batch r
+        → IfOk r (λ many. AreManyOf (trees_of (queries_of now.taker.plan.now)) batch (answers_in many)))) × Taken
+        (trees_of (queries_of was.taker.plan.now)) (trees_of (queries_of now.taker.plan.now)) games
+        (λ outcomes. FoundByAll (trees_of (queries_of was.taker.plan.now)) outcomes
+        (sinks_of (sink_view O.taken O.faults was.out) (sink_view O.taken O.faults now.out)
+        (sink_view E.taken E.faults was.err) (sink_view E.taken E.faults now.err))
+        now.taker.tally (map (λ row. row.items) now.taker.kept.items)) };
+
+    ghost has_stopped = { λ was now games batch status. Reading (games ++ batch) (λ outcomes. StopsIn (faults_alone outcomes)
+        (sinks_of (sink_view O.taken O.faults was.out) (sink_view O.taken O.faults now.out)
+        (sink_view E.taken E.faults was.err) (sink_view E.taken E.faults now.err)) status) };
+
+    fn take(&mut self, batch: &Batch, out: &mut O, err: &mut E) -> Option<Status> {
+        archives_come_in_batches();
+        ordered_answers_stand_beside_their_games();
+        let Ok(answers) = (self.answer)(batch) else {
+            return Some(Status::NoMemory);
+        };
+        match keep_batch(
+            self.alloc,
+            answers,
+            &mut self.tally,
+            &mut self.kept,
+            out,
+            err,
+        ) {
+            Ok(()) => None,
+            Err(Refusal::Fault(_)) => Some(Status::WriteFault),
+            Err(Refusal::NoMemory) => Some(Status::NoMemory),
+        }
+    }
+}
+
+/// Answers 1 to 16 queries over the archive that `source` has left, read once: batch by batch, as `answer` reads it, the games of each
+/// by `settings.workers` workers, from 1 to 64, in threads of `rt`, of the first `settings.limit` bytes, from 1 to 2^40. All these
+/// ranges are conditions, and so is that not the first match alone is asked for.
+///
+/// The fault lines of a batch are written before the next one is asked for. The games that match are kept until all are answered: then
+/// `out` takes for each query, in order, the line `query I bytes W`, with its number, from 1, and the length of its exports, and then
+/// these, as `answer` writes them for it alone. After that `err` takes the last line of each query's report, in order.
+///
+/// Answers:
+/// - `Done` or `DoneWithRefusals`: both sinks have taken all, and no game is faulty, or some.
+/// - `ReadFault`: a read failed, and no other count rose. Written are the fault lines of the batches that were full by then, and nothing
+///   to `out`.
+/// - `ArchiveTooLong`: one byte more than the limit was read, and no count rose. Written is as much as after a failed read.
+/// - `WriteFault`: a write to one sink failed, and no other count rose. Each sink has taken a prefix of its text.
+/// - `NoMemory`: no memory was found, and no count rose. Each sink has taken a prefix of its text.
+///
+/// The clause `AnswerPromise` says each of these exactly; no other status is given.
+pub fn answer_many<R: Threads + Sync, S: Source, O: Sink, E: Sink, G: Gate + Sync>(
+    rt: &R,
+    alloc: Global,
+    queries: &[TypedQuery],
+    settings: Settings,
+    source: &mut S,
+    out: &mut O,
+    err: &mut E,
+    gate: &G,
+) -> Status
+    requires few { (1 ≤ length queries.now) × (length queries.now ≤ 16) }
+    requires workers { (1 ≤ settings.workers) × (settings.workers ≤ 64) }
+    requires limit { (1 ≤ settings.limit) × (settings.limit ≤ 2 ^ 40) }
+    requires all { settings.first ≡ false }
+    ensures answers { AnswerPromise (texts_of_all (trees_of queries.now)) result (record {
+      limit = settings.limit;
+      source = source_view S.left S.faults source.old;
+      source_after = source_view S.left S.faults source.new;
+      sinks = sinks_of (sink_view O.taken O.faults out.old) (sink_view O.taken O.faults out.new)
+          (sink_view E.taken E.faults err.old) (sink_view E.taken E.faults err.new);
+    }) }
+    ensures next { S.follows source.old source.new }
+{
+    let crew = Crew::new(rt, alloc, settings, gate);
+    answer_many_with(&crew, queries, source, out, err)
+}
+
+/// Answers several queries, from 1 to 16, as `answer_many` does, and with the same statuses, by the workers and limit of a crew. All games
+/// are answered, also where its settings ask for the first match alone.
+pub fn answer_many_with<R: Threads + Sync, S: Source, O: Sink, E: Sink, G: Gate + Sync>(
+    crew: &Crew<'_, R, G>,
+    queries: &[TypedQuery],
+    source: &mut S,
+    out: &mut O,
+    err: &mut E,
+) -> Status
+    requires { (1 ≤ length queries.now) × (length queries.now ≤ 16) }
+    ensures answers { AnswerPromise (texts_of_all (trees_of queries.now)) result (record {
+      limit = crew.now.settings.limit;
+      source = source_view S.left S.faults source.old;
+      source_after = source_view S.left S.faults source.new;
+      sinks = sinks_of (sink_view O.taken O.faults out.old) (sink_view O.taken O.faults out.new)
+          (sink_view E.taken E.faults err.old) (sink_view E.taken E.faults err.new);
+    }) }
+    ensures next { S.follows source.old source.new }
+{
+    archives_come_in_batches();
+    let Ok(plan) = SharedPlan::make(crew.alloc, queries) else {
+        return Status::NoMemory;
+    };
+    answer_each(crew, &plan, source, out, err)
+}
+
+// Answers the queries of a plan: the games of one batch after the other, what is to be written of them before the next batch is asked for.
+fn answer_each<R: Threads + Sync, S: Source, O: Sink, E: Sink, G: Gate + Sync>(
+    crew: &Crew<'_, R, G>,
+    plan: &SharedPlan,
+    source: &mut S,
+    out: &mut O,
+    err: &mut E,
+) -> Status
+    requires { (1 ≤ length (trees_of (queries_of plan.now))) × (length (trees_of (queries_of plan.now)) ≤ 16) }
+    ensures answers { AnswerPromise (texts_of_all (trees_of (queries_of plan.now))) result (record {
+      limit = crew.now.settings.limit;
+      source = source_view S.left S.faults source.old;
+      source_after = source_view S.left S.faults source.new;
+      sinks = sinks_of (sink_view O.taken O.faults out.old) (sink_view O.taken O.faults out.new)
+          (sink_view E.taken E.faults err.old) (sink_view E.taken E.faults err.new);
+    }) }
+    ensures next { S.follows source.old source.new }
+{
+    archives_come_in_batches();
+    let Ok(kept) = none_kept(crew.alloc, plan.len()) else {
+        return Status::NoMemory;
+    };
+    let mut taker = AllQueries {
+        alloc: crew.alloc,
+        plan,
+        answer: |batch: &Batch| -> Result<ManyAnswers, NoMemory>
+            requires { IsSync R.row × IsSync G.row }
+            ensures { IfOk result (λ many. AreManyOf (trees_of (queries_of plan.entry.now)) batch.now (answers_in many)) }
+        { many_answers(crew, plan, batch) },
+        tally: Tally {
+            games: 0,
+            matched: 0,
+            refused: 0,
+        },
+        kept,
+    };
+    match take_batches(
+        crew.alloc,
+        crew.settings.limit,
+        source,
+        &mut taker,
+        out,
+        err,
+    ) {
+        Ok(Ended::All(_)) => write_outputs(crew.alloc, plan, taker.tally, taker.kept, out, err),
+        Ok(Ended::Early(status)) => status,
+        Err(refusal) => status_of(refusal),
+    }
+}
+
+// For each query of a plan, the answers of the games of a batch.
+fn many_answers<R: Threads + Sync, G: Gate + Sync>(
+    crew: &Crew<'_, R, G>,
+    plan: &SharedPlan,
+    batch: &Batch,
+) -> Result<ManyAnswers, NoMemory>
+    ensures { IfOk result (λ many. AreManyOf (trees_of (queries_of plan.now)) batch.now (answers_in many)) }
+{
+    let workers = crew.settings.workers;
+    run_many(crew.rt, crew.alloc, plan, batch, workers, crew.gate)
+}

@@ -1,0 +1,91 @@
+//! Answering a query over an archive that is open.
+ghost use Rattle.std.specs.Prelude.{◌≤◌, ◌^◌};
+ghost use Rattle.cql_syntax.specs.TreeOf.{query_tree};
+ghost use Rattle.cq_search.specs.FirstGame.{wanted};
+ghost use Rattle.cq_search.specs.Promise.{AnswerPromise};
+ghost use Rattle.cq_queries.specs.Views.{source_view, sink_view, sinks_of};
+
+use crate::all_games::answer_all;
+use crate::crew::Crew;
+use crate::first_match::answer_first;
+use crate::laws::archives_come_in_batches;
+use cq_outside::{Gate, Sink, Source};
+use cq_queries::Status;
+use cq_words::Settings;
+use cql_plan::Plan;
+use cql_syntax::TypedQuery;
+use std::alloc::Global;
+use std::thread::Threads;
+
+/// Answers a query over the archive that `source` has left: batch by batch, the games of each by `settings.workers` workers, from 1 to 64,
+/// in threads of `rt`, of the first `settings.limit` bytes, from 1 to 2^40. Both ranges are conditions. A batch has 1,024 games, or
+/// fewer of which 2^24 bytes are kept, or those that are left at the end.
+///
+/// The source is read in pieces of at most 65,536 bytes, none while a full batch waits, and at most one byte over the limit in all.
+/// Without a sort item the exports and fault lines of a batch are written before the next one is asked for; with one the fault lines
+/// are, and the games that match are kept until all are answered. With `settings.first` no more is written than the game that matches first
+/// and the report up to it, whatever the sort items, and no more is read after its batch. Nothing is written after a fault.
+///
+/// Answers:
+/// - `Done` or `DoneWithRefusals`: both sinks have taken all, and no game of the report, or some, is faulty.
+/// - `ReadFault`: a read failed, and no other count rose. Of the games of the batches that were full by then all that is due is written.
+/// - `ArchiveTooLong`: one byte more than the limit was read, and no count rose. Written is as much as after a failed read.
+/// - `WriteFault`: a write to one sink failed, and no other count rose. Each sink has taken a prefix of its text.
+/// - `NoMemory`: no memory was found, and no count rose. Each sink has taken a prefix of its text.
+///
+/// The clause `AnswerPromise` says each of these exactly; no other status is given.
+pub fn answer<R: Threads + Sync, S: Source, O: Sink, E: Sink, G: Gate + Sync>(
+    rt: &R,
+    alloc: Global,
+    query: &TypedQuery,
+    settings: Settings,
+    source: &mut S,
+    out: &mut O,
+    err: &mut E,
+    gate: &G,
+) -> Status
+    requires workers { (1 ≤ settings.workers) × (settings.workers ≤ 64) }
+    requires limit { (1 ≤ settings.limit) × (settings.limit ≤ 2 ^ 40) }
+    ensures answers { AnswerPromise (wanted settings.first (query_tree query.now.query)) result (record {
+      limit = settings.limit;
+      source = source_view S.left S.faults source.old;
+      source_after = source_view S.left S.faults source.new;
+      sinks = sinks_of (sink_view O.taken O.faults out.old) (sink_view O.taken O.faults out.new)
+          (sink_view E.taken E.faults err.old) (sink_view E.taken E.faults err.new);
+    }) }
+    ensures next { S.follows source.old source.new }
+{
+    let crew = Crew::new(rt, alloc, settings, gate);
+    answer_with(&crew, query, source, out, err)
+}
+
+/// Answers a query as `answer` does, and with the same statuses, by the workers and settings of a crew.
+pub fn answer_with<R: Threads + Sync, S: Source, O: Sink, E: Sink, G: Gate + Sync>(
+    crew: &Crew<'_, R, G>,
+    query: &TypedQuery,
+    source: &mut S,
+    out: &mut O,
+    err: &mut E,
+) -> Status
+    ensures answers { AnswerPromise (wanted crew.now.settings.first (query_tree query.now.query)) result (record {
+      limit = crew.now.settings.limit;
+      source = source_view S.left S.faults source.old;
+      source_after = source_view S.left S.faults source.new;
+      sinks = sinks_of (sink_view O.taken O.faults out.old) (sink_view O.taken O.faults out.new)
+          (sink_view E.taken E.faults err.old) (sink_view E.taken E.faults err.new);
+    }) }
+    ensures next { S.follows source.old source.new }
+{
+    archives_come_in_batches();
+    let Ok(plan) = Plan::make(crew.alloc, query) else {
+        return Status::NoMemory;
+    };
+    if crew.settings.first {
+        let status = answer_first(crew, &plan, source, out, err);
+        drop(plan);
+        return status;
+    }
+    let status = answer_all(crew, &plan, source, out, err);
+    drop(plan);
+    status
+}

@@ -1,0 +1,96 @@
+//! What is kept of a batch for several queries. The lines of the faulty games are the same for each query, so they are written as the first
+//! one's answers are.
+ghost use Rattle.std.specs.Prelude.{◌≡◌, ◌+◌, ◌++◌, ◌<◌, ◌≤◌, ◌^◌, [], List, length, map, get_or, replicate, IfOk, OnOk};
+ghost use Rattle.cql_syntax.specs.Trees.{QueryTree};
+ghost use Rattle.cq_shards.specs.Many.{answers_in};
+ghost use Rattle.cq_shards.specs.Order.{is_match as is_matching};
+ghost use Rattle.cq_shards.specs.Outcomes.{Outcome};
+ghost use Rattle.cq_shards.specs.declared.answers.GameAnswer.{GameAnswer};
+ghost use Rattle.cq_search.specs.ManyWriting.{AddsMatches, AreRowsOf, FoundByAll, IsRowOrdered, KeepsRest, KeepsSome};
+ghost use Rattle.cq_queries.specs.Views.{SinkView, sink_view, sinks_of};
+
+use crate::output::write_answers;
+use crate::tally::Tally;
+use cq_common::{Failed, NoMemory, Refusal};
+use cq_outside::Sink;
+use cq_shards::{Answer, GameAnswer, ManyAnswers, in_order};
+use std::alloc::Global;
+
+/// For each of so many queries nothing.
+pub fn none_kept(alloc: Global, queries: u32) -> Result<Vec<Vec<GameAnswer>>, NoMemory>
+    ensures { IfOk result (λ kept. map (λ row. row.items) kept.items ≡ replicate queries []) }
+{
+    let mut kept = Vec::new(alloc);
+    for _query in 0..queries {
+        kept.push(Vec::new(alloc))?;
+    }
+    Ok(kept)
+}
+
+/// Writes the lines of the faulty games of a batch, and keeps the games that match, for each query.
+pub fn keep_batch<O: Sink, E: Sink>(
+    alloc: Global,
+    answers: ManyAnswers,
+    tally: &mut Tally,
+    kept: &mut Vec<Vec<GameAnswer>>,
+    out: &mut O,
+    err: &mut E,
+) -> Result<(), Refusal<Failed>>
+    requires queries { (1 ≤ length kept.old.items) × (length kept.old.items ≤ 16) }
+    requires rows { length (answers_in answers) ≡ length kept.old.items }
+    requires games { (ordered : List GameAnswer) → IsRowOrdered (get_or (answers_in answers) 0 []) ordered
+        → tally.old.games + length ordered < 2 ^ 63 }
+    requires matched { tally.old.matched ≤ tally.old.games }
+    requires refused { tally.old.refused ≤ tally.old.games }
+    ensures { (queries : List QueryTree) (before : List Outcome) (outcomes : List Outcome) (first : SinkView) (second : SinkView)
+        → AreRowsOf queries (length before) outcomes (answers_in answers)
+        → FoundByAll queries before (sinks_of first (sink_view O.taken O.faults out.old) second (sink_view E.taken E.faults err.old))
+        tally.old (map (λ row. row.items) kept.old.items)
+        → KeepsSome queries (before ++ outcomes)
+        (sinks_of first (sink_view O.taken O.faults out.new) second (sink_view E.taken E.faults err.new))
+        tally.new (map (λ row. row.items) kept.new.items) result }
+{
+    let mut rows = answers;
+    let first = in_order(alloc, rows.take(0))?;
+    match write_answers(alloc, true, first, tally, &mut kept[0], out, err) {
+        Ok(()) => {}
+        Err(Refusal::Fault(failed)) => return Err(Refusal::Fault(failed)),
+        Err(Refusal::NoMemory) => return Err(Refusal::NoMemory),
+    }
+    keep_rest(alloc, rows, kept)?;
+    Ok(())
+}
+
+// Keeps the games that match, for each query but the first.
+fn keep_rest(
+    alloc: Global,
+    answers: ManyAnswers,
+    kept: &mut Vec<Vec<GameAnswer>>,
+) -> Result<(), NoMemory>
+    requires few { length kept.old.items ≤ 16 }
+    requires rows { length (answers_in answers) ≡ length kept.old.items }
+    ensures { OnOk result (KeepsRest (answers_in answers)
+        (map (λ row. row.items) kept.old.items) (map (λ row. row.items) kept.new.items)) }
+{
+    let mut rows = answers;
+    for i in 1..kept.len() {
+        keep(alloc, rows.take(i as u32), &mut kept[i])?;
+    }
+    Ok(())
+}
+
+// Keeps the matches among the answers of some games.
+fn keep(alloc: Global, answers: Vec<GameAnswer>, kept: &mut Vec<GameAnswer>) -> Result<(), NoMemory>
+    ensures { OnOk result (AddsMatches answers.items kept.old.items kept.new.items) }
+{
+    let mut matches = in_order(alloc, answers)?;
+    matches.retain(|answer| is_match(answer));
+    kept.append(&mut matches)?;
+    Ok(())
+}
+
+fn is_match(answer: &GameAnswer) -> bool
+    ensures { result ≡ is_matching answer.now }
+{
+    matches!(answer.what, Answer::Match { .. })
+}

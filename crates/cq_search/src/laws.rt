@@ -1,0 +1,14 @@
+//! What answering batch by batch rests on.
+ghost use Rattle.cq_search.specs.ByBatches.{Laws};
+
+use pgn_reader::{first_bytes_decide, games_have_one_outcome, games_have_outcomes};
+
+// What is given of an archive in batches, piece by piece, are its games as they are cut, and each is read from what is kept of it.
+pub(crate) fn archives_come_in_batches()
+    ensures { Laws }
+{
+    pgn_batches::laws::archives_come_in_batches();
+    games_have_outcomes();
+    games_have_one_outcome();
+    first_bytes_decide();
+}

@@ -1,0 +1,29 @@
+-- Answers and rows tell their games' numbers, so what a crew makes of a batch is the answer, or the row, of each game, once.
+use Rattle.std.proofs.Common.{List, ap}
+use Rattle.pgn_batches.specs.Games.{number_of}
+use Rattle.pgn_batches.specs.declared.batch.Batch.{Batch}
+use Rattle.cq_workers.specs.Made.{AreMadeOf}
+use Rattle.cq_workers.specs.Numbered.{IsNumbered}
+use Rattle.cq_workers.proofs.Makings.{are_made}
+use Rattle.cql_syntax.specs.Trees.{QueryTree}
+use Rattle.cq_shards.specs.declared.answers.GameAnswer.{GameAnswer}
+use Rattle.cq_shards.specs.Answers.{AreAnswersOf}
+use Rattle.cq_shards.specs.Work.{HasAnswered, IsAnswerFor, index_of, size}
+use Rattle.cq_shards.specs.declared.rows.GameRow.{GameRow}
+use Rattle.cq_shards.specs.Rows.{AreRowsOf, HasMadeRows, IsRowFor, row_index}
+
+pub numbered_answers : (query : QueryTree) (batch : Batch) → IsNumbered (IsAnswerFor query batch) index_of (number_of batch)
+numbered_answers query batch = λ number a is. ap (λ (b : GameAnswer). b.index) is.is
+
+pub numbered_rows : (queries : List QueryTree) (batch : Batch) → IsNumbered (IsRowFor queries batch) row_index (number_of batch)
+numbered_rows queries batch = λ number r is. is.index
+
+pub are_answers : {K : Type 0} (query : QueryTree) (batch : Batch) (kept : List K) (answers : List GameAnswer)
+    → AreMadeOf (λ k numbers made. HasAnswered query batch numbers made) (size batch) kept answers → AreAnswersOf query batch answers
+are_answers query batch kept answers are =
+    let all = are_made (IsAnswerFor query batch) index_of (number_of batch) (size batch) kept answers are in record { each = all.each; once = all.once }
+
+pub are_rows : {K : Type 0} (queries : List QueryTree) (batch : Batch) (kept : List K) (rows : List GameRow)
+    → AreMadeOf (λ k numbers made. HasMadeRows queries batch numbers made) (size batch) kept rows → AreRowsOf queries batch rows
+are_rows queries batch kept rows are =
+    let all = are_made (IsRowFor queries batch) row_index (number_of batch) (size batch) kept rows are in record { each = all.each; once = all.once }

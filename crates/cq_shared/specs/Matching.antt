@@ -1,0 +1,136 @@
+-- Several queries over one game: each different part is asked at most once, at the nodes that the queries that have it still want.
+use Rattle.std.specs.Prelude.{◌≡◌, ℕ, zero, suc, ◌+◌, ◌<◌, ◌&&◌, ◌||◌, ◌==◌, nat_lt, not, Bool, true, false, List, [], ◌∷◌, Option, None, ℤ, get_or, length, if◌then◌else◌}
+use Rattle.std.specs.List.{list_all, sum_by, list_any}
+use Rattle.cq_position.specs.Games.{Game, is_searched}
+use Rattle.cq_position.specs.Search.{SearchedTree}
+use Rattle.cql_columns.specs.Columns.{is_live}
+use Rattle.cql_columns.specs.Costs.{filter_cost, searched_len}
+use Rattle.cql_syntax.specs.Meaning.{value}
+use Rattle.cql_syntax.specs.Trees.{FilterTree, filter_at, FormTree, sort}
+use Rattle.cql_syntax.specs.Values.{amount, holds}
+use Rattle.cql_values.specs.Trees.{searched_tree}
+use Rattle.cq_shared.specs.Parts.{PartTree}
+use Rattle.cq_shared.specs.Places.{is_among}
+use Rattle.cq_shared.specs.Singles.{shown}
+use Rattle.cq_shared.specs.declared.part.Part.{Part}
+use Rattle.cq_shared.specs.declared.nodes.Nodes.{Nodes}
+use Rattle.cq_shared.specs.declared.nodes.Row.{Row}
+
+abbrev pub tree_for : Game → Part → SearchedTree
+tree_for game p = searched_tree game p.single.query.variations
+
+-- a part holds at a node
+unfoldable pub holds_at : Game → PartTree → ℕ → Bool
+holds_at game p n = holds (value (searched_tree game p.variations) [] [] p.filter n)
+
+abbrev pub part_holds : Game → Part → ℕ → Bool
+part_holds game p n = holds_at game (shown p.single) n
+
+-- the number by which a sort item sorts, at a node
+abbrev pub form_number : SearchedTree → FormTree → ℕ → Option ℤ
+form_number tree (sort least text f) n = amount (value tree [] [] f n)
+form_number tree f n = None
+
+unfoldable pub sort_number : SearchedTree → FilterTree → ℕ → Option ℤ
+sort_number tree (filter_at at f) n = form_number tree f n
+
+-- what a part takes at most as the only item: a step for each searched node, and what its lines cost
+unfoldable pub part_cost : Game → PartTree → ℕ
+part_cost game p =
+    searched_len (searched_tree game p.variations) + filter_cost (searched_len (searched_tree game p.variations)) p.filter
+
+abbrev pub plan_cost : Game → List PartTree → ℕ
+plan_cost game ps = sum_by (part_cost game) ps
+
+-- node n is left to query q
+abbrev pub is_left : List Nodes → ℕ → ℕ → Bool
+is_left [] q n = false
+is_left (x ∷ xs) zero n = get_or x.there.items n false
+is_left (x ∷ xs) (suc q) n = is_left xs q n
+
+-- query q has the part
+abbrev pub is_asked_by : ℕ → Part → Bool
+is_asked_by q p = is_among q p.askers.items
+
+-- the part holds, or query q doesn't have it
+abbrev pub meets : Game → ℕ → ℕ → Part → Bool
+meets game q n p = not (is_asked_by q p) || part_holds game p n
+
+-- the class of sort items
+abbrev pub sort_class : ℕ
+sort_class = 5
+
+-- the part is of a class, or of one before it
+abbrev pub is_class : ℕ → Part → Bool
+is_class c p = p.class == c
+
+abbrev pub is_before : ℕ → Part → Bool
+is_before c p = nat_lt p.class c
+
+abbrev pub meets_if : (Part → Bool) → Game → ℕ → ℕ → Part → Bool
+meets_if taken game q n p = not (taken p) || meets game q n p
+
+abbrev pub cost_if : (Part → Bool) → Game → Part → ℕ
+cost_if taken game p = if taken p then part_cost game (shown p.single) else 0
+
+unfoldable pub costs_if : (Part → Bool) → Game → List Part → ℕ
+costs_if taken game [] = 0
+costs_if taken game (p ∷ ps) = cost_if taken game p + costs_if taken game ps
+
+-- the nodes that are left to each query, of those with which it began, after the parts that are taken
+pub record AreLeft (taken : Part → Bool) (game : Game) (parts : List Part) (began left : List Nodes) : Type 0 where
+  pub count : length left ≡ length began
+  pub each : (q n : ℕ) → is_left left q n ≡ (is_left began q n && list_all (meets_if taken game q n) parts)
+
+-- each query that has the part has left nodes of the game alone, and searched ones
+pub record IsReady (game : Game) (left : List Nodes) (p : Part) : Type 0 where
+  pub searched : (q n : ℕ) → is_asked_by q p ≡ true → is_left left q n ≡ true
+      → is_searched p.single.query.variations game.nodes n ≡ true
+  pub inside : (q n : ℕ) → is_asked_by q p ≡ true → is_left left q n ≡ true → n < length game.nodes
+
+abbrev pub AreReady : Game → List Nodes → List Part → Type 0
+AreReady game left parts = (k : ℕ) (p : Part) → k < length parts → p ≡ get_or parts k p → IsReady game left p
+
+-- some query that has the part still wants a node
+pub record IsWanted (p : Part) (left : List Nodes) : Type 0 where
+  pub query : ℕ
+  pub node : ℕ
+  pub has : is_asked_by query p ≡ true
+  pub there : is_left left query node ≡ true
+
+-- Every node that a query with the part still wants is in the set, and if the set has a node, some query still wants one.
+pub record CoversWanted (p : Part) (left : List Nodes) (live : List Bool) : Type 0 where
+  pub each : (q n : ℕ) → is_asked_by q p ≡ true → is_left left q n ≡ true → is_live live n ≡ true
+  pub some : list_any (λ b. b) live ≡ true → IsWanted p left
+
+-- a cost, where some node is there
+abbrev pub cost_at : List Bool → ℕ → ℕ
+cost_at live cost = if list_any (λ b. b) live then cost else 0
+
+-- whether the part holds, at the nodes that are asked for
+pub record IsTold (game : Game) (p : Part) (live truths : List Bool) : Type 0 where
+  pub each : (n : ℕ) → is_live live n ≡ true → get_or truths n false ≡ part_holds game p n
+
+-- the numbers of a sort item, at the nodes that are asked for
+pub record IsRowAt (game : Game) (p : Part) (live : List Bool) (row : List (Option ℤ)) : Type 0 where
+  pub each : (n : ℕ) → is_live live n ≡ true → get_or row n None ≡ sort_number (tree_for game p) (shown p.single).filter n
+
+-- what is left to each query after one part
+pub record IsNarrowedBy (game : Game) (p : Part) (left later : List Nodes) : Type 0 where
+  pub count : length later ≡ length left
+  pub each : (q n : ℕ) → is_left later q n ≡ (is_left left q n && meets game q n p)
+
+pub record IsNarrowedIf (taken : Part → Bool) (game : Game) (p : Part) (left later : List Nodes) : Type 0 where
+  pub count : length later ≡ length left
+  pub each : (q n : ℕ) → is_left later q n ≡ (is_left left q n && meets_if taken game q n p)
+
+-- the numbers of a sort item, at the nodes that are left to the queries that have it
+pub record HasRow (game : Game) (left : List Nodes) (p : Part) (row : List (Option ℤ)) : Type 0 where
+  pub each : p.class ≡ sort_class → (q n : ℕ) → is_asked_by q p ≡ true → is_left left q n ≡ true
+      → get_or row n None ≡ sort_number (tree_for game p) (shown p.single).filter n
+
+-- a row for each part, in order
+abbrev pub HaveRows : Game → List Nodes → List Part → List Row → Type 0
+HaveRows game left [] [] = Unit {0}
+HaveRows game left (p ∷ ps) (r ∷ rs) = HasRow game left p r.numbers.items × HaveRows game left ps rs
+HaveRows game left ps rs = ⊥

@@ -1,0 +1,152 @@
+//! How a plan of several queries is made, and what it has.
+ghost use Rattle.std.specs.Prelude.{◌≡◌, ℕ, ◌+◌, ◌<◌, ◌≤◌, ◌==◌, ◌&&◌, ◌||◌, false, true, length, map, get_or, IfOk, OnOk};
+ghost use Rattle.std.specs.List.{list_all};
+ghost use Rattle.cql_plan.specs.Plans.{query_of};
+ghost use Rattle.cql_syntax.specs.Flat.{flat_query};
+ghost use Rattle.cql_syntax.specs.TreeOf.{filter_tree, query_tree};
+ghost use Rattle.cq_shared.specs.Alone.{stands_alone};
+ghost use Rattle.cq_shared.specs.Askers.{asked_query, IsAsker, AreAskers};
+ghost use Rattle.cq_shared.specs.Known.{all_shown, is_asked, with_parts};
+ghost use Rattle.cq_shared.specs.Parts.{parts_in, parts_in_all, parts_with, top_parts, different, equal_parts, Keeps};
+ghost use Rattle.cq_shared.specs.Places.{IsTable, is_among};
+ghost use Rattle.cql_syntax.specs.QueryTrees.{trees_of};
+ghost use Rattle.cq_shared.specs.Plans.{askers_of, each_part_of, queries_of, plan_parts};
+
+use crate::finding::{add_sorts, add_top, count_top};
+use crate::known::add_all;
+use crate::part::{Asker, Listed, Part};
+use crate::plan::SharedPlan;
+use crate::table::{Place, empty_places};
+use cq_common::NoMemory;
+use cql_plan::Plan;
+use cql_rewrite::expand;
+use cql_syntax::TypedQuery;
+use std::alloc::Global;
+
+impl SharedPlan {
+    /// The plan of 1 to 16 queries.
+    ///
+    /// Each part has a place in a table by its text, and is compared with the parts alone that have the same place: few, in texts that
+    /// were not chosen for it.
+    pub fn make(alloc: Global, queries: &[TypedQuery]) -> Result<SharedPlan, NoMemory>
+        requires some { 0 < length queries.now }
+        requires few { length queries.now ≤ 16 }
+        ensures { IfOk result (λ plan. trees_of (queries_of plan) ≡ trees_of queries.now) }
+    {
+        let mut places = empty_places(alloc, count_all(queries))?;
+        let mut parts = Vec::new(alloc);
+        let mut askers = Vec::new(alloc);
+        for q in 0..queries.len() {
+            let asker = asker_of(alloc, &queries[q], q as u32, &mut parts, &mut places)?;
+            askers.push(asker)?;
+        }
+        if parts.len() > u32::MAX as usize {
+            return Err(NoMemory);
+        }
+        let plan = SharedPlan { askers, parts };
+        Ok(plan)
+    }
+
+    /// How many queries it was made from.
+    pub fn len(&self) -> u32
+        ensures { result ≡ length (queries_of self.now) }
+    {
+        self.askers.len() as u32
+    }
+
+    /// The query of a number, of those that it was made from.
+    pub fn query(&self, query: u32) -> &TypedQuery
+        requires { query < length (queries_of self.now) }
+        ensures { result.now ≡ get_or (queries_of self.now) query result.now }
+    {
+        self.askers[query as usize].plan.query()
+    }
+
+    /// How many different parts the queries have.
+    pub fn parts(&self) -> u32
+        ensures { result ≡ length (plan_parts (queries_of self.now)) }
+    {
+        self.parts.len() as u32
+    }
+
+    /// The queries, each with the numbers of its parts.
+    pub fn askers(&self) -> &[Asker]
+        ensures value { result.now ≡ askers_of self.now }
+        ensures parts { AreAskers (each_part_of self.now) (askers_of self.now) }
+    {
+        self.askers.as_slice()
+    }
+
+    /// The different parts, by their numbers.
+    pub fn each_part(&self) -> &[Part]
+        ensures value { result.now ≡ each_part_of self.now }
+        ensures different { equal_parts (all_shown (each_part_of self.now))
+            (different (parts_in_all (map (λ a. asked_query a) (askers_of self.now)))) ≡ true }
+    {
+        self.parts.as_slice()
+    }
+}
+
+// How many parts the queries have, and one more.
+fn count_all(queries: &[TypedQuery]) -> usize
+    ensures { 0 < result }
+{
+    let mut count = 1;
+    for query in queries {
+        count = count_top(&query.query.items, count);
+    }
+    count
+}
+
+// A query, whose parts are added to those of the queries before it.
+fn asker_of(
+    alloc: Global,
+    query: &TypedQuery,
+    number: u32,
+    parts: &mut Vec<Part>,
+    places: &mut Vec<Place>,
+) -> Result<Asker, NoMemory>
+    requires table { IsTable places.old.items (all_shown parts.old.items) }
+    requires fresh { (k : ℕ) → is_asked parts.old.items k number ≡ false }
+    ensures table { OnOk result (IsTable places.new.items (all_shown parts.new.items)) }
+    ensures parts { OnOk result (all_shown parts.new.items
+        ≡ with_parts (all_shown parts.old.items) (parts_in (query_tree query.now.query))) }
+    ensures kept { OnOk result (Keeps (all_shown parts.old.items) (all_shown parts.new.items)) }
+    ensures query { IfOk result (λ a. asked_query a ≡ query_tree query.now.query) }
+    ensures asker { IfOk result (λ a. IsAsker parts.new.items number a) }
+    ensures asked { IfOk result (λ a. (k q : ℕ) → is_asked parts.new.items k q
+        ≡ (is_asked parts.old.items k q || (is_among k a.numbers.items && (number == q)))) }
+{
+    let listed = listed(alloc, query)?;
+    let filters = listed.filters.as_slice();
+    let numbers = add_all(alloc, filters, listed.variations, number, parts, places)?;
+    Ok(Asker {
+        plan: listed.plan,
+        numbers,
+        sorts: listed.sorts,
+    })
+}
+
+// The parts of a query.
+fn listed(alloc: Global, query: &TypedQuery) -> Result<Listed, NoMemory>
+    ensures query { IfOk result (λ l. query_tree (query_of l.plan).query ≡ query_tree query.now.query) }
+    ensures parts { IfOk result (λ l. parts_with l.variations (map filter_tree l.filters.items)
+        ≡ parts_in (query_tree query.now.query)) }
+    ensures alone { IfOk result (λ l. list_all stands_alone (map filter_tree l.filters.items) ≡ true) }
+    ensures sorts { IfOk result (λ l. l.sorts ≡ length (top_parts (flat_query (query_tree query.now.query)).items)) }
+{
+    let flat = expand(alloc, query)?;
+    let mut filters = Vec::new(alloc);
+    add_top(alloc, &flat.items, &mut filters)?;
+    let sorts = filters.len();
+    add_sorts(alloc, &flat.items, &mut filters)?;
+    let variations = flat.variations;
+    drop(flat);
+    let plan = Plan::make(alloc, query)?;
+    Ok(Listed {
+        plan,
+        filters,
+        sorts,
+        variations,
+    })
+}

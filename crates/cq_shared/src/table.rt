@@ -1,0 +1,49 @@
+//! A table of the numbers of parts, by the texts of the parts: parts that are the same have one text, so they stand at one place.
+ghost use Rattle.std.specs.Prelude.{◌≡◌, ℕ, ◌<◌, ◌++◌, ◌∷◌, [], length, get_or, IfOk, OnOk};
+ghost use Rattle.cq_shared.specs.Places.{mixed, mixed_all, numbers_at};
+
+use cq_common::NoMemory;
+use std::alloc::Global;
+
+/// The numbers at a place.
+#[derive(Drop)]
+pub(crate) struct Place {
+    pub(crate) numbers: Vec<usize>,
+}
+
+/// Places without numbers, so many.
+pub(crate) fn empty_places(alloc: Global, many: usize) -> Result<Vec<Place>, NoMemory>
+    ensures { IfOk result (λ places. length places.items ≡ many) }
+{
+    let mut places = Vec::new(alloc);
+    for _place in 0..many {
+        places.push(Place {
+            numbers: Vec::new(alloc),
+        })?;
+    }
+    Ok(places)
+}
+
+/// A number made of the bytes of a text.
+#[tactic(auto, unfolding(crate::specs::Places::mixed_all, crate::specs::Places::mixed))]
+pub(crate) fn mixed_of(text: &[u8]) -> u64
+    ensures { result ≡ mixed_all text.now }
+{
+    let mut mixed = 0u64;
+    for byte in text {
+        mixed = (mixed * 257 + u64::from(*byte)) % 4_294_967_291;
+    }
+    mixed
+}
+
+/// Adds a number at a place.
+pub(crate) fn put(places: &mut Vec<Place>, at: usize, number: usize) -> Result<(), NoMemory>
+    requires { at < length places.old.items }
+    ensures len { OnOk result (length places.new.items ≡ length places.old.items) }
+    ensures here { OnOk result (numbers_at places.new.items at ≡ numbers_at places.old.items at ++ number ∷ []) }
+    ensures others { OnOk result ((i : ℕ) → (i ≡ at → ⊥) → numbers_at places.new.items i ≡ numbers_at places.old.items i) }
+{
+    let place = &mut places[at];
+    place.numbers.push(number)?;
+    Ok(())
+}

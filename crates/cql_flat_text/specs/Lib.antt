@@ -1,2 +1,0 @@
-pub mod FlatText
-pub mod Sums

@@ -1,4 +1,0 @@
-pub mod Gathered
-pub mod InEach
-pub mod Sound
-pub mod Standing

@@ -1,7 +1,0 @@
-use Rattle.std.proofs.Common.{take}
-use Rattle.cql_syntax.specs.TreeOf.{filters_tree, filter_trees}
-use Rattle.cql_joined.specs.Lifted.{AreRests}
-use Rattle.cql_joined.proofs.lifting.rests_of.Given as goal
-
-abbrev pub invariant-loop-k : goal.invariant-loop-k
-invariant-loop-k l = AreRests (filters_tree l.common) (filter_trees (take l.k l.filters)) (filters_tree l.rests)

@@ -1,0 +1,53 @@
+//! The public calls.
+ghost use Rattle.std.specs.Prelude.{◌≡◌, ◌<◌, ◌∷◌, [], length, IfOk, IfSome};
+ghost use Rattle.cql_local.specs.Places.{tree_of};
+ghost use Rattle.cql_syntax.specs.Meaning as meaning;
+ghost use Rattle.cql_syntax.specs.TreeOf.{filter_tree};
+ghost use Rattle.cql_syntax.specs.Values as spec;
+ghost use Rattle.cql_values.specs.Shown.{meant};
+
+use crate::cheap::{is_cheap, is_moved};
+use crate::evaluate::square_at;
+use crate::place::Place;
+use cq_common::{NoMemory, Refusal};
+use cql_syntax::Filter;
+use cql_values::names::Names;
+use cql_values::value::Value;
+use pgn_tree::Game;
+
+/// Whether what is asked holds of every square of a set, or of some, at one of the game's nodes, with the name bound to the square. Nothing
+/// of a filter that is not answered node by node: of a line, a family, a sum, `find` downwards, `*`, `max`, `min`, or a word that counts
+/// plies or asks for what comes after. Memory is asked for the names alone.
+pub fn square_here(
+    every: bool,
+    name: &[u8],
+    squares: Value,
+    asked: &Filter,
+    place: &Place,
+    names: &mut Names,
+) -> Result<Option<bool>, NoMemory>
+    requires { place.now.node < length place.now.game.now.nodes }
+    ensures value { IfOk result (λ found. IfSome found (λ b. spec.as_truth b ≡ spec.square_of every (meant squares)
+        (λ s. spec.holds (meaning.value (tree_of place.now) [] ((name.now, s) ∷ names.old) (filter_tree asked.now) place.now.node)))) }
+    ensures names { names.new ≡ names.old }
+{
+    // A game's nodes are a tree.
+    prove!(place.game.is_tree());
+    match square_at(every, name, squares.squares(), asked, place, names) {
+        Ok(holds) => Ok(Some(holds)),
+        Err(Refusal::Fault(_)) => Ok(None),
+        Err(Refusal::NoMemory) => Err(NoMemory),
+    }
+}
+
+/// The most nodes of a game in which the nodes above each node are looked at, one by one.
+const MOST_NODES: u32 = 1_024;
+
+/// Whether what is asked of every square, or of some, is answered node by node, and cheaply in this game. It is a guess, on which nothing
+/// rests. The nodes above a node are looked at where few squares are tried there.
+pub fn is_asked_here(every: bool, name: &[u8], asked: &Filter, game: &Game) -> bool {
+    is_cheap(
+        asked,
+        game.len() <= MOST_NODES && is_moved(every, name, asked),
+    )
+}

@@ -1,0 +1,416 @@
+//! What a filter gives at a node, by recursion on the filter.
+ghost use Rattle.std.specs.Prelude.{◌≡◌, ◌<◌, ◌&&◌, [], length, ℕ, Some, IfOk, option_to_list};
+ghost use Rattle.std.specs.List.{list_any};
+ghost use Rattle.cq_geometry.specs.Squares.{squares};
+ghost use Rattle.cq_position.specs.Bitboards.{IsBitboard};
+ghost use Rattle.cq_position.specs.Games as games;
+ghost use Rattle.cq_position.specs.Games.{IsTree};
+ghost use Rattle.cq_position.specs.Search.{children_in};
+ghost use Rattle.cq_symmetry.specs.Images.{is_in};
+ghost use Rattle.cql_local.specs.Moves.{IsSought};
+ghost use Rattle.cql_local.specs.Places.{tree_of, value_at, values_at, holds_at, IsAt};
+ghost use Rattle.cql_syntax.specs.Meaning as meaning;
+ghost use Rattle.cql_syntax.specs.TreeOf.{filter_tree, filters_tree, played_tree, written_tree};
+ghost use Rattle.cql_syntax.specs.Values as spec;
+ghost use Rattle.cql_values.specs.Asked.{settles};
+ghost use Rattle.cql_values.specs.Bindings.{rebound};
+ghost use Rattle.cql_values.specs.Shown.{meant};
+
+use crate::ends::ends_of;
+use crate::halt::{Elsewhere, Halt};
+use crate::leaves::leaf_here;
+use crate::place::Place;
+use crate::sought::{Sought, may_hold, moves_sought};
+use crate::worth::tried;
+use cq_geometry::Square;
+use cq_square_sets::lowest_square;
+use cql_played::Led;
+use cql_syntax::{Chain, Filter, Filters, Form, Kind, Played, Unary};
+use cql_values::combine::{if_of, pair_of, unary_here};
+use cql_values::led::led_to;
+use cql_values::names::Names;
+use cql_values::sets::{has_square, reached};
+use cql_values::value::Value;
+use cql_values::walks::is_searched;
+use cql_values::words::directions;
+
+/// What a filter gives at a node.
+#[cycle(evaluate)]
+pub(crate) fn evaluate(f: &Filter, place: &Place, names: &mut Names) -> Result<Value, Halt>
+    requires { IsAt place.now }
+    ensures value { IfOk result (λ v. meant v ≡ value_at place.now names.old (filter_tree f.now) place.now.node) }
+    ensures names { names.new ≡ names.old }
+{
+    match &f.form {
+        Form::Unary(word, part) => unary_at(*word, part, place, names),
+        Form::Steps(way, m, n, part) => {
+            let value = evaluate(part, place, names)?;
+            Ok(reached(directions(*way), *m, *n, value))
+        }
+        Form::Chain(chain, parts) => chain_at(*chain, parts, place, names),
+        Form::Pair(pair, first, second) => {
+            let first = evaluate(first, place, names)?;
+            let second = evaluate(second, place, names)?;
+            Ok(pair_of(place.game.position(place.node), *pair, first, second))
+        }
+        Form::If(condition, then, otherwise) => {
+            let condition = evaluate(condition, place, names)?;
+            let then = evaluate(then, place, names)?;
+            let otherwise = evaluate(otherwise, place, names)?;
+            Ok(if_of(condition, then, otherwise))
+        }
+        Form::Square(every, name, squares, asked) => {
+            let squares = evaluate(squares, place, names)?;
+            let holds = square_at(
+                *every,
+                name.as_slice(),
+                squares.squares(),
+                asked,
+                place,
+                names,
+            )?;
+            Ok(Value::Truth(holds))
+        }
+        Form::Played(played) => {
+            let met = played_at(played, place, names)?;
+            Ok(Value::Truth(met))
+        }
+        Form::Sort(.., part) => {
+            let value = evaluate(part, place, names)?;
+            Ok(Value::Truth(value.number().is_some()))
+        }
+        Form::Any(kind, parts) => any_at(*kind, parts, place, names),
+        _ => leaf_here(f, place, &*names),
+    }
+}
+
+// What a word or mark before a part gives.
+#[cycle(evaluate)]
+fn unary_at(word: Unary, part: &Filter, place: &Place, names: &mut Names) -> Result<Value, Halt>
+    requires { IsAt place.now }
+    ensures value { IfOk result (λ v. meant v ≡ meaning.unary_of (tree_of place.now) word
+        (value_at place.now names.old (filter_tree part.now)) place.now.node) }
+    ensures names { names.new ≡ names.old }
+{
+    match word {
+        Unary::Find => Err(Halt::Fault(Elsewhere)),
+        Unary::Child => some_child(part, place, names),
+        Unary::FindUp => some_above(part, place, names),
+        Unary::Parent => at_parent(part, place, names),
+        _ => {
+            let value = evaluate(part, place, names)?;
+            Ok(unary_here(word, place.game.position(place.node), value))
+        }
+    }
+}
+
+// Whether a filter holds at the parent of a node, if it has one.
+#[cycle(evaluate)]
+fn at_parent(part: &Filter, place: &Place, names: &mut Names) -> Result<Value, Halt>
+    requires { IsAt place.now }
+    ensures value { IfOk result (λ v. meant v ≡ meaning.some_node (value_at place.now names.old (filter_tree part.now))
+        (option_to_list (games.node_at place.now.game.now.nodes place.now.node).parent)) }
+    ensures names { names.new ≡ names.old }
+{
+    let Some(parent) = place.game.parent(place.node) else {
+        return Ok(Value::Truth(false));
+    };
+    let above = Place {
+        node: parent,
+        ..*place
+    };
+    let value = evaluate(part, &above, names)?;
+    Ok(Value::Truth(value.holds()))
+}
+
+// Whether a filter holds at a child of a node, one of those that are searched.
+#[cycle(evaluate)]
+fn some_child(part: &Filter, place: &Place, names: &mut Names) -> Result<Value, Halt>
+    requires { IsAt place.now }
+    ensures value { IfOk result (λ v. meant v ≡ meaning.some_node (value_at place.now names.old (filter_tree part.now))
+        (children_in (tree_of place.now) place.now.node)) }
+    ensures names { names.new ≡ names.old }
+{
+    let mut at = place.game.first_child(place.node);
+    while let Some(child) = at {
+        let below = Place {
+            node: child,
+            ..*place
+        };
+        let there = holds_searched(part, &below, names)?;
+        if there {
+            return Ok(Value::Truth(true));
+        }
+        at = place.game.next_sibling(child);
+    }
+    Ok(Value::Truth(false))
+}
+
+// Whether a node is searched, and a filter holds there.
+#[cycle(evaluate)]
+fn holds_searched(part: &Filter, place: &Place, names: &mut Names) -> Result<bool, Halt>
+    requires { IsAt place.now }
+    ensures value { IfOk result (λ b. b ≡ (games.is_searched place.now.variations place.now.game.now.nodes place.now.node
+        && spec.holds (value_at place.now names.old (filter_tree part.now) place.now.node))) }
+    ensures names { names.new ≡ names.old }
+{
+    if !is_searched(place.game, place.variations, place.node) {
+        return Ok(false);
+    }
+    let value = evaluate(part, place, names)?;
+    Ok(value.holds())
+}
+
+// Whether a filter holds at a node or at one above it.
+#[cycle(evaluate)]
+fn some_above(part: &Filter, place: &Place, names: &mut Names) -> Result<Value, Halt>
+    requires { IsAt place.now }
+    ensures value { IfOk result (λ v. meant v ≡ meaning.some_node (value_at place.now names.old (filter_tree part.now))
+        (games.way_up place.now.game.now.nodes place.now.node)) }
+    ensures names { names.new ≡ names.old }
+{
+    let moves = moves_sought(part, &*names);
+    let mut at = Some(place.node);
+    while let Some(node) = at {
+        let above = Place { node, ..*place };
+        let there = holds_after(&moves, part, &above, names)?;
+        if there {
+            return Ok(Value::Truth(true));
+        }
+        at = place.game.parent(node);
+    }
+    Ok(Value::Truth(false))
+}
+
+// Whether a filter holds at a node, which it does after some moves alone.
+#[cycle(evaluate)]
+fn holds_after(
+    moves: &Sought,
+    part: &Filter,
+    place: &Place,
+    names: &mut Names,
+) -> Result<bool, Halt>
+    requires at { IsAt place.now }
+    requires sought { IsSought names.old (filter_tree part.now) moves.now }
+    ensures value { IfOk result (λ b. b ≡ spec.holds (value_at place.now names.old (filter_tree part.now) place.now.node)) }
+    ensures names { names.new ≡ names.old }
+{
+    if !may_hold(moves, place.game, place.node) {
+        return Ok(false);
+    }
+    let value = evaluate(part, place, names)?;
+    Ok(value.holds())
+}
+
+// What a chain gives.
+#[cycle(evaluate)]
+fn chain_at(chain: Chain, parts: &Filters, place: &Place, names: &mut Names) -> Result<Value, Halt>
+    requires { IsAt place.now }
+    ensures value { IfOk result (λ v. meant v
+        ≡ spec.chain_of chain (values_at place.now names.old (filters_tree parts.now) place.now.node)) }
+    ensures names { names.new ≡ names.old }
+{
+    match chain {
+        Chain::Or => some_of(parts, place, names),
+        Chain::And | Chain::All => all_of(parts, place, names),
+        Chain::Union => union_of(parts, place, names),
+        Chain::Intersect => common_of(parts, place, names),
+        Chain::Product | Chain::Max | Chain::Min => Err(Halt::Fault(Elsewhere)),
+    }
+}
+
+// What one of some filters of a kind gives, or all of them together.
+#[cycle(evaluate)]
+fn any_at(kind: Kind, parts: &Filters, place: &Place, names: &mut Names) -> Result<Value, Halt>
+    requires { IsAt place.now }
+    ensures value { IfOk result (λ v. meant v ≡ spec.any_of kind (values_at place.now names.old (filters_tree parts.now) place.now.node)) }
+    ensures names { names.new ≡ names.old }
+{
+    match kind {
+        Kind::Position => some_of(parts, place, names),
+        Kind::Set => union_of(parts, place, names),
+        Kind::Number => Err(Halt::Fault(Elsewhere)),
+    }
+}
+
+// Whether all of some filters hold.
+#[cycle(evaluate)]
+fn all_of(parts: &Filters, place: &Place, names: &mut Names) -> Result<Value, Halt>
+    requires { IsAt place.now }
+    ensures value { IfOk result (λ v. meant v ≡ spec.all_hold (values_at place.now names.old (filters_tree parts.now) place.now.node)) }
+    ensures names { names.new ≡ names.old }
+{
+    for part in parts.as_slice() {
+        let value = evaluate(part, place, names)?;
+        if !value.holds() {
+            return Ok(Value::Truth(false));
+        }
+    }
+    Ok(Value::Truth(true))
+}
+
+// Whether one of some filters holds.
+#[cycle(evaluate)]
+fn some_of(parts: &Filters, place: &Place, names: &mut Names) -> Result<Value, Halt>
+    requires { IsAt place.now }
+    ensures value { IfOk result (λ v. meant v ≡ spec.some_holds (values_at place.now names.old (filters_tree parts.now) place.now.node)) }
+    ensures names { names.new ≡ names.old }
+{
+    for part in parts.as_slice() {
+        let value = evaluate(part, place, names)?;
+        if value.holds() {
+            return Ok(Value::Truth(true));
+        }
+    }
+    Ok(Value::Truth(false))
+}
+
+// The squares that are in one of some sets.
+#[cycle(evaluate)]
+fn union_of(parts: &Filters, place: &Place, names: &mut Names) -> Result<Value, Halt>
+    requires { IsAt place.now }
+    ensures value { IfOk result (λ v. meant v ≡ spec.union_of (values_at place.now names.old (filters_tree parts.now) place.now.node)) }
+    ensures names { names.new ≡ names.old }
+{
+    let mut mask = 0;
+    for part in parts.as_slice() {
+        let value = evaluate(part, place, names)?;
+        mask |= value.squares();
+    }
+    Ok(Value::Set(mask))
+}
+
+// The squares that are in each of some sets.
+#[cycle(evaluate)]
+fn common_of(parts: &Filters, place: &Place, names: &mut Names) -> Result<Value, Halt>
+    requires { IsAt place.now }
+    ensures value { IfOk result (λ v. meant v
+        ≡ spec.intersection_of (values_at place.now names.old (filters_tree parts.now) place.now.node)) }
+    ensures names { names.new ≡ names.old }
+{
+    let mut mask = u64::MAX;
+    for part in parts.as_slice() {
+        let value = evaluate(part, place, names)?;
+        mask &= value.squares();
+    }
+    Ok(Value::Set(mask))
+}
+
+/// Whether what is asked holds of every square of a set, or of some.
+#[cycle(evaluate)]
+pub(crate) fn square_at(
+    every: bool,
+    name: &[u8],
+    set: u64,
+    asked: &Filter,
+    place: &Place,
+    names: &mut Names,
+) -> Result<bool, Halt>
+    requires { IsAt place.now }
+    ensures value { IfOk result (λ b. spec.as_truth b ≡ spec.square_of every (spec.as_squares (is_in set))
+        (holds_at place.now name.now names.old (filter_tree asked.now))) }
+    ensures names { names.new ≡ names.old }
+{
+    let left = tried(every, &*name, set, asked, &*place, &*names);
+    if left == 0 {
+        return Ok(every);
+    }
+    names.bind(name, lowest_square(left))?;
+    let found = some_settles(every, left, asked, place, names);
+    names.unbind();
+    match found {
+        Ok(found) => Ok(found != every),
+        Err(halt) => Err(halt),
+    }
+}
+
+// Whether a square of a set settles what is asked of every square of it, or of some, with the innermost name bound to it.
+#[cycle(evaluate)]
+fn some_settles(
+    every: bool,
+    set: u64,
+    asked: &Filter,
+    place: &Place,
+    names: &mut Names,
+) -> Result<bool, Halt>
+    requires at { IsAt place.now }
+    requires bound { 0 < length names.old }
+    ensures value { IfOk result (λ b. b ≡ list_any (settles every (is_in set)
+        (λ s. spec.holds (value_at place.now (rebound names.old s) (filter_tree asked.now) place.now.node))) squares) }
+    ensures names { (s : ℕ) → rebound names.new s ≡ rebound names.old s }
+{
+    let mut left = set;
+    while left != 0 {
+        let square = lowest_square(left);
+        left &= !(1 << square.number());
+        names.rebind(square);
+        let value = evaluate(asked, place, names)?;
+        if value.holds() != every {
+            return Ok(true);
+        }
+    }
+    Ok(false)
+}
+
+// Whether the move that led to a node is as it is asked for: where it came from and what it took is asked at the node before, its goal and
+// what it became at the node itself.
+#[cycle(evaluate)]
+fn played_at(played: &Played, place: &Place, names: &mut Names) -> Result<bool, Halt>
+    requires { IsAt place.now }
+    ensures value { IfOk result (λ b. b ≡ meaning.played_value (tree_of place.now) [] names.old (played_tree played.now) place.now.node) }
+    ensures names { names.new ≡ names.old }
+{
+    let Some(ends) = ends_of(place.game, place.node) else {
+        return Ok(false);
+    };
+    let above = Place {
+        node: ends.before,
+        ..*place
+    };
+    if !is_met(&played.origin, Some(ends.origin), &above, names)? {
+        return Ok(false);
+    }
+    if !is_met(&played.goal, Some(ends.goal), place, names)? {
+        return Ok(false);
+    }
+    if played.taken.is_none() && played.promoted.is_none() {
+        return Ok(true);
+    }
+    let Some(led) = led_to(place.game, place.node) else {
+        return Ok(false);
+    };
+    if !is_met(&played.taken, led.taken, &above, names)? {
+        return Ok(false);
+    }
+    is_met(&played.promoted, promoted_on(&led), place, names)
+}
+
+// Whether a square that is asked for is there and in the set; nothing is asked by a part that is left out.
+#[cycle(evaluate)]
+fn is_met(
+    part: &Option<Box<Filter>>,
+    square: Option<Square>,
+    place: &Place,
+    names: &mut Names,
+) -> Result<bool, Halt>
+    requires { IsAt place.now }
+    ensures value { IfOk result (λ b. b ≡ meaning.meets
+        (meaning.written_value (tree_of place.now) [] names.old (written_tree part.now) place.now.node) square) }
+    ensures names { names.new ≡ names.old }
+{
+    let Some(part) = part else {
+        return Ok(true);
+    };
+    let Some(square) = square else {
+        return Ok(false);
+    };
+    let value = evaluate(part, place, names)?;
+    Ok(has_square(value.squares(), square))
+}
+
+// A goal where a pawn promoted.
+fn promoted_on(led: &Led) -> Option<Square>
+    ensures { result ≡ meaning.goal_if led.now.promoted led.now.goal }
+{
+    if led.promoted { Some(led.goal) } else { None }
+}

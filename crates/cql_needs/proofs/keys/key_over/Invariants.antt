@@ -1,6 +1,0 @@
-use Rattle.std.proofs.Common.{◌≡◌, take, Some}
-use Rattle.cql_needs.specs.Rows.{key_in}
-use Rattle.cql_needs.proofs.keys.key_over.Given as goal
-
-abbrev pub invariant-loop-k : goal.invariant-loop-k
-invariant-loop-k l = Some l.key ≡ key_in l.least l.row (take l.k l.nodes)

@@ -1,7 +1,0 @@
-use Rattle.std.proofs.Common.{arith}
-use Rattle.cql_needs.proofs.MenLaw.{stands_law}
-use Rattle.cql_needs.proofs.needs.stands_on.Goals as goal
-
-pub returns : goal.returns
-returns c =
-    stands_law c.args.position.now c.args.man c.squares_of.result c.men.ensures.kept.whole (omega arith) (rw (← c.men.ensures.men) c.squares_of.ensures)

@@ -1,4 +1,0 @@
-pub mod Needs
-pub mod NeedsRows
-pub mod Plans
-pub mod Rows

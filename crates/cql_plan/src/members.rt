@@ -1,0 +1,108 @@
+//! The members of a family, each once.
+ghost use Rattle.std.specs.Prelude.{◌≡◌, true, IfOk, OnOk};
+ghost use Rattle.cql_syntax.specs.Trees.{no_filters};
+ghost use Rattle.cql_syntax.specs.TreeOf.{filter_tree, filters_tree};
+ghost use Rattle.cql_syntax.specs.declared.leaves.Kind.{Kind};
+ghost use Rattle.cql_plan.specs.Joined as spec;
+ghost use Rattle.cql_plan.specs.Joined.{Gathers, alone};
+
+use crate::keyed::key_of;
+use cq_common::NoMemory;
+use cql_rewrite::same_unplaced;
+use cql_syntax::{Filter, Filters};
+use std::alloc::Global;
+
+/// How many places a table has, a prime, so that every bit of a key counts.
+const PLACES: u64 = 1021;
+
+/// Members, and the numbers of those at each place by their keys. That they stand there saves time, and nothing is told by it.
+#[derive(Drop)]
+pub(crate) struct Members {
+    pub(crate) filters: Filters,
+    places: Vec<Place>,
+}
+
+/// The numbers of the members of one place.
+#[derive(Drop)]
+struct Place {
+    numbers: Vec<usize>,
+}
+
+/// No members.
+pub(crate) fn no_members(alloc: Global) -> Result<Members, NoMemory>
+    ensures { IfOk result (λ m. filters_tree m.filters ≡ no_filters) }
+{
+    let mut places = Vec::new(alloc);
+    for _place in 0..PLACES {
+        places.push(Place {
+            numbers: Vec::new(alloc),
+        })?;
+    }
+    Ok(Members {
+        filters: Filters::new(alloc),
+        places,
+    })
+}
+
+/// Adds a member, where none is there that is the same but for its places.
+pub(crate) fn add(to: &mut Members, member: Filter) -> Result<(), NoMemory>
+    ensures { OnOk result ((kind : Kind) →
+        Gathers kind (filters_tree to.old.filters) (filters_tree to.new.filters) (alone (filter_tree member))) }
+{
+    let at = (key_of(&member) % PLACES) as usize;
+    if is_known(to, at, &member) {
+        drop(member);
+        return Ok(());
+    }
+    let number = to.filters.len();
+    to.filters.push(member)?;
+    note(&mut to.places, at, number)?;
+    Ok(())
+}
+
+// Whether a member is known that is the same but for its places. Those of its place alone are looked at.
+fn is_known(members: &Members, at: usize, member: &Filter) -> bool
+    ensures { result ≡ true → spec.has_like (filters_tree members.now.filters) (filter_tree member.now) ≡ true }
+{
+    if at >= members.places.len() {
+        return false;
+    }
+    for number in members.places[at].numbers.as_slice() {
+        if is_like(&members.filters, *number, member) {
+            return true;
+        }
+    }
+    false
+}
+
+/// Whether a filter is there that is the same but for its places.
+pub(crate) fn has_like(filters: &Filters, member: &Filter) -> bool
+    ensures { result ≡ true → spec.has_like (filters_tree filters.now) (filter_tree member.now) ≡ true }
+{
+    for number in 0..filters.len() {
+        if is_like(filters, number, member) {
+            return true;
+        }
+    }
+    false
+}
+
+fn is_like(filters: &Filters, number: usize, member: &Filter) -> bool
+    ensures { result ≡ true → spec.has_like (filters_tree filters.now) (filter_tree member.now) ≡ true }
+{
+    let filters = filters.as_slice();
+    if number >= filters.len() {
+        return false;
+    }
+    same_unplaced(&filters[number], member)
+}
+
+// Adds the number of a member at its place.
+fn note(places: &mut Vec<Place>, at: usize, number: usize) -> Result<(), NoMemory> {
+    if at >= places.len() {
+        return Ok(());
+    }
+    let place = &mut places[at];
+    place.numbers.push(number)?;
+    Ok(())
+}

@@ -1,0 +1,133 @@
+//! Whether a game has what a query needs.
+ghost use Rattle.std.specs.Prelude.{◌≡◌, ◌<◌, ◌&&◌, length};
+ghost use Rattle.cq_position.specs.Games as games;
+ghost use Rattle.cq_position.specs.Games.{node_at};
+ghost use Rattle.cq_position.specs.Men.{man_number};
+ghost use Rattle.cq_position.specs.Search.{has_man as stands_in, has_man_in};
+ghost use Rattle.cq_symmetry.specs.Images.{is_in};
+ghost use Rattle.cql_syntax.specs.TreeOf.{filter_tree, filters_tree};
+ghost use Rattle.cql_values.specs.Trees.{searched_tree};
+ghost use Rattle.cql_plan.specs.Needs as spec;
+
+use cq_position::{Man, Position};
+use cql_syntax::{Chain, Designator, Filter, Filters, Form, Kind};
+use cql_values::headers::{has_text, is_result};
+use cql_values::walks::is_searched;
+use cql_values::words::has_man;
+use pgn_tree::Game;
+
+/// Whether a game has what each of the items of a query needs. Its positions are looked at only where men are needed, up to the first in
+/// which one of them stands, and no memory is taken.
+pub(crate) fn all_needed(items: &Filters, variations: bool, game: &Game) -> bool
+    ensures { result ≡ spec.all_pass (searched_tree game.now variations) (filters_tree items.now) }
+{
+    let look = Look { game, variations };
+    all_pass(items, &look)
+}
+
+// A look at a game: its tags and result, and its searched positions.
+#[derive(Drop)]
+struct Look<'a> {
+    game: &'a Game,
+    variations: bool,
+}
+
+#[cycle(needs)]
+#[tactic(auto, unfolding(crate::specs::Needs::passes))]
+fn passes(f: &Filter, look: &Look) -> bool
+    ensures { result ≡ spec.passes (searched_tree look.now.game.now look.now.variations) (filter_tree f.now) }
+{
+    match &f.form {
+        Form::Outcome(outcome) => is_result(*outcome, look.game.result()),
+        Form::Tagged(field, text) => has_text(look.game, *field, text.as_slice()),
+        Form::Squares(designator) => one_stands(designator, look),
+        Form::Chain(Chain::And | Chain::All | Chain::Intersect, parts) => all_pass(parts, look),
+        Form::Chain(Chain::Or | Chain::Union, parts)
+        | Form::Any(Kind::Position | Kind::Set, parts) => some_passes(parts, look),
+        _ => true,
+    }
+}
+
+#[cycle(needs)]
+#[tactic(auto, unfolding(crate::specs::Needs::passes))]
+fn all_pass(filters: &Filters, look: &Look) -> bool
+    ensures { result ≡ spec.all_pass (searched_tree look.now.game.now look.now.variations) (filters_tree filters.now) }
+{
+    for filter in filters.as_slice() {
+        if !passes(filter, look) {
+            return false;
+        }
+    }
+    true
+}
+
+#[cycle(needs)]
+#[tactic(auto, unfolding(crate::specs::Needs::passes))]
+fn some_passes(filters: &Filters, look: &Look) -> bool
+    ensures { result ≡ spec.some_passes (searched_tree look.now.game.now look.now.variations) (filters_tree filters.now) }
+{
+    for filter in filters.as_slice() {
+        if passes(filter, look) {
+            return true;
+        }
+    }
+    false
+}
+
+// Whether one of a designator's men stands somewhere, or the empty square is among them.
+fn one_stands(designator: &Designator, look: &Look) -> bool
+    ensures { result ≡ spec.designator_passes (searched_tree look.now.game.now look.now.variations) designator.now.men }
+{
+    if has_man(designator.men, Man::Empty) {
+        return true;
+    }
+    some_stands(designator.men, look)
+}
+
+// How many men there are: the empty square is the last of the list.
+const TWELVE: usize = 12;
+
+// Whether one of some men stands in a searched position.
+fn some_stands(men: u16, look: &Look) -> bool
+    ensures { result ≡ spec.one_stands (searched_tree look.now.game.now look.now.variations) men }
+{
+    for man in &Man::ALL[..TWELVE] {
+        if needed_stands(men, *man, look) {
+            return true;
+        }
+    }
+    false
+}
+
+fn needed_stands(men: u16, man: Man, look: &Look) -> bool
+    ensures { result ≡ (is_in men (man_number man)
+        && has_man_in (searched_tree look.now.game.now look.now.variations) (man_number man)) }
+{
+    has_man(men, man) && stands(man, look)
+}
+
+// Whether a man stands in a searched position. Those after the first in which it does are not looked at.
+fn stands(man: Man, look: &Look) -> bool
+    ensures { result ≡ has_man_in (searched_tree look.now.game.now look.now.variations) (man_number man) }
+{
+    for k in 0..look.game.len() {
+        if stands_at(man, look, k) {
+            return true;
+        }
+    }
+    false
+}
+
+fn stands_at(man: Man, look: &Look, k: u32) -> bool
+    requires { k < length look.now.game.now.nodes }
+    ensures { result ≡ (games.is_searched look.now.variations look.now.game.now.nodes k
+        && stands_in (node_at look.now.game.now.nodes k).position (man_number man)) }
+{
+    is_searched(look.game, look.variations, k) && stands_on(look.game.position(k), man)
+}
+
+fn stands_on(position: &Position, man: Man) -> bool
+    ensures { result ≡ stands_in position.now (man_number man) }
+{
+    position.men().squares_of(man) != 0
+}

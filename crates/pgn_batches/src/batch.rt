@@ -1,0 +1,17 @@
+//! A batch of games.
+ghost use Rattle.std.specs.Prelude.{◌+◌, ◌<◌, ◌^◌, length, All};
+
+use cq_common::Shared;
+use crate::kept::KeptGame;
+
+/// Games that follow one another in an archive, and the number of the first of them there, from 0.
+#[derive(Drop)]
+pub struct Batch {
+    pub(crate) games: Vec<KeptGame>,
+    pub(crate) index: u64,
+    ghost few: { length games.items < 2 ^ 32 },
+    ghost numbers: { index + length games.items < 2 ^ 62 },
+    ghost starts: { All (λ g. g.start < 2 ^ 62) games.items },
+}
+
+impl Shared for Batch {}

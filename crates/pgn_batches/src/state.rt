@@ -1,0 +1,54 @@
+//! What is kept of an archive while its batches are given.
+ghost use Rattle.std.specs.Prelude.{◌+◌, ◌<◌, ◌≤◌, ◌^◌, length, All};
+
+use cq_common::Shared;
+use crate::batch::Batch;
+use crate::kept::KeptGame;
+use pgn_cut::Cutter;
+use std::alloc::Global;
+use std::collections::VecDeque;
+
+/// The first bytes of the open game, at most as many as are kept of a game, and the place of the first.
+#[derive(Drop)]
+pub(crate) struct Window {
+    pub(crate) bytes: Vec<u8>,
+    pub(crate) from: u64,
+    ghost few: { length bytes.items ≤ 2 ^ 24 + 1 },
+}
+
+/// The full batches that wait, the games after them, how many bytes of these are kept, and the number of the first of them.
+#[derive(Drop)]
+pub(crate) struct Queue {
+    pub(crate) full: VecDeque<Batch>,
+    pub(crate) open: Vec<KeptGame>,
+    pub(crate) size: u64,
+    pub(crate) index: u64,
+    ghost starts: { All (λ g. g.start < 2 ^ 62) open.items },
+    ghost few: { length open.items < 1024 },
+    ghost numbers: { index + length open.items < 2 ^ 62 },
+}
+
+/// Why no batch was given.
+#[derive(Clone, Copy, Debug)]
+pub enum BatchFault {
+    /// A read failed.
+    ReadFault,
+    /// More bytes than the limit were read, and no full batch is left.
+    ArchiveTooLong,
+}
+
+/// The games of a source that is read piece by piece. The bytes of games that are closed are kept in batches alone, and of the open
+/// game no more than are kept of any game.
+#[derive(Drop)]
+pub struct Batches {
+    pub(crate) alloc: Global,
+    pub(crate) cutter: Cutter,
+    pub(crate) window: Window,
+    pub(crate) queue: Queue,
+    pub(crate) taken: u64,
+    pub(crate) limit: u64,
+    pub(crate) ended: bool,
+    ghost limits: { (1 ≤ limit) × (limit ≤ 2 ^ 40) },
+}
+
+impl Shared for Batches {}

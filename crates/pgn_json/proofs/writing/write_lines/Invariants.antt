@@ -1,0 +1,10 @@
+use Rattle.std.proofs.Common.{take}
+use Rattle.pgn_json.specs.Pages.{WaitsOf}
+use Rattle.pgn_json.specs.Texts.{all_lines}
+use Rattle.pgn_json.specs.Writing.{view_of}
+use Rattle.pgn_json.proofs.writing.write_lines.Given as goal
+
+abbrev pub invariant-loop-i : goal.invariant-loop-i
+invariant-loop-i g l =
+    let view = view_of g.O.Sink.taken g.O.Sink.faults in
+    WaitsOf (all_lines (take l.i l.texts)) (view l.fn.out) (view l.out) l.page.items

@@ -1,0 +1,110 @@
+-- What `pgnjson` promises.
+use Rattle.std.specs.Prelude.{◌≡◌, ℕ, List, [], ◌∷◌, ◌++◌, take, Option, None, Some, codes}
+use Rattle.std.specs.List.{join_with_byte}
+use Rattle.std.specs.Option.{option_map}
+use Rattle.cq_outside.specs.Faults.{Rose}
+use Rattle.cq_outside.specs.Flow.{Grew}
+use Rattle.cq_outside.specs.Told.{Told, bytes_of}
+use Rattle.cq_position.specs.Comments.{words}
+use Rattle.pgn_tree.specs.Words.{space, without_braces}
+use Rattle.pgn_json.specs.Jobs.{asked}
+use Rattle.pgn_json.specs.Status.{exit_code}
+use Rattle.pgn_json.specs.Writing.{Pipe, Says, SinkView}
+use Rattle.pgn_json.specs.declared.job.Job.{Job}
+use Rattle.pgn_json.specs.declared.status.Status.{Status}
+use Rattle.pgn_json.specs.declared.status.Status.TheVariants.{WordsRefused, OpenFault, WriteFault, NoMemory}
+
+-- What the program is lent, at one moment: what the desk tells of its files, how many could not be opened, its open file, and the sinks
+-- for the lines and for the report.
+pub record Lent : Type 0 where
+  pub told : Option Told
+  pub open_faults : ℕ
+  pub pipe_ : Pipe
+
+abbrev pub lent : {D : Type 0} → (D → Option Told) → (D → ℕ) → Pipe → D → Lent
+lent told open_faults pipe_ desk = record { told = told desk; open_faults = open_faults desk; pipe_ = pipe_ }
+
+-- a desk on which one more name was opened
+abbrev pub with_open : List ℕ → Told → Told
+with_open name told = record { files = told.files; opened = told.opened ++ name ∷ [] }
+
+-- As far as the desk tells, this name was opened, once, and no other was. The pipe before the file was read.
+pub record Opened (name : List ℕ) (was now : Lent) (file : Pipe) : Type 0 where
+  pub told : now.told ≡ option_map (with_open name) was.told
+  pub bytes : (told : Told) → was.told ≡ Some told → file.left ≡ Some (bytes_of told.files name)
+  pub opens : now.open_faults ≡ was.open_faults
+  pub reads : file.read_faults ≡ was.pipe_.read_faults
+  pub sinks : file.sinks ≡ was.pipe_.sinks
+
+-- the archive could not be opened: the count of failed opens rose, and nothing else changed
+pub record FailsToOpen (was now : Lent) : Type 0 where
+  pub rose : Rose was.open_faults now.open_faults
+  pub told : now.told ≡ was.told
+  pub pipe_ : now.pipe_ ≡ was.pipe_
+
+-- the line that answers words that are refused
+abbrev pub usage_line : List ℕ
+usage_line = codes "usage: pgnjson [--mark TEXT] [--workers N] [--limit B] [ARCHIVE]\n"
+
+-- a front of the usage line was written to the sink for the report, and nothing else changed
+pub record WritesUsage (was now : Lent) (text : List ℕ) : Type 0 where
+  pub writes : Grew was.pipe_.sinks.err.taken now.pipe_.sinks.err.taken text
+  pub out : now.pipe_.sinks.out ≡ was.pipe_.sinks.out
+  pub told : now.told ≡ was.told
+  pub opens : now.open_faults ≡ was.open_faults
+  pub left : now.pipe_.left ≡ was.pipe_.left
+  pub reads : now.pipe_.read_faults ≡ was.pipe_.read_faults
+
+-- words that are refused: the usage line is written
+abbrev pub RefusesWords : Status → Lent → Lent → Type 0
+RefusesWords WordsRefused was now = WritesUsage was now usage_line × (now.pipe_.sinks.err.faults ≡ was.pipe_.sinks.err.faults)
+RefusesWords WriteFault was now =
+    ((k : ℕ) × WritesUsage was now (take k usage_line)) × Rose was.pipe_.sinks.err.faults now.pipe_.sinks.err.faults
+RefusesWords _ was now = ⊥
+
+-- a pipe at a moment at which its sink for the report is this one, and what else the program is lent
+abbrev pub lent_with : Option Told → ℕ → Option (List ℕ) → ℕ → SinkView → SinkView → Lent
+lent_with told open_faults left read_faults out err = record {
+  told = told;
+  open_faults = open_faults;
+  pipe_ = record {
+    left = left;
+    read_faults = read_faults;
+    sinks = record { out = out; err = err };
+  };
+}
+
+-- words are refused, whatever else the program is lent
+abbrev pub RefusesAnyWords : Status → SinkView → SinkView → Type 0
+RefusesAnyWords status was now = (told : Option Told) (open_faults : ℕ) (left : Option (List ℕ)) (read_faults : ℕ) (out : SinkView)
+    → RefusesWords status (lent_with told open_faults left read_faults out was) (lent_with told open_faults left read_faults out now)
+
+-- the comment that a node keeps of a text: its words with single spaces between them, in which a closing brace is a closing parenthesis
+abbrev pub comment_of : List ℕ → List ℕ
+comment_of text = join_with_byte space (words (without_braces text))
+
+-- What `run` promises of its status: the words ask for the games of an archive, which is opened and read, or can't be opened; or they are
+-- refused; or no memory was found, and nothing changed.
+pub data Promise (given : List (List ℕ)) (status : Status) (was now : Lent) : Type 0 where
+  games_written : (job : Job) → asked given ≡ Some job → (file : Pipe) → Opened job.archive was now file
+      → Says status job.limit (comment_of job.mark) file now.pipe_ → Promise given status was now
+  archive_unopened : (job : Job) → asked given ≡ Some job → status ≡ OpenFault → FailsToOpen was now → Promise given status was now
+  words_refused : asked given ≡ None → RefusesWords status was now → Promise given status was now
+  out_of_memory : status ≡ NoMemory → now ≡ was → Promise given status was now
+
+-- the exit status is that of the status by which these words were answered
+pub record EndsWords (given : List (List ℕ)) (code : ℕ) (was now : Lent) : Type 0 where
+  pub status : Status
+  pub code_is : code ≡ exit_code status
+  pub promise : Promise given status was now
+
+-- there was no memory for the words: nothing was opened, read or written
+pub record EndsWithoutWords (code : ℕ) (was now : Lent) : Type 0 where
+  pub code_is : code ≡ exit_code NoMemory
+  pub unmoved : now ≡ was
+
+-- the exit status is that of a status by which words are refused
+pub record EndsRefused (code : ℕ) (was now : SinkView) : Type 0 where
+  pub status : Status
+  pub code_is : code ≡ exit_code status
+  pub refused : RefusesAnyWords status was now

@@ -1,0 +1,42 @@
+//! How a call of the program ends.
+ghost use Rattle.std.specs.Prelude.{◌≡◌};
+ghost use Rattle.pgn_json.specs.Status.{exit_code};
+
+/// How a call ended.
+#[derive(Clone, Copy, Debug, PartialEq, Eq)]
+pub enum Status {
+    /// All games are read and written.
+    Done,
+    /// All games that are read are written, and some are faulty.
+    DoneWithRefusals,
+    /// The words are not those of a command.
+    WordsRefused,
+    /// The archive could not be opened.
+    OpenFault,
+    /// A read failed.
+    ReadFault,
+    /// A write failed.
+    WriteFault,
+    /// No memory was found.
+    NoMemory,
+    /// The archive has more bytes than the limit.
+    ArchiveTooLong,
+}
+
+impl Status {
+    /// The program's exit status, by the numbers that `cqlpgn` has.
+    pub fn exit_code(self) -> u8
+        ensures { result ≡ exit_code self }
+    {
+        match self {
+            Status::Done => 0,
+            Status::DoneWithRefusals => 1,
+            Status::WordsRefused => 3,
+            Status::OpenFault => 4,
+            Status::ReadFault => 5,
+            Status::WriteFault => 6,
+            Status::NoMemory => 7,
+            Status::ArchiveTooLong => 8,
+        }
+    }
+}

@@ -1,9 +1,0 @@
-pub mod Entries
-pub mod Grown
-pub mod Numbers
-pub mod Opening
-pub mod Pages
-pub mod Parts
-pub mod Placing
-pub mod Refusals
-pub mod Writings

@@ -1,0 +1,39 @@
+//! How a call of the program ends.
+ghost use Rattle.std.specs.Prelude.{◌≡◌};
+ghost use Rattle.pgn_pieces.specs.Status.{exit_code};
+
+/// How a call ended.
+#[derive(Clone, Copy, Debug, PartialEq, Eq)]
+pub enum Status {
+    /// The whole table is written.
+    Done,
+    /// The words are not those of a command.
+    WordsRefused,
+    /// The archive could not be opened.
+    OpenFault,
+    /// A read failed.
+    ReadFault,
+    /// A write failed.
+    WriteFault,
+    /// No memory was found.
+    NoMemory,
+    /// The archive has more than 2^40 bytes.
+    ArchiveTooLong,
+}
+
+impl Status {
+    /// The program's exit status, by the numbers that `cqlpgn` has.
+    pub fn exit_code(self) -> u8
+        ensures { result ≡ exit_code self }
+    {
+        match self {
+            Status::Done => 0,
+            Status::WordsRefused => 3,
+            Status::OpenFault => 4,
+            Status::ReadFault => 5,
+            Status::WriteFault => 6,
+            Status::NoMemory => 7,
+            Status::ArchiveTooLong => 8,
+        }
+    }
+}

@@ -1,0 +1,75 @@
+//! From the words to a job.
+ghost use Rattle.std.specs.Prelude.{◌≡◌, ◌≤◌, ◌↔◌, IfOk, IfSome, MatchResult, map, option_map};
+ghost use Rattle.std.specs.String.{string_bytes};
+ghost use Rattle.clap.specs.Words.{first_of, found_of, kind_of, rows_of};
+ghost use Rattle.pgn_pieces.specs.Jobs.{Answers, HasMatches, IsRefused, asked, job_in, number_of};
+
+use crate::job::{BYTES_LIMIT, Job, WordsRefused};
+use crate::line::line;
+use clap::ArgMatches;
+use clap::error::{Error, ErrorKind};
+use cq_common::{Bytes, Refusal};
+use std::alloc::Global;
+
+// The text of an argument, where it is given.
+fn text_of<'a>(matches: &ArgMatches<'a>, id: &str) -> Option<&'a str>
+    ensures { option_map (λ text. text.now) result ≡ first_of id.now (rows_of (found_of matches.now)) }
+{
+    matches.get_str(id)
+}
+
+// The number that a text writes; none where it writes no number from 1 to 2^40.
+fn number_of(text: &str) -> Option<u64>
+    ensures value { result ≡ number_of text.now }
+    ensures bounds { IfSome result (λ number. (1 ≤ number) × (number ≤ 1099511627776)) }
+{
+    match text.parse::<u64>() {
+        Ok(number) if 1 <= number && number <= BYTES_LIMIT => Some(number),
+        _ => None,
+    }
+}
+
+// Why there are no matches: the words, unless memory was lacking.
+fn refusal_of(error: &Error) -> Refusal<WordsRefused>
+    ensures { (result ≡ Refusal.NoMemory) ↔ (kind_of error.now ≡ ErrorKind.OutOfMemory) }
+{
+    match error.kind() {
+        ErrorKind::OutOfMemory => Refusal::NoMemory,
+        _ => Refusal::Fault(WordsRefused),
+    }
+}
+
+// The matches that `clap` gives of the words.
+fn matched<'a>(alloc: Global, words: &'a [String]) -> Result<ArgMatches<'a>, Refusal<WordsRefused>>
+    ensures { MatchResult result (HasMatches (map string_bytes words.now)) (IsRefused (map string_bytes words.now)) }
+{
+    match line(alloc)?.try_get_matches_from(words) {
+        Ok(matches) => Ok(matches),
+        Err(error) => Err(refusal_of(&error)),
+    }
+}
+
+// The job of matches.
+fn job_in(alloc: Global, matches: &ArgMatches<'_>) -> Result<Job, Refusal<WordsRefused>>
+    ensures value { Answers (job_in (rows_of (found_of matches.now))) result }
+    ensures range { IfOk result (λ job. (1 ≤ job.least) × (job.least ≤ 1099511627776)) }
+{
+    let (Some(archive), Some(bytes)) = (text_of(matches, "archive"), text_of(matches, "bytes"))
+    else {
+        return Err(Refusal::Fault(WordsRefused));
+    };
+    let Some(least) = number_of(bytes) else {
+        return Err(Refusal::Fault(WordsRefused));
+    };
+    let archive = Bytes::from_slice(alloc, archive.as_bytes())?;
+    Ok(Job { archive, least })
+}
+
+/// What the words after the program's name ask. They are refused exactly where `clap` refuses them for another cause than memory.
+pub fn read_words(alloc: Global, words: &[String]) -> Result<Job, Refusal<WordsRefused>>
+    ensures value { Answers (asked (map string_bytes words.now)) result }
+    ensures range { IfOk result (λ job. (1 ≤ job.least) × (job.least ≤ 1099511627776)) }
+{
+    let matches = matched(alloc, words)?;
+    job_in(alloc, &matches)
+}

@@ -1,5 +1,0 @@
-pub mod Cutting
-pub mod Jobs
-pub mod Line
-pub mod Promise
-pub mod Status
