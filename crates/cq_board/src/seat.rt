@@ -3,9 +3,9 @@ ghost use Rattle.std.specs.Prelude.{◌≡◌, ◌^◌, ◌<◌, ◌≤◌, []};
 ghost use Rattle.std.specs.List.Sorted.{IsStrictlyIncreasing};
 ghost use Rattle.cq_board.specs.Views.{share};
 
-use cq_common::{Shared};
 use crate::view::{DrawnOnce, Terms, View};
 use atomic_table::{Seat, Table};
+use cq_common::Shared;
 use std::alloc::Global;
 
 /// The numbers below `n`, which workers draw one by one. Its one word is the number that is drawn next.

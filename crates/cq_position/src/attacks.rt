@@ -10,7 +10,9 @@ pub use crate::outward::{is_attacked, slanted_men, straight_men};
 use crate::planes::Men;
 use crate::position::{Position, stands};
 use cq_geometry::{Square, between, files_apart, rank};
-use cq_square_sets::{king_steps, knight_steps, slanted_squares, steps_down, steps_up, straight_squares};
+use cq_square_sets::{
+    king_steps, knight_steps, slanted_squares, steps_down, steps_up, straight_squares,
+};
 
 /// The squares that the man on a square attacks, whatever stands there (FIDE Laws of Chess, articles 3.2 to 3.8): bit k of the
 /// answer is square k. An empty square attacks none.

@@ -3,10 +3,10 @@ ghost use Rattle.std.specs.Prelude.{◌≤◌};
 ghost use Rattle.cq_queries.specs.Views.{DeskView, sink_view, sinks_of};
 ghost use Rattle.cq_run.specs.Run.{OverText, RunsMade, call_of};
 
-use cq_search::{Crew, MADE_LIMIT, answer_made};
 use cq_common::Refusal;
 use cq_outside::{Gate, Sink};
 use cq_queries::{Status, drop_query, read_query, refuse_query};
+use cq_search::{Crew, MADE_LIMIT, answer_made};
 use cq_words::{SelfRunSettings, Settings};
 use std::alloc::Global;
 use std::thread::Threads;

@@ -12,7 +12,6 @@ ghost use Rattle.cq_queries.specs.Views.{SinkView, desk_view, sink_view, sinks_o
 ghost use Rattle.cq_queries.specs.Files.{a_query};
 
 use crate::selfrun::answer_text_over_made;
-use cq_search::{Crew, answer_many_with, answer_with};
 use cq_common::{OpenFault, Refusal};
 use cq_outside::{Desk, Gate, Sink, write_all_of};
 use cq_queries::laws::{
@@ -23,6 +22,7 @@ use cq_queries::{
     Status, accept_query, drop_queries, drop_query, explain, queries_in_file, query_in_file,
     read_query, refuse_query, report_queries_refusal, report_refusal,
 };
+use cq_search::{Crew, answer_many_with, answer_with};
 use cq_words::{Job, read_words};
 use cql_syntax::TypedQuery;
 use std::alloc::Global;

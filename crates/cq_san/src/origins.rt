@@ -17,8 +17,7 @@ use crate::parts::PieceMove;
 use arrayvec::ArrayVec;
 use cq_geometry::Square;
 use cq_moves::{is_castling, is_legal_seen, origins_to};
-use cq_position::home::castling_goal;
-use cq_position::home::king_home;
+use cq_position::home::{castling_goal, king_home};
 use cq_position::{Move, Position, Promotion, Side, man_of};
 use cq_square_sets::lowest_square;
 

@@ -16,13 +16,13 @@ use crate::laws::archives_come_in_batches;
 use crate::output::{has_sort_item, write_answers, write_rest};
 use crate::refused::status_of;
 use crate::tally::Tally;
-use pgn_batches::{Batch, Ended, Taker, take_batches};
 use cq_common::{NoMemory, Refusal};
 use cq_outside::{Gate, Sink, Source};
 use cq_queries::Status;
 use cq_shards::laws::ordered_answers_stand_beside_their_games;
 use cq_shards::{GameAnswer, in_order, run_batch};
 use cql_plan::Plan;
+use pgn_batches::{Batch, Ended, Taker, take_batches};
 use std::alloc::Global;
 use std::thread::Threads;
 

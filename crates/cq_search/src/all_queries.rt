@@ -18,7 +18,6 @@ use crate::laws::archives_come_in_batches;
 use crate::outputs::write_outputs;
 use crate::refused::status_of;
 use crate::tally::Tally;
-use pgn_batches::{Batch, Ended, Taker, take_batches};
 use cq_common::{NoMemory, Refusal};
 use cq_outside::{Gate, Sink, Source};
 use cq_queries::Status;
@@ -27,6 +26,7 @@ use cq_shards::{GameAnswer, ManyAnswers, run_many};
 use cq_shared::SharedPlan;
 use cq_words::Settings;
 use cql_syntax::TypedQuery;
+use pgn_batches::{Batch, Ended, Taker, take_batches};
 use std::alloc::Global;
 use std::thread::Threads;
 

@@ -16,12 +16,12 @@ use crate::laws::archives_come_in_batches;
 use crate::output::{write_answers, write_summary};
 use crate::refused::status_of;
 use crate::tally::Tally;
-use pgn_batches::{Batch, Ended, Taker, take_batches};
 use cq_common::{NoMemory, Refusal};
 use cq_outside::{Gate, Sink, Source};
 use cq_queries::Status;
 use cq_shards::{GameAnswer, run_first};
 use cql_plan::Plan;
+use pgn_batches::{Batch, Ended, Taker, take_batches};
 use std::alloc::Global;
 use std::thread::Threads;
 

@@ -2,9 +2,9 @@
 ghost use Rattle.std.specs.Prelude.{◌≡◌};
 ghost use Rattle.cq_search.specs.Refused.{status_after};
 
-use pgn_batches::BatchFault;
 use cq_common::Refusal;
 use cq_queries::Status;
+use pgn_batches::BatchFault;
 
 /// The status of a call that was refused the next batch.
 pub fn status_of(refusal: Refusal<BatchFault>) -> Status

@@ -19,7 +19,6 @@ use crate::crew::Crew;
 use crate::laws::archives_come_in_batches;
 use crate::tally::Tally;
 use crate::totals::Totals;
-use pgn_batches::{Batch, Ended, Taker, take_batches};
 use cq_common::{Bytes, NoMemory, Refusal};
 use cq_maker::laws::archives_are_short;
 use cq_maker::make_archive;
@@ -29,6 +28,7 @@ use cq_report::made_line;
 use cq_shards::{Answer, GameAnswer};
 use cql_plan::Plan;
 use cql_syntax::TypedQuery;
+use pgn_batches::{Batch, Ended, Taker, take_batches};
 use std::alloc::Global;
 use std::thread::Threads;
 

@@ -9,11 +9,11 @@ use crate::answers::GameAnswer;
 use crate::asked::Asked;
 use crate::laws::ordered_answers_are_cut_off_behind_the_first_match;
 use crate::order::{in_order, is_match};
-use pgn_batches::Batch;
 use cq_common::NoMemory;
-use cq_workers::{Maker, run_crew};
 use cq_first::{FirstBoard, FirstSeat};
 use cq_outside::Gate;
+use cq_workers::{Maker, run_crew};
+use pgn_batches::Batch;
 use std::alloc::Global;
 use std::thread::Threads;
 

@@ -10,11 +10,11 @@ ghost use Rattle.cq_shards.specs.PlanQuery.{query_in};
 use crate::asking::AskedPlan;
 use crate::asking_all::AskedPlans;
 use crate::{GameAnswer, ManyAnswers, ask_batch, ask_first, ask_many};
-use pgn_batches::Batch;
 use cq_common::NoMemory;
 use cq_outside::Gate;
 use cq_shared::SharedPlan;
 use cql_plan::Plan;
+use pgn_batches::Batch;
 use std::alloc::Global;
 use std::thread::Threads;
 

@@ -7,10 +7,10 @@ ghost use Rattle.cq_shards.specs.Work.{HasAnswered};
 use crate::answering::answer_at;
 use crate::answers::GameAnswer;
 use crate::asked::Asked;
-use pgn_batches::Batch;
 use cq_common::NoMemory;
-use cq_workers::{Maker, nothing_kept, run_crew};
 use cq_outside::Gate;
+use cq_workers::{Maker, nothing_kept, run_crew};
+use pgn_batches::Batch;
 use std::alloc::Global;
 use std::thread::Threads;
 

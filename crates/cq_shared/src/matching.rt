@@ -5,8 +5,8 @@ ghost use Rattle.cq_shared.specs.Matching.{IsNarrowedBy, IsNarrowedIf, HasRow, H
 ghost use Rattle.cq_shared.specs.Wanted.{TakesAtMost, TakeAtMost};
 
 use crate::asking::asked_at;
-use cq_common::{NoMemory, Steps};
 use crate::{Narrowed, Nodes, Part, Row, Sorted, narrowed, wanted_nodes};
+use cq_common::{NoMemory, Steps};
 use cql_pruning::order::SORTS;
 use pgn_tree::Game;
 use std::alloc::Global;

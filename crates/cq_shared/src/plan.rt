@@ -6,8 +6,8 @@ ghost use Rattle.cq_shared.specs.Parts.{parts_in_all, different, equal_parts};
 
 pub mod making;
 
-use cq_common::Shared;
 use crate::part::{Asker, Part};
+use cq_common::Shared;
 
 /// The queries of a plan and their different parts, each once.
 #[derive(Drop)]

@@ -8,8 +8,8 @@ ghost use Rattle.cq_shared.specs.Wanted.{asked_parts};
 ghost use Rattle.cq_shared.specs.Verdicts.{nodes_of, keys_of, HaveKeys};
 
 use crate::matching::{left_by, sorted_by};
-use cq_common::{NoMemory, Steps};
 use crate::{SharedPlan, Verdicts, began, found_all};
+use cq_common::{NoMemory, Steps};
 use pgn_tree::Game;
 use std::alloc::Global;
 use std::sync::ledger::Ledger;

@@ -7,9 +7,9 @@ ghost use Rattle.cql_values.specs.Trees.{searched_tree};
 ghost use Rattle.cql_plan.specs.Items.{item_holds};
 ghost use Rattle.cql_plan.specs.Rows.{AreRowsFrom};
 
+use crate::key_over;
 use cq_common::NoMemory;
 use cql_eval::Column;
-use crate::key_over;
 use cql_syntax::{Filter, FlatQuery, Form};
 use cql_values::walks::push_if;
 use pgn_tree::Game;

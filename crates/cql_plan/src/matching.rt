@@ -11,8 +11,8 @@ ghost use Rattle.cql_syntax.specs.TreeOf.{query_tree};
 ghost use Rattle.cql_values.specs.Trees.{searched_tree};
 
 use crate::verdict::{Verdict, find};
-use cq_common::{NoMemory, Steps};
 use crate::{Plan, may_hold};
+use cq_common::{NoMemory, Steps};
 use pgn_tree::Game;
 use std::alloc::Global;
 use std::sync::ledger::Ledger;

@@ -7,6 +7,7 @@ ghost use Rattle.cql_syntax.specs.TreeOf.{filter_tree, form_tree, filters_tree, 
 ghost use Rattle.cql_rewrite.specs.Meant.{MeansTheSame};
 ghost use Rattle.cql_rewrite.specs.Kept.{with_new, some_same, flat_if_fits};
 
+use crate::same_filter;
 use cq_common::{Bytes, NoMemory};
 use cq_symmetry::{Family, Mapping, SquarePart, member, size};
 use cql_contexts::contexts::{
@@ -14,7 +15,6 @@ use cql_contexts::contexts::{
     word_image,
 };
 use cql_contexts::fits::fits;
-use crate::same_filter;
 use cql_syntax::{
     Body, Constituent, Constituents, Designator, Filter, Filters, FlatQuery, Form, Line, Played,
     Term, Terms, TypedQuery, kind_of,

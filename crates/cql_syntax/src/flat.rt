@@ -3,8 +3,8 @@ ghost use Rattle.std.specs.Prelude.{◌≡◌, true, false};
 ghost use Rattle.cql_syntax.specs.FlatItems.{has_family, kinds_agree, break_no_rule};
 ghost use Rattle.cql_syntax.specs.TreeOf.{filters_tree};
 
-use cq_common::Shared;
 use crate::tree::Filters;
+use cq_common::Shared;
 
 /// A query whose families are written out: there are none in its items, the parts of each `Any` are of the kind that it names, and no
 /// filter breaks a rule of queries but for their weight.

@@ -3,8 +3,8 @@ ghost use Rattle.std.specs.Prelude.{◌≡◌, None, false};
 ghost use Rattle.cql_syntax.specs.TreeFaults.{tree_fault, has_any};
 ghost use Rattle.cql_syntax.specs.TreeOf.{query_tree};
 
-use cq_common::Shared;
 use crate::tree::Query;
+use cq_common::Shared;
 
 /// A query whose tree has no fault, and no `Any`, which no query text gives.
 #[derive(Drop)]

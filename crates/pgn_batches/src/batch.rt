@@ -1,8 +1,8 @@
 //! A batch of games.
 ghost use Rattle.std.specs.Prelude.{◌+◌, ◌<◌, ◌^◌, length, All};
 
-use cq_common::Shared;
 use crate::kept::KeptGame;
+use cq_common::Shared;
 
 /// Games that follow one another in an archive, and the number of the first of them there, from 0.
 #[derive(Drop)]

@@ -1,9 +1,9 @@
 //! What is kept of an archive while its batches are given.
 ghost use Rattle.std.specs.Prelude.{◌+◌, ◌<◌, ◌≤◌, ◌^◌, length, All};
 
-use cq_common::Shared;
 use crate::batch::Batch;
 use crate::kept::KeptGame;
+use cq_common::Shared;
 use pgn_cut::Cutter;
 use std::alloc::Global;
 use std::collections::VecDeque;

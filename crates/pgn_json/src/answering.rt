@@ -5,11 +5,11 @@ ghost use Rattle.pgn_json.specs.Writing.{Says, pipe_of, view_of};
 
 use crate::status::Status;
 use crate::taking::GameWriter;
-use pgn_batches::laws::archives_come_in_batches;
-use pgn_batches::{BatchFault, Ended, take_batches};
 use cq_common::Refusal;
 use cq_outside::{Sink, Source, write_all_of};
 use cq_report::summary_line;
+use pgn_batches::laws::archives_come_in_batches;
+use pgn_batches::{BatchFault, Ended, take_batches};
 use pgn_reader::first_bytes_decide;
 use std::alloc::Global;
 use std::thread::Threads;

@@ -4,9 +4,9 @@ ghost use Rattle.pgn_json.specs.Making.{AreGameTexts, ArePlaced, HasMadeTexts};
 ghost use Rattle.pgn_json.specs.Parts.{part_at, size};
 
 use crate::texts::{Texts, game_texts};
-use pgn_batches::Batch;
 use cq_common::{Bytes, NoMemory, Shared};
 use cq_workers::{Maker, nothing_kept, run_crew};
+use pgn_batches::Batch;
 use std::alloc::Global;
 use std::thread::Threads;
 

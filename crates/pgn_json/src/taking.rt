@@ -9,8 +9,8 @@ ghost use Rattle.pgn_json.specs.Writing.{Sinks, sinks_of};
 use crate::making::{PART, TextMaker};
 use crate::status::Status;
 use crate::writing::write_part;
-use pgn_batches::{Batch, Taker};
 use cq_outside::Sink;
+use pgn_batches::{Batch, Taker};
 use std::alloc::Global;
 use std::thread::Threads;
 
