@@ -3,7 +3,7 @@ use Rattle.std.proofs.Common.{◌≡◌, ◌||◌, refl}
 use Rattle.cq_position.specs.declared.men.Man.{Man}
 use Rattle.cq_position.specs.declared.men.Man.TheVariants.{K, Q, R, B, N, P, BlackK, BlackQ, BlackR, BlackB, BlackN, BlackP, Empty}
 use Rattle.cq_position.specs.Men.{same_man}
-use Rattle.cq_bits.specs.Kinds.{is_nothing}
+use Rattle.cq_bits.specs.Internal.Kinds.{is_nothing}
 use Rattle.cq_bits.specs.Sets.{goes_straight, goes_diagonally}
 
 pub nobody_there : (m : Man) → same_man m Empty ≡ is_nothing m

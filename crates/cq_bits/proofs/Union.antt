@@ -13,7 +13,7 @@ use Rattle.cq_position.specs.Men.{same_man}
 use Rattle.std.proofs.lemmas.Nat.Bits.{bit_at_ones}
 use Rattle.cq_position.specs.declared.men.Man.{Man}
 use Rattle.cq_position.specs.declared.men.Man.TheVariants.{K, Q, R, B, N, P, BlackK, BlackQ, BlackR, BlackB, BlackN, BlackP, Empty}
-use Rattle.cq_bits.specs.Kinds.{is_nothing}
+use Rattle.cq_bits.specs.Internal.Kinds.{is_nothing}
 use Rattle.cq_bits.specs.Sets.{Has, has, IsSetOf, IsSlid, IsChosen, IsLeap, IsAttacked, goes_straight, goes_diagonally, slides, reaches}
 use Rattle.cq_square_sets.proofs.Bits.{in_either, from_first, from_second}
 use Rattle.cq_bits.proofs.Members.{has_exactly}

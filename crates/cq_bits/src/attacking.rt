@@ -9,8 +9,8 @@ use crate::attacks::{Kind, either_side, standing};
 use cq_geometry::Square;
 use cq_position::{Man, Men, Position, attacks_from};
 use cq_square_sets::{
-    BitSet64, king_steps, knight_steps, lowest_square, slanted_squares, steps_down, steps_up,
-    straight_squares,
+    BitSet64, king_attacks, knight_attacks, lowest_square, bishop_attacks, black_pawn_attacks, white_pawn_attacks,
+    rook_attacks,
 };
 
 /// The squares on which a man stands that attacks a square of `to` (FIDE Laws of Chess, articles 3.1 to 3.8).
@@ -70,8 +70,8 @@ fn attackers_of(men: &Men, square: Square) -> BitSet64
     ensures { IsBitboard result (λ from. attacks men.now from square) }
 {
     let empty = men.squares_of(Man::Empty);
-    let straight = standing(men, Kind::Straight) & straight_squares(square, empty);
-    let diagonal = standing(men, Kind::Diagonal) & slanted_squares(square, empty);
+    let straight = standing(men, Kind::Straight) & rook_attacks(square, empty);
+    let diagonal = standing(men, Kind::Diagonal) & bishop_attacks(square, empty);
     straight | diagonal | leapers_of(men, square)
 }
 
@@ -80,8 +80,8 @@ fn leapers_of(men: &Men, square: Square) -> BitSet64
     requires { square < 64 }
     ensures { IsBitboard result (λ from. leaps_to (man_at men.now from) square from) }
 {
-    either_side(men, Man::N, Man::BlackN) & knight_steps(square)
-        | either_side(men, Man::K, Man::BlackK) & king_steps(square)
-        | men.squares_of(Man::P) & steps_down(square)
-        | men.squares_of(Man::BlackP) & steps_up(square)
+    either_side(men, Man::N, Man::BlackN) & knight_attacks(square)
+        | either_side(men, Man::K, Man::BlackK) & king_attacks(square)
+        | men.squares_of(Man::P) & black_pawn_attacks(square)
+        | men.squares_of(Man::BlackP) & white_pawn_attacks(square)
 }

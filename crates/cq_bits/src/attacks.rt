@@ -3,7 +3,7 @@ ghost use Rattle.std.specs.Prelude.{◌≡◌, ℕ, ◌<◌, ◌↔◌, ◌⊎�
 ghost use Rattle.cq_bits.specs.Sets.{Has, IsSetOf, IsAttacked, IsChosen, IsLeap, slides};
 ghost use Rattle.cq_square_sets.specs.Bitboards.{IsBitboard};
 ghost use Rattle.cq_position.specs.Board.{man_at, stands};
-ghost use Rattle.cq_bits.specs.Kinds.{is_of_kind};
+ghost use Rattle.cq_bits.specs.Internal.Kinds.{is_of_kind};
 
 use cq_position::{Man, Men, Position, attacks_from};
 use cq_square_sets::{BitSet64, lowest_square, slide};

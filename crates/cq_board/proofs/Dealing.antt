@@ -6,7 +6,7 @@ use Rattle.std.proofs.lemmas.List.Elements.{All-pop, All-push}
 use Rattle.std.proofs.lemmas.List.Sums.{sum_by_push, sum_by-cons}
 use Rattle.atomic_table.specs.declared.shared.Seat.{Seat}
 use Rattle.atomic_table.specs.Seated.{TableId}
-use Rattle.cq_board.specs.declared.view.View.{View}
+use Rattle.cq_board.specs.declared.view.SeatView.{SeatView}
 use Rattle.cq_board.specs.declared.seat.Board.{Board}
 use Rattle.cq_board.specs.declared.seat.ClaimSeat.{ClaimSeat}
 use Rattle.cq_board.specs.Draws.{times, times_in, once_below, IsDrawnOnce}
@@ -27,7 +27,7 @@ pub record IsNew (id : TableId) (n seats : ℕ) (s : ClaimSeat) : Type 0 where
   pub may_draw : HasEnded s → ⊥
 
 -- the maker's seat, and the seats that were handed out before this turn
-pub record Dealt (id : TableId) (n seats : ℕ) (me : Seat (Unit {0}) View) (turn : ℕ) (claims : List ClaimSeat) : Type 0 where
+pub record Dealt (id : TableId) (n seats : ℕ) (me : Seat (Unit {0}) SeatView) (turn : ℕ) (claims : List ClaimSeat) : Type 0 where
   pub table : me.table_id ≡ id
   pub no_slot : me.me.1 ≡ []
   pub numbers : me.me.0.numbers ≡ n
@@ -37,7 +37,7 @@ pub record Dealt (id : TableId) (n seats : ℕ) (me : Seat (Unit {0}) View) (tur
   pub count : length claims + 1 ≡ turn
   pub claimed : All (IsNew id n seats) claims
 
-pub record Gathered (b : Board) (all : List ClaimSeat) (whole : Seat (Unit {0}) View) (left : List ClaimSeat) : Type 0 where
+pub record Gathered (b : Board) (all : List ClaimSeat) (whole : Seat (Unit {0}) SeatView) (left : List ClaimSeat) : Type 0 where
   pub table : whole.table_id ≡ b.table.shared.table_id
   pub seats : All (IsSeatOf b) left
   pub some : 0 < share b.table.shared.key.numbers whole.me.0
@@ -66,7 +66,7 @@ gathered_one b all rest s same seats count = record {
     one : share b.table.shared.key.numbers s.seat.me.0 ≡ 1
     one = subst (λ (n : ℕ). share n s.seat.me.0 ≡ 1) p.1.numbers s.one_share
 
-pub gathered_more : (b : Board) (all left rest : List ClaimSeat) (whole next : Seat (Unit {0}) View) (s : ClaimSeat) → left ≡ rest ++ s ∷ [] → Gathered b all whole left
+pub gathered_more : (b : Board) (all left rest : List ClaimSeat) (whole next : Seat (Unit {0}) SeatView) (s : ClaimSeat) → left ≡ rest ++ s ∷ [] → Gathered b all whole left
     → next.table_id ≡ whole.table_id → next.me.0 ≡ joined whole.me.0 s.seat.me.0 → Gathered b all next rest
 gathered_more b all left rest whole next s same so_far table view = record {
   table = table ∙ so_far.table;
@@ -92,7 +92,7 @@ gathered_more b all left rest whole next s same so_far table view = record {
     both = ap (share n) view ∙ joined_share n whole.me.0 s.seat.me.0
 
 -- once all seats were joined
-pub drawn_once : (b : Board) (all left : List ClaimSeat) (whole : Seat (Unit {0}) View) (words : List ℕ) (views : List View) (id next : ℕ) → length left ≡ 0 → Gathered b all whole left
+pub drawn_once : (b : Board) (all left : List ClaimSeat) (whole : Seat (Unit {0}) SeatView) (words : List ℕ) (views : List SeatView) (id next : ℕ) → length left ≡ 0 → Gathered b all whole left
     → IsKept b.table.shared.key words views → get_elem? views id ≡ some whole.me.0 → get_elem? words 0 ≡ some next → (x : ℕ) → times_in x (all_drawn all) ≡ once_below next x
 drawn_once b all (s ∷ left) whole words views id next none so_far kept at word x = absurd (omega arith)
 drawn_once b all [] whole [] views id next none so_far kept at word x = absurd (some-ne-none next (sym word))
@@ -101,7 +101,7 @@ drawn_once b all [] whole (w ∷ words) views id next none so_far kept at word x
     let e : once_below w x ≡ once_below next x = ap (λ n. once_below n x) (some-injective w next word) in let k = so_far.numbers x in omega arith
 
 -- the maker's seat hands out one more
-pub dealt_more : (id : TableId) (n seats : ℕ) (me next : Seat (Unit {0}) View) (turn : ℕ) (claims more : List ClaimSeat) (s : ClaimSeat) → turn < seats → Dealt id n seats me turn claims
+pub dealt_more : (id : TableId) (n seats : ℕ) (me next : Seat (Unit {0}) SeatView) (turn : ℕ) (claims more : List ClaimSeat) (s : ClaimSeat) → turn < seats → Dealt id n seats me turn claims
     → next.table_id ≡ me.table_id → next.me ≡ (one_pass_less me.me.0, me.me.1) → s.seat.table_id ≡ me.table_id → s.seat.me ≡ (one_pass me.me.0, []) → more ≡ claims ++ s ∷ []
     → Dealt id n seats next (turn + 1) more
 dealt_more id n seats me next turn claims more s before so_far table view own_table own_view longer = record {

@@ -7,7 +7,7 @@ use Rattle.std.specs.List.Sorted.{IsStrictlyIncreasing}
 use mathlib.Core.Option.{some}
 use lib.ListN.{get_elem?}
 use Rattle.atomic_table.proofs.Lists.{at_set}
-use Rattle.cq_board.specs.Draws.{times, times_in, once_below, AreDraws, IsDrawnOnce, IsSound, IsFirst, IsDraw}
+use Rattle.cq_board.specs.Draws.{times, times_in, once_below, AreDraws, IsDrawnOnce, IsSound, IsInitial, IsDraw}
 use Rattle.cq_board.proofs.Increasing.{rising, increasing, one_if, rising_push}
 use Rattle.cq_board.proofs.Totals.{sum_set, one_of_sum}
 
@@ -60,7 +60,7 @@ none_in x (l ∷ lists) empty =
     let e = sum_by-cons (times x) l lists in let h : times x l ≡ 0 = ap (times x) (empty 0 l refl) in
     let r = none_in x lists (λ worker list at. empty (suc worker) list at) in omega arith
 
-pub first_is_sound : (next : ℕ) (lists : List (List ℕ)) → IsFirst next lists → IsSound next lists
+pub first_is_sound : (next : ℕ) (lists : List (List ℕ)) → IsInitial next lists → IsSound next lists
 first_is_sound next lists first = record {
   increasing = λ worker list at. subst IsStrictlyIncreasing (sym (first.empty worker list at)) (λ k within. absurd (omega arith));
   once = λ x. none_in x lists first.empty ∙ sym (ap one_if (ap (λ n. nat_lt x n) first.zero_next ∙ le-ltb x 0 (omega arith)));
@@ -81,7 +81,7 @@ draws_counted [] next lists next_after lists_after draws = let e = draws.0 in om
 draws_counted (worker ∷ workers) next lists next_after lists_after draws =
     let e = draws.2.one_more in let f = draws_counted workers draws.0 draws.1 next_after lists_after draws.3 in omega arith
 
-pub reached_is_sound : (workers : List ℕ) (next : ℕ) (lists : List (List ℕ)) (next_after : ℕ) (lists_after : List (List ℕ)) → IsFirst next lists
+pub reached_is_sound : (workers : List ℕ) (next : ℕ) (lists : List (List ℕ)) (next_after : ℕ) (lists_after : List (List ℕ)) → IsInitial next lists
     → AreDraws workers next lists next_after lists_after → (next_after ≡ length workers) × IsSound next_after lists_after
 reached_is_sound workers next lists next_after lists_after first draws = (
   (let z = first.zero_next in let e = draws_counted workers next lists next_after lists_after draws in omega arith),

@@ -28,7 +28,7 @@ pub record IsSound (next : ℕ) (lists : List (List ℕ)) : Type 0 where
   pub once : IsDrawnOnce next lists
 
 -- the first state: no worker drew anything
-pub record IsFirst (next : ℕ) (lists : List (List ℕ)) : Type 0 where
+pub record IsInitial (next : ℕ) (lists : List (List ℕ)) : Type 0 where
   pub zero_next : next ≡ 0
   pub empty : (worker : ℕ) (list : List ℕ) → get_elem? lists worker ≡ some list → list ≡ []
 

@@ -6,7 +6,7 @@ ghost use Rattle.cq_board.specs.declared.seat.ClaimSeat.{ClaimSeat as ASeat};
 ghost use Rattle.cq_board.specs.Seats.{numbers_of, seats_of, IsSeatOf, drawn, all_drawn, HasEnded};
 
 use crate::seat::{Board, ClaimSeat};
-use crate::view::{Draw, HandOut, TakeIn, Terms};
+use crate::view::{Draw, SplitSeat, JoinSeat, BoardSize};
 use atomic_table::Table;
 use cq_common::NoMemory;
 use std::alloc::Global;
@@ -21,13 +21,13 @@ impl Board {
         ensures seats { IfOk result (λ made. All (λ s. IsSeatOf made.0 s × (drawn s ≡ []) × (HasEnded s → ⊥)) made.1.items) }
     {
         let mut claims = Vec::with_capacity(alloc, seats as usize)?;
-        let terms = Terms {
+        let terms = BoardSize {
             numbers: n,
             seats: u64::from(seats),
         };
         let (table, mut seat) = Table::of_words(alloc, &[0], &terms)?;
         for _turn in 1..seats {
-            let pass = table.shared.split_seat::<HandOut>(&mut seat);
+            let pass = table.shared.split_seat::<SplitSeat>(&mut seat);
             claims.push(ClaimSeat { seat: pass })?;
         }
         claims.push(ClaimSeat { seat })?;
@@ -73,7 +73,7 @@ impl Board {
             unreachable!()
         };
         while let Some(ClaimSeat { seat }) = seats.pop() {
-            self.table.shared.join_seat::<TakeIn>(&mut whole, seat);
+            self.table.shared.join_seat::<JoinSeat>(&mut whole, seat);
         }
         let closed = self.table.close_with(whole);
         let next = closed.word(0);

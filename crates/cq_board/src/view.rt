@@ -4,14 +4,14 @@ use std::collections::LinkedList;
 
 /// What a board is told when it is made.
 #[derive(Clone, Copy, Debug)]
-pub struct Terms {
+pub struct BoardSize {
     /// The board gives out the numbers below it.
     pub numbers: u64,
     pub seats: u64,
 }
 
 /// What a seat knows.
-pub struct View {
+pub struct SeatView {
     pub numbers: u64,
     pub seats: u64,
     pub drawn: LinkedList<u64>,
@@ -22,7 +22,7 @@ pub struct View {
 /// Each number below word 0 was drawn once.
 pub struct DrawnOnce;
 
-impl TableRule<(), View, Terms> for DrawnOnce {
+impl TableRule<(), SeatView, BoardSize> for DrawnOnce {
     ghost use Rattle.cq_board.specs.Views.{IsKept, first_view};
 
     ghost holds = { λ terms s. IsKept terms s.words s.views };
@@ -33,7 +33,7 @@ impl TableRule<(), View, Terms> for DrawnOnce {
 /// A seat draws the word, which grows by one.
 pub struct Draw;
 
-impl Play<(), View> for Draw {
+impl Play<(), SeatView> for Draw {
     ghost use Rattle.std.specs.Prelude.{◌≡◌};
     ghost use Rattle.std.specs.List.Sorted.{IsStrictlyIncreasing};
     ghost use Rattle.cq_board.specs.Views.{drawing};
@@ -42,9 +42,9 @@ impl Play<(), View> for Draw {
 }
 
 /// A seat hands out one of its passes.
-pub struct HandOut;
+pub struct SplitSeat;
 
-impl Split<View> for HandOut {
+impl Split<SeatView> for SplitSeat {
     ghost use Rattle.cq_board.specs.Views.{one_pass_less, one_pass};
 
     ghost left = { one_pass_less };
@@ -53,9 +53,9 @@ impl Split<View> for HandOut {
 }
 
 /// A seat takes in another's numbers and passes.
-pub struct TakeIn;
+pub struct JoinSeat;
 
-impl Join<View> for TakeIn {
+impl Join<SeatView> for JoinSeat {
     ghost use Rattle.cq_board.specs.Views.{joined, spent};
 
     ghost both = { joined };

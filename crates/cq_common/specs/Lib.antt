@@ -2,5 +2,5 @@ pub mod Greatest
 pub mod Refusals
 pub mod Spelling
 pub mod Text
-pub mod Ways
-pub mod Within
+pub mod Walks
+pub mod Range

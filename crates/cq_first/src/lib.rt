@@ -2,7 +2,7 @@
 #![tactic(auto)]
 
 mod board;
-mod looking;
+mod look;
 mod seat;
 mod view;
 

@@ -10,7 +10,7 @@ use Rattle.cq_geometry.specs.Squares.{file_of, rank_of, squares}
 use Rattle.cq_geometry.specs.Steps.{distance}
 use Rattle.cq_geometry.specs.Directions.{direction_to}
 use Rattle.cq_geometry.specs.Lines.{between_squares, lies_between, all_same, is_inside, rising_of, falling_of}
-use Rattle.cq_geometry.specs.Expansions.{steps_between}
+use Rattle.cq_geometry.specs.Internal.Expansions.{steps_between}
 use Rattle.cq_geometry.proofs.Board.{squares_board}
 use Rattle.cq_geometry.proofs.Tables.{at_square, at_squares}
 

@@ -3,7 +3,7 @@ use Rattle.std.proofs.Common.{◌≡◌, ℕ, ◌<◌, ◌&&◌, ◌||◌, ◌==
 use Rattle.std.specs.List.{All}
 use Rattle.cq_geometry.specs.Squares.{file_of, rank_of, squares}
 use Rattle.cq_geometry.specs.Steps.{king_squares, knight_squares, is_king_step, is_knight_step, apart}
-use Rattle.cq_geometry.specs.Expansions.{king_goals, knight_goals, kept_goals}
+use Rattle.cq_geometry.specs.Internal.Expansions.{king_goals, knight_goals, kept_goals}
 use Rattle.cq_geometry.proofs.Board.{kept_squares_board}
 use Rattle.cq_geometry.proofs.Tables.{at_square}
 

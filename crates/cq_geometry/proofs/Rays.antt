@@ -6,7 +6,7 @@ use Rattle.std.proofs.lemmas.List.Elements.{All-nil, All-cons}
 use Rattle.std.proofs.Common.{◌≡◌, ◌+◌, ℕ, zero, suc, max, ◌<◌, ◌≤◌, ℤ, pos, negsuc, ◌+ℤ◌, ◌*ℤ◌, inl, inr, subst, Option, Some, None, List, [], ◌∷◌, map, length, refl, ap, ◌∙◌, arith}
 use Rattle.cq_geometry.specs.Squares.{squares, square_of, file_of, rank_of}
 use Rattle.cq_geometry.specs.Steps.{on_board, stepped, steps_away, ray_from, IsDirection}
-use Rattle.cq_geometry.specs.Expansions.{ray_on}
+use Rattle.cq_geometry.specs.Internal.Expansions.{ray_on}
 use Rattle.cq_geometry.proofs.Tables.{at_square}
 
 too_far : (n m : ℕ) → max (suc (suc n)) m ≡ 1 → ⊥

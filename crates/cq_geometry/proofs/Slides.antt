@@ -9,7 +9,7 @@ use Rattle.cq_geometry.specs.Squares.{squares}
 use Rattle.cq_geometry.specs.Steps.{distance, ray_from, IsDirection}
 use Rattle.cq_geometry.specs.Directions.{direction_to, files_of, ranks_of}
 use Rattle.cq_geometry.specs.Lines.{between_squares, is_orthogonal, is_diagonal, on_rays, orthogonals, diagonals}
-use Rattle.cq_geometry.specs.Expansions.{steps_between}
+use Rattle.cq_geometry.specs.Internal.Expansions.{steps_between}
 use Rattle.cq_geometry.proofs.Tables.{at_square, at_squares}
 use Rattle.cq_geometry.proofs.Inside.{between_by_steps}
 use Rattle.cq_geometry.proofs.Rays.{each_direction, ray_board}

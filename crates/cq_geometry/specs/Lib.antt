@@ -2,4 +2,4 @@ pub mod Squares
 pub mod Steps
 pub mod Directions
 pub mod Lines
-pub mod Expansions
+pub mod Internal

@@ -1,7 +1,7 @@
 //! Squares on one rank, file or diagonal.
 ghost use Rattle.std.specs.Prelude.{◌≡◌, All, ◌≤◌, ◌<◌};
 ghost use Rattle.cq_geometry.specs.Directions.{direction_to};
-ghost use Rattle.cq_geometry.specs.Expansions.{steps_below};
+ghost use Rattle.cq_geometry.specs.Internal.Expansions.{steps_below};
 ghost use Rattle.cq_geometry.specs.Lines.{between_squares};
 ghost use Rattle.cq_geometry.specs.Steps.{IsDirection, distance as king_distance, ray_from};
 

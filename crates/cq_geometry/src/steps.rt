@@ -1,6 +1,6 @@
 //! Steps of so many files and ranks.
 ghost use Rattle.std.specs.Prelude.{◌≡◌, ◌<◌, ◌^◌, All, IfSome, pos, negsuc, ◌+ℤ◌, ◌≤ℤ◌};
-ghost use Rattle.cq_geometry.specs.Expansions.{king_goals, knight_goals, kept_goals};
+ghost use Rattle.cq_geometry.specs.Internal.Expansions.{king_goals, knight_goals, kept_goals};
 ghost use Rattle.cq_geometry.specs.Steps.{on_board, stepped, king_squares, knight_squares};
 
 use crate::square::{Square, file, rank, square_at};

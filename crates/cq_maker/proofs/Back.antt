@@ -15,11 +15,11 @@ use Rattle.cq_position.specs.Position.{IsPosition}
 use Rattle.pgn_tree.proofs.TagPairs.{distinct_put}
 use Rattle.pgn_export.specs.Export.{export_text}
 use Rattle.pgn_tree.specs.Results.{result_text}
-use Rattle.pgn_export.specs.Normal.{IsNormal, IsReadAs}
+use Rattle.pgn_export.specs.NormalGames.{IsNormal, IsReadAs}
 use Rattle.pgn_export.proofs.ReadBack.{answer_spells, answer_back}
 use Rattle.cq_maker.specs.Draws.{next, drawn}
-use Rattle.cq_maker.specs.Line.{is_over, move_drawn, ply_drawn, varies, variation_drawn, after_variation, line}
-use Rattle.cq_maker.specs.Made.{as_read, ending, line_made, game_made, games_made}
+use Rattle.cq_maker.specs.Line.{is_over, move_drawn, ply_drawn, has_variation, variation_drawn, after_variation, line}
+use Rattle.cq_maker.specs.GeneratedArchive.{as_read, ending, generated_line, generated_game, generated_games}
 use Rattle.cq_maker.proofs.Drawn.{line_over, line_step}
 use Rattle.cq_maker.proofs.Games.{whole_tree}
 use Rattle.cq_maker.proofs.Short.{written_of}
@@ -43,7 +43,7 @@ notes_of parent k (played m next others) bare =
     All-cons HasNotes (node_of parent m) (nodes_from k (k + 1) next ++ nodes_from parent (k + 1 + size next) others) (bare_notes parent m bare.0.0 bare.0.1)
     (All-append HasNotes (nodes_from k (k + 1) next) (nodes_from parent (k + 1 + size next) others) (notes_of k (k + 1) next bare.1.0) (notes_of parent (k + 1 + size next) others bare.1.1))
 
-variation_bare : (p : Board) (x : ℕ) → (b : Bool) → varies x ≡ b → AreBare (variation_drawn p x)
+variation_bare : (p : Board) (x : ℕ) → (b : Bool) → has_variation x ≡ b → AreBare (variation_drawn p x)
 unfolding variation_drawn ply_drawn
 variation_bare p x true is = subst (λ b. AreBare (if b then played (ply_drawn p (next x)) none none else none)) (sym is) ((refl, refl), (tt, tt))
 variation_bare p x false is = subst (λ b. AreBare (if b then played (ply_drawn p (next x)) none none else none)) (sym is) tt
@@ -56,16 +56,16 @@ line_bare (suc n) p x = by_end (line_bare n (after p (move_drawn p x)) (after_va
     by_end : AreBare (line n (after p (move_drawn p x)) (after_variation (next x))).moves → (b : Bool) → is_over p ≡ b → AreBare (line (suc n) p x).moves
     by_end rest true over = subst (λ l. AreBare l.moves) (sym (line_over (suc n) p x over)) tt
     by_end rest false over =
-        subst (λ l. AreBare l.moves) (sym (line_step (suc n) n p x over (sym (add-one n)))) ((refl, refl), (rest, variation_bare p (next x) (varies (next x)) refl))
+        subst (λ l. AreBare l.moves) (sym (line_step (suc n) n p x over (sym (add-one n)))) ((refl, refl), (rest, variation_bare p (next x) (has_variation (next x)) refl))
 
-made_bare : (x : ℕ) → AreBare (line_made x).moves
-unfolding line_made
+made_bare : (x : ℕ) → AreBare (generated_line x).moves
+unfolding generated_line
 made_bare x = line_bare (20 + drawn x 60) start_board (next x)
 
 made_notes : (number x : ℕ) → HaveNotes (whole number x).nodes
 made_notes number x =
-    All-cons HasNotes (bare_node None None start_board) (nodes_from 0 1 (line_made x).moves) (record { nags = All-nil (λ nag. nag < 256); comments = All-nil IsComment })
-    (notes_of 0 1 (line_made x).moves (made_bare x))
+    All-cons HasNotes (bare_node None None start_board) (nodes_from 0 1 (generated_line x).moves) (record { nags = All-nil (λ nag. nag < 256); comments = All-nil IsComment })
+    (notes_of 0 1 (generated_line x).moves (made_bare x))
 
 no_names : HaveDistinctNames []
 no_names = record { differ = λ i j less inside. absurd (omega (arith, inside)) }
@@ -101,22 +101,22 @@ start_is_position = record {
 whole_back : (number x : ℕ) → number ≤ 100000 → IsReadAs (export_text (whole number x)) (whole number x)
 whole_back number x few =
     let g = whole number x in
-    let spells = answer_spells {E = ℕ} g (Ok (export_text g)) (whole_tree x) (made_notes number x) (names number (ending (line_made x).last)) start_is_position refl in
+    let spells = answer_spells {E = ℕ} g (Ok (export_text g)) (whole_tree x) (made_notes number x) (names number (ending (generated_line x).last)) start_is_position refl in
     answer_back {E = ℕ} g (Ok (export_text g)) refl spells (whole_normal number x few)
 
 -- each game of an archive
 abbrev IsReadBack : Game → Type 0
 IsReadBack g = IsNormal (as_read g) × IsReadAs (export_text g) (as_read g)
 
-game_back : (number x : ℕ) → number ≤ 100000 → IsReadBack (game_made number (line_made x))
+game_back : (number x : ℕ) → number ≤ 100000 → IsReadBack (generated_game number (generated_line x))
 game_back number x few =
-    subst (λ g. IsNormal g × IsReadAs (export_text (game_made number (line_made x))) g) (sym (whole_is number x))
+    subst (λ g. IsNormal g × IsReadAs (export_text (generated_game number (generated_line x))) g) (sym (whole_is number x))
     (whole_normal number x few, subst (λ t. IsReadAs t (whole number x)) (whole_text number x) (whole_back number x few))
 
-games_back : (number games x : ℕ) → number + games ≤ 100001 → AllByRecursion IsReadBack (games_made number games x)
-unfolding games_made
+games_back : (number games x : ℕ) → number + games ≤ 100001 → AllByRecursion IsReadBack (generated_games number games x)
+unfolding generated_games
 games_back number zero x few = tt
-games_back number (suc games) x few = (game_back number x (omega (arith, few)), games_back (number + 1) games (line_made x).state (omega (arith, few)))
+games_back number (suc games) x few = (game_back number x (omega (arith, few)), games_back (number + 1) games (generated_line x).state (omega (arith, few)))
 
-pub archive_back : (seed games : ℕ) → games ≤ 100000 → AllByRecursion (λ g. IsNormal (as_read g) × IsReadAs (export_text g) (as_read g)) (games_made 1 games seed)
+pub archive_back : (seed games : ℕ) → games ≤ 100000 → AllByRecursion (λ g. IsNormal (as_read g) × IsReadAs (export_text g) (as_read g)) (generated_games 1 games seed)
 archive_back seed games few = games_back 1 games seed (omega (arith, few))

@@ -14,7 +14,7 @@ use Rattle.cq_position.specs.Moves.{null_move}
 use Rattle.cq_moves.specs.LegalMoves.{legal_list}
 use Rattle.cq_moves.proofs.Order.{listed_is_legal}
 use Rattle.cq_maker.specs.Draws.{next, drawn}
-use Rattle.cq_maker.specs.Line.{is_over, move_drawn, ply_drawn, varies, variation_drawn, after_variation, Line, extended, line}
+use Rattle.cq_maker.specs.Line.{is_over, move_drawn, ply_drawn, has_variation, variation_drawn, after_variation, Line, extended, line}
 
 -- a line that has ended
 abbrev pub ended : Board → ℕ → Line
@@ -52,7 +52,7 @@ legal_drawn p x h =
     let found = listed_is_legal p (move_drawn p x) (Contains-get_or (legal_list p) (drawn x (length (legal_list p))) null_move (below x (length (legal_list p)) h)) in
     subst (Legal p (move_drawn p x)) found.1.leads found.1
 
-variation_follows : (p : Board) (x : ℕ) → 0 < length (legal_list p) → (b : Bool) → varies x ≡ b → Follows p (variation_drawn p x)
+variation_follows : (p : Board) (x : ℕ) → 0 < length (legal_list p) → (b : Bool) → has_variation x ≡ b → Follows p (variation_drawn p x)
 unfolding variation_drawn Follows ply_drawn
 variation_follows p x h true is =
     subst (λ b. Follows p (if b then played (ply_drawn p (next x)) none none else none)) (sym is) (inl (legal_drawn p (next x) h), tt, tt)
@@ -70,9 +70,9 @@ line_follows (suc n) p x = by_end (line_follows n (after p (move_drawn p x)) (af
     by_end rest false over =
         let h = some_left p over in
         subst (λ l. Follows p l.moves) (sym (line_step (suc n) n p x over (sym (add-one n))))
-        (inl (legal_drawn p x h), rest, variation_follows p (next x) h (varies (next x)) refl)
+        (inl (legal_drawn p x h), rest, variation_follows p (next x) h (has_variation (next x)) refl)
 
-variation_small : (p : Board) (x : ℕ) → (b : Bool) → varies x ≡ b → size (variation_drawn p x) ≤ 1
+variation_small : (p : Board) (x : ℕ) → (b : Bool) → has_variation x ≡ b → size (variation_drawn p x) ≤ 1
 unfolding variation_drawn
 variation_small p x true is = subst (λ b. size (if b then played (ply_drawn p (next x)) none none else none) ≤ 1) (sym is) (omega arith)
 variation_small p x false is = subst (λ b. size (if b then played (ply_drawn p (next x)) none none else none) ≤ 1) (sym is) (omega arith)
@@ -87,7 +87,7 @@ line_small (suc n) p x = by_end (line_small n (after p (move_drawn p x)) (after_
         → (b : Bool) → is_over p ≡ b → size (line (suc n) p x).moves ≤ suc n + suc n
     by_end rest true over = subst (λ l. size l.moves ≤ suc n + suc n) (sym (line_over (suc n) p x over)) (omega arith)
     by_end rest false over =
-        let small = variation_small p (next x) (varies (next x)) refl in
+        let small = variation_small p (next x) (has_variation (next x)) refl in
         subst (λ l. size l.moves ≤ suc n + suc n) (sym (line_step (suc n) n p x over (sym (add-one n)))) (omega (arith, rest, small))
 
 -- what a call draws
@@ -111,19 +111,19 @@ unfolding ply_drawn
 ply_position parent p x n is = ap (λ k. k.position) is
 
 -- whether a variation is drawn
-pub does_vary : (x i : ℕ) → i ≡ drawn x 16 → i ≡ 0 → varies x ≡ true
-unfolding varies
+pub does_vary : (x i : ℕ) → i ≡ drawn x 16 → i ≡ 0 → has_variation x ≡ true
+unfolding has_variation
 does_vary x i at is = ap (λ d. d == 0) (sym at ∙ is)
 
-pub does_not_vary : (x i : ℕ) → i ≡ drawn x 16 → (i ≡ 0 → ⊥) → varies x ≡ false
-unfolding varies
+pub does_not_vary : (x i : ℕ) → i ≡ drawn x 16 → (i ≡ 0 → ⊥) → has_variation x ≡ false
+unfolding has_variation
 does_not_vary x i at is = ne_eqb (drawn x 16) 0 (λ e. is (at ∙ e))
 
-pub after_one : (x : ℕ) → varies x ≡ true → after_variation x ≡ next (next x)
+pub after_one : (x : ℕ) → has_variation x ≡ true → after_variation x ≡ next (next x)
 unfolding after_variation
 after_one x is = ap (λ b. if b then next (next x) else next x) is
 
-pub after_none : (x : ℕ) → varies x ≡ false → after_variation x ≡ next x
+pub after_none : (x : ℕ) → has_variation x ≡ false → after_variation x ≡ next x
 unfolding after_variation
 after_none x is = ap (λ b. if b then next (next x) else next x) is
 

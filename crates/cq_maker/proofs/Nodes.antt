@@ -7,11 +7,11 @@ use Rattle.cq_position.specs.declared.moves.Move.{Move}
 use Rattle.cq_position.specs.Legal.{Leads}
 use Rattle.cq_position.specs.Games.{Node, no_node, node_at, way_up, IsTree}
 use Rattle.cq_position.proofs.Trees.{prefix_tree, way_in_prefix}
-use Rattle.cq_maker.specs.declared.row.Row.{Row}
-use Rattle.cq_maker.specs.Rows.{node_of_row, nodes_of_rows}
+use Rattle.cq_maker.specs.declared.drawn_move.DrawnMove.{DrawnMove}
+use Rattle.cq_maker.specs.Internal.DrawnMoves.{node_of_row, nodes_of_rows}
 
 -- a row may be added after some nodes
-pub record MayFollow (nodes : List Node) (r : Row) : Type 0 where
+pub record MayFollow (nodes : List Node) (r : DrawnMove) : Type 0 where
   pub node : r.parent < length nodes
   pub preorder : Contains (way_up nodes (length nodes - 1)) r.parent
   pub leads : Leads (node_at nodes r.parent).position r.led_by r.position
@@ -23,7 +23,7 @@ some_is i j e = cc
 moves_are : (i j : Move) → Some i ≡ Some j → i ≡ j
 moves_are i j e = cc
 
-pub may_follow : (xs rest : List Node) (r : Row) → 0 < length xs → IsTree (xs ++ node_of_row r ∷ rest) → MayFollow xs r
+pub may_follow : (xs rest : List Node) (r : DrawnMove) → 0 < length xs → IsTree (xs ++ node_of_row r ∷ rest) → MayFollow xs r
 may_follow xs rest r rooted tree =
     let x = node_of_row r in
     let all : List Node = xs ++ x ∷ rest in
@@ -46,14 +46,14 @@ may_follow xs rest r rooted tree =
     }
 
 -- the nodes of the rows before one, its own, and those of the rows after it
-pub rows_split : (rows : List Row) (i : ℕ) (d : Row) → i < length rows
+pub rows_split : (rows : List DrawnMove) (i : ℕ) (d : DrawnMove) → i < length rows
     → nodes_of_rows rows ≡ nodes_of_rows (take i rows) ++ (node_of_row (get_or rows i d) ∷ nodes_of_rows (drop (i + 1) rows))
 rows_split rows i d h =
     ap nodes_of_rows (sym (take-append-drop i rows))
     ∙ map-append node_of_row (take i rows) (drop i rows)
     ∙ ap (λ l. nodes_of_rows (take i rows) ++ nodes_of_rows l) (drop_more rows i d h)
 
-pub next_row : (nodes : List Node) (rows : List Row) (i : ℕ) (d : Row) → 0 < length nodes → i < length rows → IsTree (nodes ++ nodes_of_rows rows)
+pub next_row : (nodes : List Node) (rows : List DrawnMove) (i : ℕ) (d : DrawnMove) → 0 < length nodes → i < length rows → IsTree (nodes ++ nodes_of_rows rows)
     → MayFollow (nodes ++ nodes_of_rows (take i rows)) (get_or rows i d)
 next_row nodes rows i d rooted h tree =
     let before = nodes_of_rows (take i rows) in
@@ -62,20 +62,20 @@ next_row nodes rows i d rooted h tree =
     may_follow (nodes ++ before) rest (get_or rows i d) (omega (arith, len, rooted))
     (subst IsTree (ap (λ l. nodes ++ l) (rows_split rows i d h) ∙ sym (append_assoc nodes before (node_of_row (get_or rows i d) ∷ rest))) tree)
 
-pub more_rows : (nodes : List Node) (rows : List Row) (i : ℕ) (d : Row) → i < length rows
+pub more_rows : (nodes : List Node) (rows : List DrawnMove) (i : ℕ) (d : DrawnMove) → i < length rows
     → (nodes ++ nodes_of_rows (take i rows)) ++ node_of_row (get_or rows i d) ∷ [] ≡ nodes ++ nodes_of_rows (take (i + 1) rows)
 more_rows nodes rows i d h =
     append_assoc nodes (nodes_of_rows (take i rows)) (node_of_row (get_or rows i d) ∷ [])
     ∙ ap (λ l. nodes ++ l) (sym (map-append node_of_row (take i rows) (get_or rows i d ∷ [])) ∙ ap nodes_of_rows (sym (take_more rows i d h)))
 
 -- the nodes of rows in reverse
-pub nodes_reversed : (rows : List Row) → nodes_of_rows (reverse rows) ≡ reverse (nodes_of_rows rows)
+pub nodes_reversed : (rows : List DrawnMove) → nodes_of_rows (reverse rows) ≡ reverse (nodes_of_rows rows)
 nodes_reversed [] = refl
 nodes_reversed (r ∷ rs) =
     ap nodes_of_rows (reverse-append (r ∷ []) rs) ∙ map-append node_of_row (reverse rs) (r ∷ [])
     ∙ ap (λ l. l ++ node_of_row r ∷ []) (nodes_reversed rs) ∙ sym (reverse-append (node_of_row r ∷ []) (nodes_of_rows rs))
 
-pub follow_now : (nodes now : List Node) (rows : List Row) (i : ℕ) (r : Row) → 0 < length nodes → i < length rows → IsTree (nodes ++ nodes_of_rows rows)
+pub follow_now : (nodes now : List Node) (rows : List DrawnMove) (i : ℕ) (r : DrawnMove) → 0 < length nodes → i < length rows → IsTree (nodes ++ nodes_of_rows rows)
     → now ≡ nodes ++ nodes_of_rows (take i rows) → r ≡ get_or rows i r → MayFollow now r
 follow_now nodes now rows i r rooted h tree is row =
     subst (λ l. MayFollow l r) (sym is) (subst (MayFollow (nodes ++ nodes_of_rows (take i rows))) (sym row) (next_row nodes rows i r rooted h tree))

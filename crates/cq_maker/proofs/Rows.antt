@@ -1,7 +1,7 @@
 -- Numbers that are drawn, and an archive of no games.
 use Rattle.std.proofs.Common.{◌≡◌, [], refl}
 use Rattle.cq_maker.specs.Draws.{next, drawn}
-use Rattle.cq_maker.specs.Made.{games_made, made}
+use Rattle.cq_maker.specs.GeneratedArchive.{generated_games, generated_archive}
 
 first_state : next 1 ≡ 7806831264735756412
 unfolding next
@@ -19,6 +19,6 @@ second_number : drawn 7806831264735756412 60 ≡ 33
 unfolding next drawn
 second_number = refl
 
-no_games : made 7 0 ≡ []
-unfolding games_made made
+no_games : generated_archive 7 0 ≡ []
+unfolding generated_games generated_archive
 no_games = refl

@@ -14,7 +14,7 @@ use Rattle.cq_position.specs.declared.men.Side.TheVariants.{White, Black}
 use Rattle.cq_position.specs.declared.moves.Move.{Move}
 use Rattle.cq_position.specs.Board.{Board, start_board}
 use Rattle.cq_position.specs.Continuations.{Played, none, played}
-use Rattle.cq_position.specs.Legal.{after, raised}
+use Rattle.cq_position.specs.Legal.{after, next_move_number}
 use Rattle.cq_position.proofs.Nested.{continuations_back}
 use Rattle.cq_moves.specs.LegalMoves.{legal_list}
 use Rattle.cq_position.specs.declared.men.Piece.{Piece}
@@ -27,10 +27,10 @@ use Rattle.pgn_export.specs.Lines.{filled, lines}
 use Rattle.pgn_export.specs.Movetext.{number_words, move_words, line_words, variation_words, movetext, is_due}
 use Rattle.pgn_tree.specs.Results.{result_text}
 use Rattle.pgn_export.specs.TagLines.{escaped, tag_line, written_tags, roster_tag, other_tags}
-use Rattle.pgn_export.specs.Words.{opened, closed, in_parens}
+use Rattle.pgn_export.specs.Words.{with_prefix, with_suffix, in_parens}
 use Rattle.cq_maker.specs.Draws.{next, drawn}
-use Rattle.cq_maker.specs.Line.{is_over, move_drawn, ply_drawn, varies, variation_drawn, after_variation, line}
-use Rattle.cq_maker.specs.Made.{line_made, ending, game_made, games_made, made}
+use Rattle.cq_maker.specs.Line.{is_over, move_drawn, ply_drawn, has_variation, variation_drawn, after_variation, line}
+use Rattle.cq_maker.specs.GeneratedArchive.{generated_line, ending, generated_game, generated_games, generated_archive}
 use Rattle.cq_maker.proofs.Drawn.{below, line_over, line_step}
 
 -- the bytes of some words and one more for each
@@ -56,19 +56,19 @@ lines_length : (ws : List (List ℕ)) → length (lines ws) ≤ weight ws
 lines_length [] = omega arith
 lines_length (w ∷ ws) = let e = filled_length w ws in omega (arith, e)
 
-opened_weight : (mark : List ℕ) (ws : List (List ℕ)) → weight (opened mark ws) ≤ weight ws + length mark
+opened_weight : (mark : List ℕ) (ws : List (List ℕ)) → weight (with_prefix mark ws) ≤ weight ws + length mark
 opened_weight mark [] = omega arith
 opened_weight mark (w ∷ ws) = let e = length-append mark w in omega (arith, e)
 
-closed_weight : (mark : List ℕ) (ws : List (List ℕ)) → weight (closed mark ws) ≤ weight ws + length mark
+closed_weight : (mark : List ℕ) (ws : List (List ℕ)) → weight (with_suffix mark ws) ≤ weight ws + length mark
 closed_weight mark [] = omega arith
 closed_weight mark (w ∷ []) = let e = length-append w mark in omega (arith, e)
 closed_weight mark (w ∷ v ∷ ws) = let e = closed_weight mark (v ∷ ws) in omega (arith, e)
 
 parens_weight : (ws : List (List ℕ)) → weight (in_parens ws) ≤ weight ws + 2
 parens_weight ws =
-    let o : weight (opened (codes "(") ws) ≤ weight ws + 1 = opened_weight (codes "(") ws in
-    let c : weight (in_parens ws) ≤ weight (opened (codes "(") ws) + 1 = closed_weight (codes ")") (opened (codes "(") ws) in
+    let o : weight (with_prefix (codes "(") ws) ≤ weight ws + 1 = opened_weight (codes "(") ws in
+    let c : weight (in_parens ws) ≤ weight (with_prefix (codes "(") ws) + 1 = closed_weight (codes ")") (with_prefix (codes "(") ws) in
     omega (arith, o, c)
 
 letter_short : (p : Piece) → length (letter p) ≤ 1
@@ -146,7 +146,7 @@ move_short p q due m low =
     let b = san_short p m in
     omega (arith, e, a, b)
 
-raised_little : (s : Side) (n : ℕ) → raised s n ≤ n + 1
+raised_little : (s : Side) (n : ℕ) → next_move_number s n ≤ n + 1
 raised_little White n = omega arith
 raised_little Black n = omega arith
 
@@ -154,7 +154,7 @@ number_rises : (p : Board) (m : Move) → (after p m).number ≤ p.number + 1
 unfolding after
 number_rises p m = raised_little p.side p.number
 
-variation_short : (p : Board) (x : ℕ) → p.number < 100 → (b : Bool) → varies x ≡ b → weight (variation_words p (variation_drawn p x)) ≤ 18
+variation_short : (p : Board) (x : ℕ) → p.number < 100 → (b : Bool) → has_variation x ≡ b → weight (variation_words p (variation_drawn p x)) ≤ 18
 unfolding variation_drawn ply_drawn variation_words line_words
 variation_short p x low true is =
     let m = move_drawn p (next x) in
@@ -185,7 +185,7 @@ line_short (suc n) p x due low =
         let more = line n q (after_variation (next x)) in
         let beside = variation_drawn p (next x) in
         let a = move_short p q due m (omega (arith, low)) in
-        let b = variation_short p (next x) (omega (arith, low)) (varies (next x)) refl in
+        let b = variation_short p (next x) (omega (arith, low)) (has_variation (next x)) refl in
         let c = rest (is_due (bare m q) beside) in
         let d = weight_append (move_words p due (bare m q)) (variation_words p beside ++ line_words q (is_due (bare m q) beside) more.moves) in
         let e = weight_append (variation_words p beside) (line_words q (is_due (bare m q) beside) more.moves) in
@@ -229,8 +229,8 @@ written_of number r =
     (codes "Event", codes "Selfrun") ∷ (codes "Site", codes "?") ∷ (codes "Date", codes "????.??.??") ∷ (codes "Round", decimal number)
     ∷ (codes "White", codes "?") ∷ (codes "Black", codes "?") ∷ (codes "Result", result_text r) ∷ []
 
-pub written_is : (number x : ℕ) → written_tags (game_made number (line_made x)) ≡ written_of number (ending (line_made x).last)
-unfolding game_made roster_tag other_tags
+pub written_is : (number x : ℕ) → written_tags (generated_game number (generated_line x)) ≡ written_of number (ending (generated_line x).last)
+unfolding generated_game roster_tag other_tags
 written_is number x = refl
 
 result_short : (r : GameResult) → length (result_text r) ≤ 7
@@ -242,39 +242,39 @@ result_short Undecided = omega arith
 weight_written : (number : ℕ) (r : GameResult) → tag_weight (written_of number r) ≡ 116 + (length (decimal number) + length (decimal number)) + (length (result_text r) + length (result_text r))
 weight_written number r = omega arith
 
-tags_of_made : (number x : ℕ) → number ≤ 100000 → length (flat_map tag_line (written_tags (game_made number (line_made x)))) ≤ 142
+tags_of_made : (number x : ℕ) → number ≤ 100000 → length (flat_map tag_line (written_tags (generated_game number (generated_line x)))) ≤ 142
 tags_of_made number x few =
-    let r = ending (line_made x).last in
+    let r = ending (generated_line x).last in
     let a = tags_short (written_of number r) in
     let b = weight_written number r in
     let c = result_short r in
     let d = length-decimal-le 6 number (omega arith) (omega (arith, few)) (omega (arith, few)) in
     subst (λ ts. length (flat_map tag_line ts) ≤ 142) (sym (written_is number x)) (omega (arith, a, b, c, d))
 
-pub movetext_is : (number x : ℕ) → movetext (game_made number (line_made x)) ≡ line_words start_board true (line_made x).moves ++ (result_text (ending (line_made x).last) ∷ [])
-unfolding game_made
+pub movetext_is : (number x : ℕ) → movetext (generated_game number (generated_line x)) ≡ line_words start_board true (generated_line x).moves ++ (result_text (ending (generated_line x).last) ∷ [])
+unfolding generated_game
 movetext_is number x =
-    ap (λ c. line_words start_board true c ++ (result_text (ending (line_made x).last) ∷ [])) (continuations_back (line_made x).moves)
+    ap (λ c. line_words start_board true c ++ (result_text (ending (generated_line x).last) ∷ [])) (continuations_back (generated_line x).moves)
 
-line_made_short : (x : ℕ) → weight (line_words start_board true (line_made x).moves) ≤ 2686
-unfolding line_made
+line_made_short : (x : ℕ) → weight (line_words start_board true (generated_line x).moves) ≤ 2686
+unfolding generated_line
 line_made_short x =
     let n = drawn x 60 in
     let low = below x 60 (omega arith) in
     let a = line_short (20 + n) start_board (next x) true (omega (arith, low)) in
     omega (arith, a, low)
 
-movetext_short : (number x : ℕ) → weight (movetext (game_made number (line_made x))) ≤ 2694
+movetext_short : (number x : ℕ) → weight (movetext (generated_game number (generated_line x))) ≤ 2694
 movetext_short number x =
-    let r = ending (line_made x).last in
+    let r = ending (generated_line x).last in
     let a = line_made_short x in
-    let b = weight_append (line_words start_board true (line_made x).moves) (result_text r ∷ []) in
+    let b = weight_append (line_words start_board true (generated_line x).moves) (result_text r ∷ []) in
     let c = result_short r in
     subst (λ ws. weight ws ≤ 2694) (sym (movetext_is number x)) (omega (arith, a, b, c))
 
-pub game_short : (number x : ℕ) → number ≤ 100000 → length (export_text (game_made number (line_made x))) ≤ 4096
+pub game_short : (number x : ℕ) → number ≤ 100000 → length (export_text (generated_game number (generated_line x))) ≤ 4096
 game_short number x few =
-    let g = game_made number (line_made x) in
+    let g = generated_game number (generated_line x) in
     let a = tags_of_made number x few in
     let b = movetext_short number x in
     let c = lines_length (movetext g) in
@@ -283,28 +283,28 @@ game_short number x few =
     let f = length-append (flat_map tag_line (written_tags g)) (codes "\n") in
     omega (arith, a, b, c, d, e, f)
 
-games_short : (number games x : ℕ) → number + games ≤ 100001 → length (flat_map export_text (games_made number games x)) ≤ 4096 * games
-unfolding games_made
+games_short : (number games x : ℕ) → number + games ≤ 100001 → length (flat_map export_text (generated_games number games x)) ≤ 4096 * games
+unfolding generated_games
 games_short number zero x few = omega arith
 games_short number (suc games) x few =
-    let g = game_made number (line_made x) in
-    let more = games_made (number + 1) games (line_made x).state in
+    let g = generated_game number (generated_line x) in
+    let more = generated_games (number + 1) games (generated_line x).state in
     let a = game_short number x (omega (arith, few)) in
-    let b = games_short (number + 1) games (line_made x).state (omega (arith, few)) in
+    let b = games_short (number + 1) games (generated_line x).state (omega (arith, few)) in
     let c = length-append (export_text g) (flat_map export_text more) in
     let d : length (flat_map export_text (g ∷ more)) ≡ length (export_text g ++ flat_map export_text more) = ap length (flat_map-cons export_text g more) in
     omega (arith, a, b, c, d)
 
-each_from : (number games x : ℕ) → number + games ≤ 100001 → AllByRecursion (λ g. length (export_text g) ≤ 4096) (games_made number games x)
-unfolding games_made
+each_from : (number games x : ℕ) → number + games ≤ 100001 → AllByRecursion (λ g. length (export_text g) ≤ 4096) (generated_games number games x)
+unfolding generated_games
 each_from number zero x few = tt
-each_from number (suc games) x few = (game_short number x (omega (arith, few)), each_from (number + 1) games (line_made x).state (omega (arith, few)))
+each_from number (suc games) x few = (game_short number x (omega (arith, few)), each_from (number + 1) games (generated_line x).state (omega (arith, few)))
 
 -- each game of a made archive has at most 4,096 bytes
-pub each_short : (seed games : ℕ) → games ≤ 100000 → AllByRecursion (λ g. length (export_text g) ≤ 4096) (games_made 1 games seed)
+pub each_short : (seed games : ℕ) → games ≤ 100000 → AllByRecursion (λ g. length (export_text g) ≤ 4096) (generated_games 1 games seed)
 each_short seed games few = each_from 1 games seed (omega (arith, few))
 
 -- a made archive has at most 4,096 bytes a game
-pub made_short : (seed games : ℕ) → games ≤ 100000 → length (made seed games) ≤ 4096 * games
-unfolding made
+pub made_short : (seed games : ℕ) → games ≤ 100000 → length (generated_archive seed games) ≤ 4096 * games
+unfolding generated_archive
 made_short seed games few = games_short 1 games seed (omega (arith, few))

@@ -21,12 +21,12 @@ use Rattle.pgn_export.specs.Export.{export_text}
 use Rattle.pgn_export.specs.Lines.{lines}
 use Rattle.pgn_export.specs.Movetext.{movetext}
 use Rattle.pgn_tree.specs.Results.{result_text}
-use Rattle.pgn_export.specs.Normal.{levels, levels_beside, IsWritable, IsNormal}
+use Rattle.pgn_export.specs.NormalGames.{levels, levels_beside, IsWritable, IsNormal}
 use Rattle.pgn_export.specs.TagLines.{tag_line, written_tags, roster_tag, other_tags}
 use Rattle.pgn_export.proofs.Symbols.{number_digits}
 use Rattle.cq_maker.specs.Draws.{next, drawn}
-use Rattle.cq_maker.specs.Line.{is_over, move_drawn, ply_drawn, varies, variation_drawn, after_variation, line}
-use Rattle.cq_maker.specs.Made.{as_read, ending, line_made, game_made}
+use Rattle.cq_maker.specs.Line.{is_over, move_drawn, ply_drawn, has_variation, variation_drawn, after_variation, line}
+use Rattle.cq_maker.specs.GeneratedArchive.{as_read, ending, generated_line, generated_game}
 use Rattle.cq_maker.proofs.Drawn.{line_over, line_step}
 use Rattle.cq_maker.proofs.Short.{written_of, written_is, game_short}
 
@@ -92,7 +92,7 @@ all_writable number r few = (
 )
 
 -- variations stand on one level
-variation_levels : (p : Board) (x : ℕ) → (b : Bool) → varies x ≡ b → levels_beside (variation_drawn p x) ≤ 1
+variation_levels : (p : Board) (x : ℕ) → (b : Bool) → has_variation x ≡ b → levels_beside (variation_drawn p x) ≤ 1
 unfolding variation_drawn levels
 variation_levels p x true is = subst (λ b. levels_beside (if b then played (ply_drawn p (next x)) none none else none) ≤ 1) (sym is) (omega arith)
 variation_levels p x false is = subst (λ b. levels_beside (if b then played (ply_drawn p (next x)) none none else none) ≤ 1) (sym is) (omega arith)
@@ -106,43 +106,43 @@ line_levels (suc n) p x = by_end (line_levels n (after p (move_drawn p x)) (afte
         → (b : Bool) → is_over p ≡ b → levels (line (suc n) p x).moves ≤ 1
     by_end rest true over = subst (λ l. levels l.moves ≤ 1) (sym (line_over (suc n) p x over)) (omega arith)
     by_end rest false over =
-        let few = variation_levels p (next x) (varies (next x)) refl in
+        let few = variation_levels p (next x) (has_variation (next x)) refl in
         subst (λ l. levels l.moves ≤ 1) (sym (line_step (suc n) n p x over (sym (add-one n)))) (omega (arith, rest, few))
 
-made_levels : (x : ℕ) → levels (line_made x).moves ≤ 1
-unfolding line_made
+made_levels : (x : ℕ) → levels (generated_line x).moves ≤ 1
+unfolding generated_line
 made_levels x = line_levels (20 + drawn x 60) start_board (next x)
 
 -- a made game with the tags that are written
 abbrev pub whole : ℕ → ℕ → Game
 whole number x = record {
-  tags = written_of number (ending (line_made x).last);
-  result = ending (line_made x).last;
-  nodes = bare_node None None start_board ∷ nodes_from 0 1 (line_made x).moves;
+  tags = written_of number (ending (generated_line x).last);
+  result = ending (generated_line x).last;
+  nodes = bare_node None None start_board ∷ nodes_from 0 1 (generated_line x).moves;
 }
 
-pub whole_is : (number x : ℕ) → as_read (game_made number (line_made x)) ≡ whole number x
-unfolding game_made roster_tag other_tags
+pub whole_is : (number x : ℕ) → as_read (generated_game number (generated_line x)) ≡ whole number x
+unfolding generated_game roster_tag other_tags
 whole_is number x = refl
 
-whole_written : (number x : ℕ) → written_tags (whole number x) ≡ written_of number (ending (line_made x).last)
+whole_written : (number x : ℕ) → written_tags (whole number x) ≡ written_of number (ending (generated_line x).last)
 unfolding roster_tag other_tags
 whole_written number x = refl
 
-pub whole_text : (number x : ℕ) → export_text (whole number x) ≡ export_text (game_made number (line_made x))
-unfolding game_made
+pub whole_text : (number x : ℕ) → export_text (whole number x) ≡ export_text (generated_game number (generated_line x))
+unfolding generated_game
 whole_text number x =
     ap (λ ts. flat_map tag_line ts ++ codes "\n" ++ lines (movetext (whole number x)) ++ codes "\n") (whole_written number x ∙ sym (written_is number x))
 
 pub whole_normal : (number x : ℕ) → number ≤ 100000 → IsNormal (whole number x)
 unfolding start_of
 whole_normal number x few = record {
-  writable = all_writable number (ending (line_made x).last) few;
+  writable = all_writable number (ending (generated_line x).last) few;
   order = record { roster = refl; others = refl; sorted = sorted_from_all_adjacent nat_list_cmp_total [] [] (λ k h. absurd (omega (arith, h))) };
   result = refl;
   set_up = λ fen e. absurd (let f : None ≡ Some fen = e in cc);
   start = refl;
-  few_levels = subst (λ c. levels c ≤ 100) (sym (continuations_back (line_made x).moves)) (let m = made_levels x in omega (arith, m));
+  few_levels = subst (λ c. levels c ≤ 100) (sym (continuations_back (generated_line x).moves)) (let m = made_levels x in omega (arith, m));
   no_glyph = refl;
   short = subst (λ t. length t ≤ 2 ^ 24) (sym (whole_text number x)) (let s = game_short number x few in omega (arith, s));
 }

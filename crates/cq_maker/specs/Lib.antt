@@ -1,4 +1,4 @@
 pub mod Draws
 pub mod Line
-pub mod Made
-pub mod Rows
+pub mod GeneratedArchive
+pub mod Internal

@@ -21,16 +21,16 @@ unfoldable pub ply_drawn : Board → ℕ → Played
 ply_drawn p x = record { move = move_drawn p x; position = after p (move_drawn p x); nags = []; comments = [] }
 
 -- whether the move that is played gets a variation: where a number that is drawn below 16 is 0
-unfoldable pub varies : ℕ → Bool
-varies x = drawn x 16 == 0
+unfoldable pub has_variation : ℕ → Bool
+has_variation x = drawn x 16 == 0
 
 -- that variation: one move, drawn from the same legal moves, which may be the move that is played
 unfoldable pub variation_drawn : Board → ℕ → Continuations
-variation_drawn p x = if varies x then played (ply_drawn p (next x)) none none else none
+variation_drawn p x = if has_variation x then played (ply_drawn p (next x)) none none else none
 
 -- the state of the draws after that
 unfoldable pub after_variation : ℕ → ℕ
-after_variation x = if varies x then next (next x) else next x
+after_variation x = if has_variation x then next (next x) else next x
 
 -- what is drawn for a game: its moves, the position after the last one that is played, and the state of the draws then
 pub record Line : Type 0 where

@@ -1,6 +1,6 @@
 //! Made archives.
 ghost use Rattle.std.specs.Prelude.{◌≡◌, ◌≤◌, IfOk};
-ghost use Rattle.cq_maker.specs.Made as made;
+ghost use Rattle.cq_maker.specs.GeneratedArchive as made;
 
 use crate::draws::Draws;
 use crate::game::make_game;
@@ -14,7 +14,7 @@ use std::alloc::Global;
 /// comes first; some have a variation of one move. The result is that of the last position.
 pub fn make_archive(alloc: Global, seed: u32, games: u32) -> Result<Bytes, NoMemory>
     requires { games ≤ 100000 }
-    ensures { IfOk result (λ archive. archive ≡ made.made seed games) }
+    ensures { IfOk result (λ archive. archive ≡ made.generated_archive seed games) }
 {
     let mut draws = Draws::new(seed);
     let mut archive = Bytes::new(alloc);

@@ -5,10 +5,10 @@ ghost use Rattle.cq_maker.specs.Draws.{next, drawn};
 use std::marker::Model;
 
 /// The factor of Knuth's MMIX.
-const FACTOR: u64 = 6_364_136_223_846_793_005;
+const MULTIPLIER: u64 = 6_364_136_223_846_793_005;
 
 /// What is added after the factor.
-const ADDED: u64 = 1_442_695_040_888_963_407;
+const INCREMENT: u64 = 1_442_695_040_888_963_407;
 
 /// The state of a linear congruential generator of 64 bits, which contracts see as a number.
 #[derive(Drop)]
@@ -42,7 +42,7 @@ impl Draws {
         ensures below { result < bound }
         ensures state { self.new ≡ next self.old }
     {
-        self.state = self.state.wrapping_mul(FACTOR).wrapping_add(ADDED);
+        self.state = self.state.wrapping_mul(MULTIPLIER).wrapping_add(INCREMENT);
         ((self.state >> 33) % u64::from(bound)) as u32
     }
 }

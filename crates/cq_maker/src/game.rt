@@ -1,12 +1,12 @@
 //! Made games.
 ghost use Rattle.std.specs.Prelude.{◌≡◌, ◌++◌, IfOk, OnOk};
 ghost use Rattle.cq_position.specs.Games.{IsTree};
-ghost use Rattle.cq_maker.specs.Made as made;
-ghost use Rattle.cq_maker.specs.Rows.{nodes_of_rows};
+ghost use Rattle.cq_maker.specs.GeneratedArchive as made;
+ghost use Rattle.cq_maker.specs.Internal.DrawnMoves.{nodes_of_rows};
 
 use crate::draws::Draws;
 use crate::line::draw_line;
-use crate::row::Row;
+use crate::drawn_move::DrawnMove;
 use cq_common::NoMemory;
 use cq_moves::legal_moves;
 use cq_position::{GameResult, Position, Side, in_check, opponent};
@@ -15,17 +15,17 @@ use pgn_tree::{Game, Tags};
 use std::alloc::Global;
 
 /// The fewest plies of a game that no mate or stalemate ends.
-const FEWEST: u32 = 20;
+const FEWEST_PLIES: u32 = 20;
 
 /// How many numbers of plies are drawn from.
-const SPREAD: u32 = 60;
+const PLY_RANGE: u32 = 60;
 
 /// The game of a number, by the next draws.
 pub(crate) fn make_game(alloc: Global, draws: &mut Draws, number: u32) -> Result<Game, NoMemory>
-    ensures game { IfOk result (λ g. g ≡ made.game_made number (made.line_made draws.old)) }
-    ensures state { OnOk result (draws.new ≡ (made.line_made draws.old).state) }
+    ensures game { IfOk result (λ g. g ≡ made.generated_game number (made.generated_line draws.old)) }
+    ensures state { OnOk result (draws.new ≡ (made.generated_line draws.old).state) }
 {
-    let most = FEWEST + draws.below(SPREAD);
+    let most = FEWEST_PLIES + draws.below(PLY_RANGE);
     let line = draw_line(alloc, draws, most)?;
     let tags = tags_of(alloc, number)?;
     let mut game = Game::new(alloc, tags, ending(&line.last), Position::start())?;
@@ -36,7 +36,7 @@ pub(crate) fn make_game(alloc: Global, draws: &mut Draws, number: u32) -> Result
 
 // The tags of the game of a number.
 fn tags_of(alloc: Global, number: u32) -> Result<Tags, NoMemory>
-    ensures { IfOk result (λ tags. tags ≡ made.tags_made number) }
+    ensures { IfOk result (λ tags. tags ≡ made.generated_tags number) }
 {
     let mut tags = Tags::new(alloc);
     tags.add(b"Event", b"Selfrun")?;
@@ -45,7 +45,7 @@ fn tags_of(alloc: Global, number: u32) -> Result<Tags, NoMemory>
 }
 
 // The result of a game that ends in a position.
-#[tactic(auto, unfolding(crate::specs::Made::ending, crate::specs::Line::is_over))]
+#[tactic(auto, unfolding(crate::specs::GeneratedArchive::ending, crate::specs::Line::is_over))]
 fn ending(last: &Position) -> GameResult
     ensures { result ≡ made.ending last.now }
 {
@@ -70,7 +70,7 @@ fn won_by(side: Side) -> GameResult
 }
 
 // Adds rows after all nodes of a game.
-fn add_rows(game: &mut Game, rows: &[Row]) -> Result<(), NoMemory>
+fn add_rows(game: &mut Game, rows: &[DrawnMove]) -> Result<(), NoMemory>
     requires { IsTree (game.old.nodes ++ nodes_of_rows rows.now) }
     ensures { OnOk result (game.new ≡ record game.old { nodes = game.old.nodes ++ nodes_of_rows rows.now }) }
 {

@@ -1,6 +1,6 @@
 //! Archives of games that are made from a seed.
 //!
-//! `specs/Draws` says which numbers are drawn, `specs/Line` which moves they give, and `specs/Made` which archive these are.
+//! `specs/Draws` says which numbers are drawn, `specs/Line` which moves they give, and `specs/GeneratedArchive` which archive these are.
 #![tactic(auto)]
 
 mod archive;
@@ -8,6 +8,6 @@ mod draws;
 mod game;
 pub mod laws;
 mod line;
-mod row;
+mod drawn_move;
 
 pub use archive::make_archive;

@@ -5,10 +5,10 @@ ghost use Rattle.cq_position.specs.Continuations.{node_of, nodes_from};
 ghost use Rattle.cq_moves.specs.LegalMoves.{legal_list};
 ghost use Rattle.cq_maker.specs.Draws.{next};
 ghost use Rattle.cq_maker.specs.Line as drawn;
-ghost use Rattle.cq_maker.specs.Rows.{node_of_row, nodes_of_rows};
+ghost use Rattle.cq_maker.specs.Internal.DrawnMoves.{node_of_row, nodes_of_rows};
 
 use crate::draws::Draws;
-use crate::row::Row;
+use crate::drawn_move::DrawnMove;
 use arrayvec::ArrayVec;
 use cq_common::NoMemory;
 use cq_moves::{legal_moves, play};
@@ -16,15 +16,15 @@ use cq_position::{Move, Position};
 use std::alloc::Global;
 
 /// One move in so many has a variation.
-const RARITY: u32 = 16;
+const MOVES_PER_VARIATION: u32 = 16;
 
 /// The rows of a game after its root, and the last position of its main line.
 #[derive(Drop)]
 pub struct Line {
     /// The main line.
-    pub main: Vec<Row>,
+    pub main: Vec<DrawnMove>,
     /// The variations, in the order of their nodes: the latest first, as each stands after the rest of the main line.
-    pub beside: Vec<Row>,
+    pub beside: Vec<DrawnMove>,
     /// The position after the last move of the main line.
     pub last: Position,
 }
@@ -54,14 +54,14 @@ pub(crate) fn draw_line(alloc: Global, draws: &mut Draws, most: u32) -> Result<L
 }
 
 // Draws a legal move of a position, which is that of node `parent`.
-fn draw_row(draws: &mut Draws, parent: u32, position: &Position, moves: &ArrayVec<Move, 512>) -> Row
+fn draw_row(draws: &mut Draws, parent: u32, position: &Position, moves: &ArrayVec<Move, 512>) -> DrawnMove
     requires moves { moves.now.items ≡ legal_list position.now }
     requires some { 0 < length moves.now.items }
     ensures row { node_of_row result ≡ node_of parent (drawn.ply_drawn position.now draws.old) }
     ensures state { draws.new ≡ next draws.old }
 {
     let m = &moves[draws.below(moves.len() as u32) as usize];
-    Row {
+    DrawnMove {
         parent,
         led_by: *m,
         position: play(position, *m),
@@ -74,7 +74,7 @@ fn draw_variation(
     parent: u32,
     position: &Position,
     moves: &ArrayVec<Move, 512>,
-    beside: &mut Vec<Row>,
+    beside: &mut Vec<DrawnMove>,
 ) -> Result<(), NoMemory>
     requires moves { moves.now.items ≡ legal_list position.now }
     requires some { 0 < length moves.now.items }
@@ -82,7 +82,7 @@ fn draw_variation(
         ≡ nodes_of_rows beside.old.items ++ nodes_from parent 0 (drawn.variation_drawn position.now draws.old)) }
     ensures state { OnOk result (draws.new ≡ drawn.after_variation draws.old) }
 {
-    if draws.below(RARITY) == 0 {
+    if draws.below(MOVES_PER_VARIATION) == 0 {
         beside.push(draw_row(draws, parent, position, moves))?;
     }
     Ok(())

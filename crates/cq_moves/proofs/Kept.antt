@@ -13,7 +13,7 @@ use Rattle.cq_position.specs.Men.{same_man, is_of_side, opponent, king_of, rook_
 use Rattle.cq_position.specs.Board.{Board, man_at, stands, count_of, count_of_side, is_pawn, castling_right, king_home, rook_home, are_home, has_kings, has_too_many_men, rights_stand, passant_stands, was_passed}
 use Rattle.cq_position.specs.Position.{IsPosition}
 use Rattle.cq_position.specs.Attacks.{in_check}
-use Rattle.cq_position.specs.Legal.{Legal, is_pseudo_legal, after, after_pass, men_moved, men_after, promoted, rook_moved, castling_crossed, keeps_right, rights_after, passant_after, middle, raised, number_after}
+use Rattle.cq_position.specs.Legal.{Legal, is_pseudo_legal, after, after_pass, men_moved, men_after, promoted, rook_moved, castling_crossed, keeps_right, rights_after, passant_after, middle, next_move_number, number_after}
 use Rattle.cq_moves.proofs.Boards.{stands-is, stands_there, man_at-set_other, length-set_man, counted, count-set, EdgeFree, EdgeFree-from, EdgeFree-gives, EdgeFree-set}
 use Rattle.cq_moves.proofs.Steps.{Goes, goes, apart, it_lands}
 use Rattle.cq_moves.proofs.Castled.{castling_squares, other_home}
@@ -285,11 +285,11 @@ passant_kept p m w g way =
     ]
 
 -- the number
-raised_some : (side : Side) (number : ℕ) → 0 < number → 0 < raised side number
+raised_some : (side : Side) (number : ℕ) → 0 < number → 0 < next_move_number side number
 raised_some White number h = h
 raised_some Black number h = omega arith
 
-raised_fits : (side : Side) (number : ℕ) → number < 4294967296 → raised side number < 4294967296
+raised_fits : (side : Side) (number : ℕ) → number < 4294967296 → next_move_number side number < 4294967296
 raised_fits White number h = h
 raised_fits Black number h = omega arith
 

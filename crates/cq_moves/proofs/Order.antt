@@ -15,7 +15,7 @@ use Rattle.cq_position.specs.Legal.{Legal, after}
 use Rattle.cq_position.specs.Legality.{legal_test}
 use Rattle.cq_position.specs.Men.{promotion_number}
 use Rattle.cq_moves.specs.LegalMoves.{promotions, move_of, moves_between, moves_from, all_moves, legal_list, Precedes}
-use Rattle.cq_moves.specs.Outcome.{HasLegalMove}
+use Rattle.cq_moves.specs.Mate.{HasLegalMove}
 use Rattle.cq_moves.proofs.Lists.{All-flat_map, AllPairs-flat_map, AllPairs-map, AllPairs-by_number, Contains-map, Contains-flat_map}
 use Rattle.cq_position.proofs.Legality.{legal_passes, test_leads}
 use Rattle.cq_moves.proofs.Law.{IsOnBoard, legal_on_board, what_moves}

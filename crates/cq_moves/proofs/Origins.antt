@@ -15,7 +15,7 @@ use Rattle.cq_position.specs.Attacks.{attacks, attacks_as, is_occupied, is_pawn_
 use Rattle.cq_position.specs.Legal.{goes_as, reaches, castles, castling_goal, pawn_moves}
 use Rattle.cq_position.proofs.Attackers.{open_both_ways, orthogonal_both_ways, diagonal_both_ways}
 use Rattle.cq_moves.specs.Candidates.{is_ahead, may_come}
-use Rattle.cq_moves.specs.Mover.{is_free}
+use Rattle.cq_moves.specs.Internal.Mover.{is_free}
 use Rattle.cq_moves.proofs.Boards.{same_man-is}
 use Rattle.cq_moves.proofs.Targets.{own_reaches}
 use Rattle.cq_moves.proofs.Candidates.{pawn_goes, four_parts, first_of}

@@ -12,7 +12,7 @@ use Rattle.cq_position.specs.Board.{Board, man_at, is_pawn}
 use Rattle.cq_position.specs.Legal.{reaches, promotion_is_right, is_none, last_rank, is_en_passant_capture}
 use Rattle.cq_position.specs.Attacks.{is_goal}
 use Rattle.cq_geometry.specs.Steps.{files_apart}
-use Rattle.cq_moves.specs.Mover.{IsUnexposed, IsPlain}
+use Rattle.cq_moves.specs.Internal.Mover.{IsUnexposed, IsPlain}
 use Rattle.cq_position.specs.Legality.{is_safe, legal_test}
 use Rattle.cq_moves.specs.LegalMoves.{promotions, move_of, moves_between, moves_from, all_moves, legal_list, legal_from, legal_between, if_legal, pieces, promotes}
 use Rattle.cq_moves.proofs.Lists.{filter-flat_map, filter-map, filter-none, flat_map-take_more, list_any-flat_map}

@@ -17,7 +17,7 @@ use Rattle.cq_position.specs.Legal.{is_pseudo_legal, is_castling, is_en_passant_
 use Rattle.cq_position.specs.Legality.{is_safe}
 use Rattle.cq_position.proofs.Kings.{king_there, one_of_each, check_is_at_king}
 use Rattle.cq_position.proofs.Shields.{covers_only}
-use Rattle.cq_moves.specs.Mover.{king_after, IsUnexposed}
+use Rattle.cq_moves.specs.Internal.Mover.{king_after, IsUnexposed}
 use Rattle.cq_moves.proofs.Boards.{stands-is, man_at-set_same, man_at-set_other, length-set_man, EdgeFree-from}
 use Rattle.cq_moves.proofs.Steps.{Goes, goes, it_lands}
 use Rattle.cq_moves.proofs.Castled.{castling_squares}

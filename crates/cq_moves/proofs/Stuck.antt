@@ -6,7 +6,7 @@ use Rattle.cq_position.specs.Board.{Board}
 use Rattle.cq_position.specs.Attacks.{in_check}
 use Rattle.cq_position.specs.Legality.{legal_test}
 use Rattle.cq_moves.specs.LegalMoves.{all_moves}
-use Rattle.cq_moves.specs.Outcome.{HasLegalMove, IsMate, IsStalemate}
+use Rattle.cq_moves.specs.Mate.{HasLegalMove, IsMate, IsStalemate}
 use Rattle.cq_moves.proofs.Order.{passing_is_legal, legal_is_passing}
 
 stuck : (p : Board) → length p.men ≡ 64 → list_any (legal_test p) all_moves ≡ false → ¬ HasLegalMove p

@@ -15,7 +15,7 @@ use Rattle.cq_position.specs.Board.{Board, man_at, stands}
 use Rattle.cq_position.specs.Attacks.{attacks_as, is_occupied, is_pawn_attack}
 use Rattle.cq_position.specs.Legal.{goes_as, reaches, castles, castling_goal, is_single_step, is_double_step, middle}
 use Rattle.cq_moves.specs.Candidates.{double_goal}
-use Rattle.cq_moves.specs.Mover.{is_free}
+use Rattle.cq_moves.specs.Internal.Mover.{is_free}
 use Rattle.cq_moves.proofs.Candidates.{castling_goes}
 
 -- ---- castling

@@ -14,7 +14,7 @@ use Rattle.cq_position.specs.declared.men.Side.TheVariants.{White, Black}
 use Rattle.cq_position.specs.Men.{same_man, opponent, king_of, pawn_of}
 use Rattle.cq_position.specs.Board.{man_at, stands}
 use Rattle.cq_position.specs.Attacks.{is_occupied, is_pawn_attack, is_attacked}
-use Rattle.cq_position.specs.Outward.{is_straight, is_slanted, knight_of, some_man}
+use Rattle.cq_position.specs.AttackTest.{is_orthogonal_slider, is_diagonal_slider, knight_of, some_man}
 use Rattle.cq_position.proofs.Attackers.{attacked_in_ways, none_on_lines}
 
 -- a test that passes less finds less
@@ -47,8 +47,8 @@ left_finds_less kind men from u low none e =
 
 -- which kinds of men no empty square is
 record NoneIsEmpty (by : Side) : Type 0 where
-  straight : is_straight by Empty ≡ false
-  slanted : is_slanted by Empty ≡ false
+  straight : is_orthogonal_slider by Empty ≡ false
+  slanted : is_diagonal_slider by Empty ≡ false
   knight : same_man Empty (knight_of by) ≡ false
   pawn : same_man Empty (pawn_of by) ≡ false
   king : same_man Empty (king_of by) ≡ false
@@ -61,13 +61,13 @@ all_false : (a b c d e : Bool) → a ≡ false → b ≡ false → c ≡ false �
 all_false a b c d e f g h i j = rw (f, g, h, i) j
 
 pub out_of_line : (men : List Man) (by : Side) (from k : ℕ) → from < length men → k < 64
-    → (some_man (λ a. is_straight by (man_at men a)) (is_orthogonal k) || some_man (λ a. is_slanted by (man_at men a)) (is_diagonal k)) ≡ false
+    → (some_man (λ a. is_orthogonal_slider by (man_at men a)) (is_orthogonal k) || some_man (λ a. is_diagonal_slider by (man_at men a)) (is_diagonal k)) ≡ false
     → is_attacked men by k ≡ false → is_attacked (slice_set men from Empty) by k ≡ false
 out_of_line men by from k low board lines safe =
     let left = slice_set men from Empty in
     let none = none_is_empty by in
-    let straight = λ (xs : List Man) (a : ℕ). is_straight by (man_at xs a) in
-    let slanted = λ (xs : List Man) (a : ℕ). is_slanted by (man_at xs a) in
+    let straight = λ (xs : List Man) (a : ℕ). is_orthogonal_slider by (man_at xs a) in
+    let slanted = λ (xs : List Man) (a : ℕ). is_diagonal_slider by (man_at xs a) in
     let knights = some_man (λ a. stands men a (knight_of by)) (is_knight_step k) in
     let pawns = some_man (λ a. stands men a (pawn_of by)) (is_pawn_attack (opponent by) k) in
     let kings = some_man (λ a. stands men a (king_of by)) (is_king_step k) in
@@ -81,8 +81,8 @@ out_of_line men by from k low board lines safe =
     let four = or_parts pawns kings three.1 in
     attacked_in_ways left by k board
     ∙ all_false _ _ _ _ _
-    (none_on_lines (straight left) (is_orthogonal k) (is_open (is_occupied left) k) (left_finds_less (is_straight by) men from (is_orthogonal k) low none.straight parts.0))
-    (none_on_lines (slanted left) (is_diagonal k) (is_open (is_occupied left) k) (left_finds_less (is_slanted by) men from (is_diagonal k) low none.slanted parts.1))
+    (none_on_lines (straight left) (is_orthogonal k) (is_open (is_occupied left) k) (left_finds_less (is_orthogonal_slider by) men from (is_orthogonal k) low none.straight parts.0))
+    (none_on_lines (slanted left) (is_diagonal k) (is_open (is_occupied left) k) (left_finds_less (is_diagonal_slider by) men from (is_diagonal k) low none.slanted parts.1))
     (left_finds_less (λ m. same_man m (knight_of by)) men from (is_knight_step k) low none.knight three.0)
     (left_finds_less (λ m. same_man m (pawn_of by)) men from (is_pawn_attack (opponent by) k) low none.pawn four.0)
     (left_finds_less (λ m. same_man m (king_of by)) men from (is_king_step k) low none.king four.1)

@@ -16,7 +16,7 @@ use Rattle.cq_square_sets.proofs.Bits.{in_both}
 use Rattle.cq_position.specs.Legal.{reaches}
 use Rattle.cq_position.specs.Legality.{legal_test}
 use Rattle.cq_moves.specs.LegalMoves.{move_of, all_moves, moves_from, moves_between, legal_list, legal_from, legal_between}
-use Rattle.cq_moves.specs.Mover.{IsPlain}
+use Rattle.cq_moves.specs.Internal.Mover.{IsPlain}
 use Rattle.cq_moves.proofs.Bits.{lowest_below, has_bit, cleared, set_squares, IsPartly, parts_of_set, any_of_set}
 use Rattle.cq_moves.proofs.Room.{none_from_other, other_has_none}
 use Rattle.cq_moves.proofs.Parts.{legal_list_parts, any_parts, legal_from_parts, none_between_unreached, any_from_parts, unreached_has_none}

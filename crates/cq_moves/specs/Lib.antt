@@ -1,4 +1,4 @@
 pub mod LegalMoves
-pub mod Outcome
-pub mod Mover
+pub mod Mate
 pub mod Candidates
+pub mod Internal

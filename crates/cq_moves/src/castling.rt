@@ -6,7 +6,7 @@ ghost use Rattle.cq_position.specs.Legal as legal;
 
 use cq_geometry::{Square, files_apart};
 use cq_position::attacks::{is_attacked, is_open};
-use cq_position::home::{castling_crossed, castling_goal, king_home, rook_home};
+use cq_position::home_squares::{castling_crossed, castling_goal, king_home, rook_home};
 use cq_position::{Man, Men, Move, Position, Side, king_of, opponent, rook_of};
 
 /// Whether the move is castling: the move of the side's king by two files (FIDE Laws of Chess, article 3.8.2).

@@ -10,11 +10,11 @@ ghost use Rattle.cq_position.specs.King.{IsKingSquare};
 ghost use Rattle.cq_position.specs.Legal as legal;
 ghost use Rattle.cq_position.specs.Legality as legality;
 ghost use Rattle.cq_moves.specs.Candidates.{may_come};
-ghost use Rattle.cq_moves.specs.Mover as mover;
+ghost use Rattle.cq_moves.specs.Internal.Mover as mover;
 
-use crate::after::men_after;
+use crate::men_after::men_after;
 use crate::castling::castles;
-use crate::going::free_squares;
+use crate::goals::free_squares;
 use crate::reach::{attacks, pawn_moves, promotion_is_right, reaches};
 use cq_geometry::Square;
 use cq_position::attacks::is_attacked;

@@ -6,10 +6,10 @@ ghost use Rattle.cq_position.specs.Board.{Board};
 ghost use Rattle.cq_position.specs.Legal.{Legal};
 ghost use Rattle.cq_position.specs.Legal as legal;
 ghost use Rattle.cq_moves.specs.LegalMoves.{legal_list, legal_from, legal_between, if_legal, pieces, Precedes};
-ghost use Rattle.cq_moves.specs.Mover.{IsMover, IsOrigin, IsPlain};
+ghost use Rattle.cq_moves.specs.Internal.Mover.{IsMover, IsOrigin, IsPlain};
 
-use crate::going::goals_from;
-use crate::mover::{Mover, Origin, is_legal_there, is_ordinary, mover_of, origin_of};
+use crate::goals::goals_from;
+use crate::mover::{Mover, Origin, is_legal_to, is_ordinary, mover_of, origin_of};
 use crate::reach::promotes;
 use arrayvec::ArrayVec;
 use cq_geometry::Square;
@@ -170,7 +170,7 @@ fn add_move(
         promotion,
         null: false,
     };
-    if is_legal_there(position, mover, origin, &m) {
+    if is_legal_to(position, mover, origin, &m) {
         moves.push(m);
     }
 }

@@ -12,10 +12,10 @@ ghost use Rattle.cq_position.specs.Legality as legality;
 ghost use Rattle.cq_position.specs.Men as men_spec;
 ghost use Rattle.cq_position.specs.declared.men.Promotion.TheVariants.{None as NoPromotion};
 ghost use Rattle.cq_moves.specs.LegalMoves.{legal_between, move_of};
-ghost use Rattle.cq_moves.specs.Mover.{IsMover, IsOrigin, IsUnexposed};
+ghost use Rattle.cq_moves.specs.Internal.Mover.{IsMover, IsOrigin, IsUnexposed};
 
-use crate::after::is_en_passant_capture;
-use crate::going::free_squares;
+use crate::men_after::is_en_passant_capture;
+use crate::goals::free_squares;
 use crate::legality::is_safe;
 use crate::reach::{last_rank, promotion_is_right};
 use crate::sliders::has_slider_in_line;
@@ -132,7 +132,7 @@ fn is_attacked_without(position: &Position, from: Square, king: Square) -> bool
 
 /// Whether a move of a man to a square to which it goes is legal.
 #[inline]
-pub(crate) fn is_legal_there(position: &Position, mover: &Mover, origin: &Origin, m: &Move) -> bool
+pub(crate) fn is_legal_to(position: &Position, mover: &Mover, origin: &Origin, m: &Move) -> bool
     requires mover { IsMover position.now mover.now }
     requires origin { IsOrigin position.now origin.now }
     requires from { m.now.from ≡ origin.now.from }

@@ -5,9 +5,9 @@ ghost use Rattle.cq_position.specs.Legal.{Legal};
 ghost use Rattle.cq_position.specs.Legal as legal;
 ghost use Rattle.cq_position.specs.Position.{IsPosition};
 
-use crate::after::{men_after, middle};
+use crate::men_after::{men_after, middle};
 use cq_geometry::{Square, ranks_apart};
-use cq_position::home::rook_home;
+use cq_position::home_squares::rook_home;
 use cq_position::position::is_pawn;
 use cq_position::{Move, Position, Rights, Side, king_of, opponent};
 

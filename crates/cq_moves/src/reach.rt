@@ -7,16 +7,16 @@ ghost use Rattle.cq_moves.specs.Candidates.{is_ahead, may_come};
 ghost use Rattle.cq_position.specs.Position.{IsPosition};
 ghost use Rattle.cq_moves.specs.LegalMoves as list;
 
-use crate::after::middle;
+use crate::men_after::middle;
 use crate::castling::castles;
 use cq_geometry::{Square, Step, rank};
 use cq_position::attacks::{is_occupied, is_pawn_attack, squares_attacked};
-use cq_position::home::king_home;
+use cq_position::home_squares::king_home;
 use cq_position::position::is_pawn;
 use cq_position::{
     Man, Move, Piece, Position, Promotion, Side, is_of_side, king_of, man_of, opponent,
 };
-use cq_square_sets::mark;
+use cq_square_sets::set_of;
 
 /// Whether a man of the side to move goes from one square to another, which holds none of its own men and no king. `attacked` tells whether
 /// the man attacks the other square.
@@ -56,7 +56,7 @@ pub fn origins_to(position: &Position, piece: Piece, goal: Square) -> u64
     let side = position.side();
     match piece {
         Piece::King => squares_attacked(king_of(side), position.men(), goal)
-            | mark(Some(king_home(side))),
+            | set_of(Some(king_home(side))),
         Piece::Pawn => {
             squares_attacked(man_of(opponent(side), Piece::Pawn), position.men(), goal)
                 | squares_ahead(opponent(side), goal)
@@ -70,8 +70,8 @@ fn squares_ahead(side: Side, from: Square) -> u64
     ensures { IsBitboard result (is_ahead side from) }
 {
     match side {
-        Side::White => mark(Step::<0, 1>::step(from)) | mark(Step::<0, 2>::step(from)),
-        Side::Black => mark(Step::<0, -1>::step(from)) | mark(Step::<0, -2>::step(from)),
+        Side::White => set_of(Step::<0, 1>::step(from)) | set_of(Step::<0, 2>::step(from)),
+        Side::Black => set_of(Step::<0, -1>::step(from)) | set_of(Step::<0, -2>::step(from)),
     }
 }
 

@@ -7,9 +7,9 @@ use Rattle.std.specs.Ordering.{eq_by_cmp, nat_cmp}
 use Rattle.std.specs.Cmp.{eq_by_cmp_equiv}
 use Rattle.std.specs.Cmp.Lexicographic.{slice_cmp, nat_list_cmp_total}
 use Rattle.std.specs.FinMap.{find, get, entries, get-entries, insert, from_entries, get-from_entries, get-insert, same_map, from_entries_push, slice_cmp-IsAntisymmetric, nat_cmp-IsAntisymmetric, IsAntisymmetric}
-use Rattle.cq_outside.specs.Told.{Files, Opens, bytes_of}
+use Rattle.cq_outside.specs.DeskFiles.{Files, Opens, bytes_of}
 use Rattle.cq_outside.specs.MemSource.{FailingSource}
-use Rattle.cq_outside.specs.MemDesk.{FailingDesk, FailingFile, FailingFiles, bytes_by_name, told_of}
+use Rattle.cq_outside.specs.MemDesk.{FailingDesk, FailingFile, FailingFiles, bytes_by_name, desk_files_of}
 
 -- whether two names are the same
 abbrev names : List ℕ → List ℕ → Bool
@@ -123,7 +123,7 @@ bytes_named files k o is =
 -- what a desk tells once it has opened a file, and the bytes that are then left
 pub opened_tells : (now inside : FailingDesk) (opened : List (List ℕ)) (name : List ℕ) (file : FailingFile) (source : FailingSource) → inside ≡ now
     → opened ≡ inside.opened ++ name ∷ [] → get inside.files name ≡ Some file → source.left ≡ file.bytes
-    → Opens (Some (told_of now)) (Some (record { files = bytes_by_name inside.files; opened = opened })) name (Some source.left)
+    → Opens (Some (desk_files_of now)) (Some (record { files = bytes_by_name inside.files; opened = opened })) name (Some source.left)
 opened_tells now inside opened name file source same grown has left = (
   ap Some (ap₂ (λ (f : Files) (o : List (List ℕ)). record { files = f; opened = o }) (ap (λ (d : FailingDesk). bytes_by_name d.files) same)
       (grown ∙ ap (λ (d : FailingDesk). d.opened ++ name ∷ []) same)),

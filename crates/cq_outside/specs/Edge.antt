@@ -2,8 +2,8 @@
 use Rattle.std.specs.Prelude.{◌≡◌, ℕ, ◌+◌, ◌<◌, ◌≤◌, ◌⊎◌, List, [], length, codes, Option, None, Some, Result, Ok, Err, IsUtf8}
 use Rattle.cq_common.specs.declared.faults.Failed.{Failed}
 use Rattle.cq_common.specs.declared.faults.OpenFault.{OpenFault}
-use Rattle.cq_outside.specs.declared.edge.Current.{Current}
-use Rattle.cq_outside.specs.declared.edge.Current.TheVariants.{Nothing, Input, File}
+use Rattle.cq_outside.specs.declared.edge.OpenInput.{OpenInput}
+use Rattle.cq_outside.specs.declared.edge.OpenInput.TheVariants.{Nothing, Input, File}
 
 -- a stream that is read: the bytes that are left of it, and how many reads it was asked for, each where its reader tells
 pub record Stream : Type 0 where
@@ -17,15 +17,15 @@ pub record RealDesk : Type 0 where
   pub open_faults : ℕ
   pub openings : Option ℕ
   pub input : Stream
-  pub current : Current Stream
+  pub current : OpenInput Stream
 
 -- the stream that is open: where nothing is open, one that is at its end and tells no reads
 abbrev pub open_stream : RealDesk → Stream
 open_stream desk = elim desk.current [ Nothing ↦ record { left = Some []; reads = None } | Input ↦ desk.input | File stream ↦ stream ]
 
 -- the bytes that are left of what is open, where its reader tells them: none where nothing is open
-abbrev pub left_of : RealDesk → Option (List ℕ)
-left_of desk = (open_stream desk).left
+abbrev pub bytes_left : RealDesk → Option (List ℕ)
+bytes_left desk = (open_stream desk).left
 
 -- the same desk once what is open is this stream
 abbrev pub with_stream : RealDesk → Stream → RealDesk
@@ -48,13 +48,13 @@ IsOneMore (Some before) now = now ≡ Some (before + 1)
 
 -- Once a name was opened, the system was asked for one opening more; for standard input, and for a name that is no text, it
 -- was asked for none.
-pub record IsAskedOnce (name : List ℕ) (before now : Option ℕ) : Type 0 where
+pub record CountsOpening (name : List ℕ) (before now : Option ℕ) : Type 0 where
   pub file : IsUtf8 name → (name ≡ codes "-" → ⊥) → IsOneMore before now
   pub input : name ≡ codes "-" → now ≡ before
   pub no_text : (IsUtf8 name → ⊥) → now ≡ before
 
 -- what is open once a name was opened: standard input for `-`, for any other name a file
-abbrev pub IsOpened : List ℕ → Current Stream → Type 0
+abbrev pub IsOpened : List ℕ → OpenInput Stream → Type 0
 IsOpened name Nothing = ⊥
 IsOpened name Input = name ≡ codes "-"
 IsOpened name (File _) = name ≡ codes "-" → ⊥
@@ -72,7 +72,7 @@ IsReadOf of_input of_file desk result =
     elim desk.current [ Nothing ↦ result ≡ Ok 0 | Input ↦ of_input desk.input result | File stream ↦ of_file stream result ]
 
 -- what is open is standard input, or the file that was opened by this name
-abbrev pub IsFileOf : (List ℕ → Stream → Type 0) → List ℕ → Current Stream → Type 0
+abbrev pub IsFileOf : (List ℕ → Stream → Type 0) → List ℕ → OpenInput Stream → Type 0
 IsFileOf opened name Nothing = ⊥
 IsFileOf opened name Input = name ≡ codes "-"
 IsFileOf opened name (File stream) = opened name stream

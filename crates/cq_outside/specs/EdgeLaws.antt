@@ -1,28 +1,28 @@
 -- Laws of a desk over the real files along reads.
 use Rattle.std.specs.Prelude.{◌≡◌, ℕ, Option}
 use Rattle.std.proofs.Common.{refl, ap, ◌∙◌, le_refl, le_trans}
-use Rattle.cq_outside.specs.declared.edge.Current.{Current}
-use Rattle.cq_outside.specs.declared.edge.Current.TheVariants.{Nothing, Input, File}
+use Rattle.cq_outside.specs.declared.edge.OpenInput.{OpenInput}
+use Rattle.cq_outside.specs.declared.edge.OpenInput.TheVariants.{Nothing, Input, File}
 use Rattle.cq_outside.specs.Edge.{RealDesk, Stream, open_stream, with_stream, ReadsOn}
 
-abbrev desk : ℕ → ℕ → Option ℕ → Stream → Current Stream → RealDesk
+abbrev desk : ℕ → ℕ → Option ℕ → Stream → OpenInput Stream → RealDesk
 desk reads opens openings input current =
     record { read_faults = reads; open_faults = opens; openings = openings; input = input; current = current }
 
-with_its_own : (r o : ℕ) (n : Option ℕ) (i : Stream) (c : Current Stream)
+with_its_own : (r o : ℕ) (n : Option ℕ) (i : Stream) (c : OpenInput Stream)
     → desk r o n i c ≡ with_stream (desk r o n i c) (open_stream (desk r o n i c))
 with_its_own r o n i Nothing = refl
 with_its_own r o n i Input = refl
 with_its_own r o n i (File stream) = refl
 
 -- the stream at last is the one that was said last
-with_last : (r o q m : ℕ) (n : Option ℕ) (i a b : Stream) (c : Current Stream)
+with_last : (r o q m : ℕ) (n : Option ℕ) (i a b : Stream) (c : OpenInput Stream)
     → with_stream (record (with_stream (desk q o n i c) a) { read_faults = m }) b ≡ with_stream (desk m o n i c) b
 with_last r o q m n i a b Nothing = refl
 with_last r o q m n i a b Input = refl
 with_last r o q m n i a b (File stream) = refl
 
-with_same_opens : (r o : ℕ) (n : Option ℕ) (i a : Stream) (c : Current Stream) → (with_stream (desk r o n i c) a).open_faults ≡ o
+with_same_opens : (r o : ℕ) (n : Option ℕ) (i a : Stream) (c : OpenInput Stream) → (with_stream (desk r o n i c) a).open_faults ≡ o
 with_same_opens r o n i a Nothing = refl
 with_same_opens r o n i a Input = refl
 with_same_opens r o n i a (File stream) = refl

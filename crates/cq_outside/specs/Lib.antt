@@ -3,10 +3,10 @@ pub mod Edge
 pub mod EdgeLaws
 pub mod Faults
 pub mod Flow
-pub mod Kept
+pub mod BoundedBytes
 pub mod MemDesk
 pub mod MemSink
 pub mod MemSource
 pub mod ReadLaws
-pub mod Told
+pub mod DeskFiles
 pub mod Words

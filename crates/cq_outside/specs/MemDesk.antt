@@ -6,7 +6,7 @@ use Rattle.std.specs.Cmp.Lexicographic.{slice_cmp}
 use Rattle.std.specs.FinMap.{FinMap, get, entries, from_entries, code}
 use Rattle.cq_outside.specs.Calls.{one_more, is_listed}
 use Rattle.cq_outside.specs.MemSource.{FailingSource, Follows}
-use Rattle.cq_outside.specs.Told.{Files, Told}
+use Rattle.cq_outside.specs.DeskFiles.{Files, DeskFiles}
 
 -- a file: its bytes, how many of them a read gives at most, and the numbers of the reads that fail, counted from its opening
 pub record FailingFile : Type 0 where
@@ -36,8 +36,8 @@ abbrev pub bytes_by_name : FailingFiles → Files
 bytes_by_name files = from_entries (map (λ e. (e.0, e.1.bytes)) (entries files))
 
 -- what the desk tells of its files
-abbrev pub told_of : FailingDesk → Told
-told_of desk = record { files = bytes_by_name desk.files; opened = desk.opened }
+abbrev pub desk_files_of : FailingDesk → DeskFiles
+desk_files_of desk = record { files = bytes_by_name desk.files; opened = desk.opened }
 
 -- whether the next opening fails: its number is one of those that are given, where the first opening has the number 1, or there is no
 -- file of the name

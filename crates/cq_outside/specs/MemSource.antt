@@ -17,19 +17,19 @@ abbrev pub fails_next : FailingSource → Bool
 fails_next source = is_listed source.fails (one_more source.reads)
 
 -- how many bytes a read that doesn't fail moves to a buffer of this length
-abbrev pub moved_to : FailingSource → ℕ → ℕ
-moved_to source room = min (length source.left) (min source.piece room)
+abbrev pub read_len : FailingSource → ℕ → ℕ
+read_len source room = min (length source.left) (min source.piece room)
 
 -- what the next read answers for a buffer of this length
-abbrev pub answer_of : FailingSource → ℕ → Result ℕ Failed
-answer_of source room = if fails_next source then Err (record {}) else Ok (moved_to source room)
+abbrev pub result_of : FailingSource → ℕ → Result ℕ Failed
+result_of source room = if fails_next source then Err (record {}) else Ok (read_len source room)
 
 -- the source after one read to a buffer of this length
 abbrev pub after_read : FailingSource → ℕ → FailingSource
 after_read source room =
     if fails_next source
     then record source { reads = one_more source.reads; faults = one_more source.faults }
-    else record source { reads = one_more source.reads; left = drop (moved_to source room) source.left }
+    else record source { reads = one_more source.reads; left = drop (read_len source room) source.left }
 
 -- the source after reads to buffers of these lengths
 abbrev pub after_reads : FailingSource → List ℕ → FailingSource

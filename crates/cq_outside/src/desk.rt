@@ -1,7 +1,7 @@
 //! Files that are opened by name, one at a time.
 ghost use Rattle.std.specs.Prelude.{◌≡◌, ◌≤◌, List, ℕ, Option, OnOk, OnErr, IsErrOf};
 ghost use Rattle.cq_outside.specs.Faults.{Rose};
-ghost use Rattle.cq_outside.specs.Told.{Told, Opens};
+ghost use Rattle.cq_outside.specs.DeskFiles.{DeskFiles, Opens};
 ghost use Rattle.cq_common.specs.declared.faults.OpenFault.TheVariants.{Failed};
 
 use crate::source::Source;
@@ -11,7 +11,7 @@ use std::alloc::Global;
 /// A source whose file is opened by name.
 pub trait Desk: Source {
     /// The files by name, and the names that were opened, where the desk tells them.
-    ghost told: { Self → Option Told };
+    ghost told: { Self → Option DeskFiles };
 
     /// How often a file could not be opened.
     ghost open_faults: { Self → ℕ };

@@ -2,14 +2,14 @@
 //! readers and the writer that they stand on tell theirs. Each call answers what one call of the system gave.
 ghost use Rattle.std.specs.Prelude.{◌≡◌, ◌≤◌, ◌<◌, ◌↔◌, None, length, codes, IsTrue, IfOk, IfSome, IsOk, IsNone, OnOk, OnErr, IsUtf8};
 ghost use Rattle.std.specs.Io.KnownBytes.{ReadConsumes, WriteAppends};
-ghost use Rattle.cq_outside.specs.Edge.{left_of, open_stream, with_stream, IsAskedOnce, IsOneMore, IsOpened, IsReadOf, IsOpenedBy, IsWriteOf, ReadsOn};
+ghost use Rattle.cq_outside.specs.Edge.{bytes_left, open_stream, with_stream, CountsOpening, IsOneMore, IsOpened, IsReadOf, IsOpenedBy, IsWriteOf, ReadsOn};
 ghost use Rattle.cq_outside.specs.Faults.{HasCause, counted};
-ghost use Rattle.cq_outside.specs.declared.edge.Current.TheVariants.{Nothing};
+ghost use Rattle.cq_outside.specs.declared.edge.OpenInput.TheVariants.{Nothing};
 
 use crate::desk::Desk;
 use crate::sink::Sink;
 use crate::source::Source;
-use crate::system::{Folder, Reader, Writer};
+use crate::system::{FileSystem, Reader, Writer};
 use cq_common::{Failed, NoMemory, OpenFault};
 use std::alloc::Global;
 use std::marker::Model;
@@ -20,15 +20,15 @@ const STANDARD_INPUT: &[u8] = b"-";
 
 /// What the desk reads.
 #[derive(Drop)]
-enum Current<F> {
+enum OpenInput<F> {
     Nothing,
     Input,
     File(F),
 }
 
-impl<F: Drop> Current<F> {
+impl<F: Drop> OpenInput<F> {
     // Reads this from now on.
-    fn set(&mut self, next: Current<F>)
+    fn set(&mut self, next: OpenInput<F>)
         ensures { self.new ≡ next }
     {
         *self = next;
@@ -40,17 +40,17 @@ impl<F: Drop> Current<F> {
 /// asked for, where they tell, what is open, and of it and of standard input the bytes left and how many reads were asked for,
 /// where their readers tell them.
 #[derive(Drop)]
-pub struct FileDesk<R: Folder, I: Reader> {
+pub struct FileDesk<R: FileSystem, I: Reader> {
     files: R,
     input: I,
-    current: Current<R::File>,
+    current: OpenInput<R::File>,
     read_faults: u64,
     open_faults: u64,
 }
 
-impl<R: Folder, I: Reader> Model for FileDesk<R, I> {
+impl<R: FileSystem, I: Reader> Model for FileDesk<R, I> {
     ghost use Rattle.cq_outside.specs.Edge.{RealDesk};
-    ghost use Rattle.cq_outside.specs.declared.edge.Current.TheVariants.{Nothing, Input, File};
+    ghost use Rattle.cq_outside.specs.declared.edge.OpenInput.TheVariants.{Nothing, Input, File};
 
     ghost Value = { RealDesk };
 
@@ -67,7 +67,7 @@ impl<R: Folder, I: Reader> Model for FileDesk<R, I> {
     } };
 }
 
-impl<R: Folder, I: Reader> FileDesk<R, I> {
+impl<R: FileSystem, I: Reader> FileDesk<R, I> {
     /// A desk on which nothing is open, over the runtime's files and its standard input. It takes no memory, and so
     /// is never refused.
     pub fn new(_alloc: Global, files: R, input: I) -> Result<FileDesk<R, I>, NoMemory>
@@ -82,15 +82,15 @@ impl<R: Folder, I: Reader> FileDesk<R, I> {
         Ok(FileDesk {
             files,
             input,
-            current: Current::Nothing,
+            current: OpenInput::Nothing,
             read_faults: 0,
             open_faults: 0,
         })
     }
 }
 
-impl<R: Folder, I: Reader> Source for FileDesk<R, I> {
-    ghost left = { left_of };
+impl<R: FileSystem, I: Reader> Source for FileDesk<R, I> {
+    ghost left = { bytes_left };
 
     ghost faults = { λ d. d.read_faults };
 
@@ -98,7 +98,7 @@ impl<R: Folder, I: Reader> Source for FileDesk<R, I> {
 
     fn read(&mut self, buf: &mut [u8]) -> Result<usize, Failed>
         ensures bound { IfOk result (λ n. n ≤ length buf.old) }
-        ensures bytes { ReadConsumes (left_of self.old) (left_of self.new) result buf.new }
+        ensures bytes { ReadConsumes (bytes_left self.old) (bytes_left self.new) result buf.new }
         ensures cause { HasCause self.old.read_faults self.new.read_faults result }
         ensures same { self.new
             ≡ with_stream (record self.old { read_faults = counted self.old.read_faults result }) (open_stream self.new) }
@@ -106,9 +106,9 @@ impl<R: Folder, I: Reader> Source for FileDesk<R, I> {
         ensures gave { IsReadOf I.gave R.File.gave self.old result }
     {
         let moved = match &mut self.current {
-            Current::Nothing => Ok(0),
-            Current::Input => self.input.read_once(buf),
-            Current::File(file) => file.read_once(buf),
+            OpenInput::Nothing => Ok(0),
+            OpenInput::Input => self.input.read_once(buf),
+            OpenInput::File(file) => file.read_once(buf),
         };
         if let Ok(n) = moved {
             return Ok(n);
@@ -126,7 +126,7 @@ impl<R: Folder, I: Reader> Source for FileDesk<R, I> {
     ghost never_falls = { λ s t f. f.0 };
 }
 
-impl<R: Folder, I: Reader> Desk for FileDesk<R, I> {
+impl<R: FileSystem, I: Reader> Desk for FileDesk<R, I> {
     ghost told = { λ _. None };
 
     ghost open_faults = { λ d. d.open_faults };
@@ -142,16 +142,16 @@ impl<R: Folder, I: Reader> Desk for FileDesk<R, I> {
           openings = self.new.openings;
           current = self.new.current;
         } }
-        ensures asked { IsAskedOnce name.now self.old.openings self.new.openings }
+        ensures asked { CountsOpening name.now self.old.openings self.new.openings }
         ensures kept { OnErr result (self.new.current ≡ self.old.current) }
         ensures gave { IsOpenedBy R.opened R.refused name.now self.new result }
     {
         if is_standard_input(name) {
-            self.current.set(Current::Input);
+            self.current.set(OpenInput::Input);
             return Ok(());
         }
         if let Some(file) = file_named(&mut self.files, name) {
-            self.current.set(Current::File(file));
+            self.current.set(OpenInput::File(file));
             return Ok(());
         }
         self.open_faults = self.open_faults.saturating_add(1);
@@ -174,7 +174,7 @@ fn is_standard_input(name: &[u8]) -> bool
 }
 
 // The file of this name, opened for reading. A name that is not UTF-8 has none.
-fn file_named<R: Folder>(files: &mut R, name: &[u8]) -> Option<R::File>
+fn file_named<R: FileSystem>(files: &mut R, name: &[u8]) -> Option<R::File>
     ensures opened { IfSome result (λ file. IsUtf8 name.now
         × R.opened name.now (record { left = R.File.left file; reads = R.File.reads file })) }
     ensures refused { IsNone result → IsUtf8 name.now → R.refused name.now }

@@ -3,7 +3,7 @@
 #![tactic(auto)]
 
 mod arguments;
-mod by_name;
+mod name_map;
 pub mod calls;
 pub mod desk;
 pub mod edge;
@@ -11,7 +11,7 @@ pub mod gate;
 pub mod mem_desk;
 pub mod mem_sink;
 pub mod mem_source;
-pub mod pieces;
+pub mod read_write;
 pub mod sink;
 pub mod source;
 pub mod sure_desk;
@@ -28,7 +28,7 @@ pub use gate::{Gate, OpenGate};
 pub use mem_desk::MemDesk;
 pub use mem_sink::MemSink;
 pub use mem_source::MemSource;
-pub use pieces::{read_piece, read_up_to, write_all_of};
+pub use read_write::{read_piece, read_up_to, write_all_of};
 pub use sink::Sink;
 pub use source::Source;
 pub use sure_desk::SureDesk;

@@ -4,12 +4,12 @@ ghost use Rattle.std.specs.Io.KnownBytes.{ReadConsumes};
 ghost use Rattle.std.specs.FinMap as map;
 ghost use Rattle.cq_outside.specs.Calls.{one_more, is_listed};
 ghost use Rattle.cq_outside.specs.Faults.{HasCause, Rose};
-ghost use Rattle.cq_outside.specs.Told.{Opens};
-ghost use Rattle.cq_outside.specs.MemSource.{after_read, answer_of};
-ghost use Rattle.cq_outside.specs.MemDesk.{FailingDesk, ReadsOn, files_of, told_of, fails_next, just_opened, after_open};
+ghost use Rattle.cq_outside.specs.DeskFiles.{Opens};
+ghost use Rattle.cq_outside.specs.MemSource.{after_read, result_of};
+ghost use Rattle.cq_outside.specs.MemDesk.{FailingDesk, ReadsOn, files_of, desk_files_of, fails_next, just_opened, after_open};
 ghost use Rattle.cq_common.specs.declared.faults.OpenFault.TheVariants.{Failed as failed, NoMemory as no_memory};
 
-use crate::by_name::{place_of, push_name, put};
+use crate::name_map::{place_of, push_name, put};
 use crate::calls::Calls;
 use crate::desk::Desk;
 use crate::mem_source::MemSource;
@@ -172,7 +172,7 @@ impl Source for MemDesk {
     /// Fails where the number of this read since the file was opened is one of those given with it, and else moves as
     /// many bytes as are left, fit `buf` and make up a piece at most.
     fn read(&mut self, buf: &mut [u8]) -> Result<usize, Failed>
-        ensures answer { result ≡ answer_of self.old.current (length buf.old) }
+        ensures answer { result ≡ result_of self.old.current (length buf.old) }
         ensures listed { IsErr result ↔ Contains self.old.current.fails (one_more self.old.current.reads) }
         ensures state { self.new ≡ record self.old { current = after_read self.old.current (length buf.old) } }
         ensures bound { IfOk result (λ n. n ≤ length buf.old) }
@@ -195,7 +195,7 @@ impl Source for MemDesk {
 }
 
 impl Desk for MemDesk {
-    ghost told = { λ d. Some (told_of d) };
+    ghost told = { λ d. Some (desk_files_of d) };
 
     ghost open_faults = { λ d. d.open_faults };
 
@@ -204,8 +204,8 @@ impl Desk for MemDesk {
         ensures fails { (result ≡ Err failed) ↔ (fails_next self.old name.now ≡ true) }
         ensures state { (result ≡ Err no_memory → ⊥) → self.new ≡ after_open self.old name.now }
         ensures refused { result ≡ Err no_memory → self.new ≡ record self.old { opens = one_more self.old.opens } }
-        ensures opened { OnOk result (Opens (Some (told_of self.old)) (Some (told_of self.new)) name.now (Some self.new.current.left)) }
-        ensures told { OnErr result (told_of self.new ≡ told_of self.old) }
+        ensures opened { OnOk result (Opens (Some (desk_files_of self.old)) (Some (desk_files_of self.new)) name.now (Some self.new.current.left)) }
+        ensures told { OnErr result (desk_files_of self.new ≡ desk_files_of self.old) }
         ensures current { OnErr result (self.new.current ≡ self.old.current) }
         ensures reads { self.new.current.faults ≡ self.old.current.faults }
         ensures later { self.old.open_faults ≤ self.new.open_faults }
@@ -225,7 +225,7 @@ impl Desk for MemDesk {
 
     ghost use Rattle.std.proofs.Common.{refl, ap};
 
-    ghost keeps_told = { λ s t f. ap (λ (d : FailingDesk). Some (told_of d)) f.0 };
+    ghost keeps_told = { λ s t f. ap (λ (d : FailingDesk). Some (desk_files_of d)) f.0 };
 
     ghost keeps_open_faults = { λ s t f. ap (λ (d : FailingDesk). d.open_faults) f.0 };
 }

@@ -4,7 +4,7 @@ ghost use Rattle.std.specs.Option.{option_copied};
 ghost use Rattle.cq_outside.specs.Faults.{HasCause};
 ghost use Rattle.cq_outside.specs.Flow.{WriteTakes};
 ghost use Rattle.cq_outside.specs.Calls.{one_more};
-ghost use Rattle.cq_outside.specs.MemSink.{after_write, answer_of};
+ghost use Rattle.cq_outside.specs.MemSink.{after_write, result_of};
 
 use crate::calls::{Calls, fails_next};
 use crate::sink::Sink;
@@ -81,7 +81,7 @@ impl Sink for MemSink {
 
     /// Fails where the number of this write is one of those given, and else takes as many bytes as make up a piece at most.
     fn write(&mut self, bytes: &[u8]) -> Result<usize, Failed>
-        ensures answer { result ≡ answer_of self.old bytes.now }
+        ensures answer { result ≡ result_of self.old bytes.now }
         ensures listed { IsErr result ↔ Contains self.old.fails (one_more self.old.writes) }
         ensures state { self.new ≡ after_write self.old bytes.now }
         ensures bound { IfOk result (λ n. n ≤ length bytes.now) }

@@ -3,7 +3,7 @@ ghost use Rattle.std.specs.Prelude.{◌≡◌, ◌≤◌, ◌↔◌, [], Some, l
 ghost use Rattle.std.specs.Io.KnownBytes.{ReadConsumes};
 ghost use Rattle.cq_outside.specs.Faults.{HasCause};
 ghost use Rattle.cq_outside.specs.Calls.{one_more};
-ghost use Rattle.cq_outside.specs.MemSource.{Follows, after_read, answer_of};
+ghost use Rattle.cq_outside.specs.MemSource.{Follows, after_read, result_of};
 
 use crate::calls::{Calls, fails_next};
 use crate::source::Source;
@@ -99,7 +99,7 @@ impl Source for MemSource {
     /// Fails where the number of this read is one of those given, and else moves as many bytes as are left, fit `buf`
     /// and make up a piece at most.
     fn read(&mut self, buf: &mut [u8]) -> Result<usize, Failed>
-        ensures answer { result ≡ answer_of self.old (length buf.old) }
+        ensures answer { result ≡ result_of self.old (length buf.old) }
         ensures listed { IsErr result ↔ Contains self.old.fails (one_more self.old.reads) }
         ensures state { self.new ≡ after_read self.old (length buf.old) }
         ensures bound { IfOk result (λ n. n ≤ length buf.old) }

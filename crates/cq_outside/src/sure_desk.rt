@@ -3,9 +3,9 @@ ghost use Rattle.std.specs.Prelude.{◌≡◌, ◌≤◌, ◌++◌, List, [], �
 ghost use Rattle.std.specs.Io.KnownBytes.{ReadConsumes};
 ghost use Rattle.std.specs.FinMap as map;
 ghost use Rattle.cq_outside.specs.Faults.{HasCause};
-ghost use Rattle.cq_outside.specs.Told.{KnownDesk, told_of, bytes_of};
+ghost use Rattle.cq_outside.specs.DeskFiles.{KnownDesk, desk_files_of, bytes_of};
 
-use crate::by_name::{place_of, push_name, put};
+use crate::name_map::{place_of, push_name, put};
 use crate::desk::Desk;
 use crate::source::Source;
 use crate::sure_source::SureSource;
@@ -24,7 +24,7 @@ pub struct SureDesk {
 
 impl Model for SureDesk {
     ghost use Rattle.std.specs.FinMap as map;
-    ghost use Rattle.cq_outside.specs.Told.{KnownDesk, known_desk_code};
+    ghost use Rattle.cq_outside.specs.DeskFiles.{KnownDesk, known_desk_code};
 
     ghost Value = { KnownDesk };
 
@@ -71,7 +71,7 @@ impl Source for SureDesk {
 
     ghost faults = { λ _. 0 };
 
-    ghost follows = { λ s t. (told_of t ≡ told_of s) × ((bytes : List ℕ) × (s.left ≡ bytes ++ t.left)) };
+    ghost follows = { λ s t. (desk_files_of t ≡ desk_files_of s) × ((bytes : List ℕ) × (s.left ≡ bytes ++ t.left)) };
 
     /// Moves as many bytes as are left and fit `buf`.
     fn read(&mut self, buf: &mut [u8]) -> Result<usize, Failed>
@@ -96,7 +96,7 @@ impl Source for SureDesk {
 }
 
 impl Desk for SureDesk {
-    ghost told = { λ d. Some (told_of d) };
+    ghost told = { λ d. Some (desk_files_of d) };
 
     ghost open_faults = { λ _. 0 };
 

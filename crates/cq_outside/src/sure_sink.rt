@@ -1,7 +1,7 @@
 //! A sink in memory that never fails.
 ghost use Rattle.std.specs.Prelude.{◌≡◌, List, [], ◌++◌, ℕ, length, IfOk, Some};
 ghost use Rattle.std.specs.Option.{option_copied};
-ghost use Rattle.cq_outside.specs.Kept.{Kept, taken_and, within};
+ghost use Rattle.cq_outside.specs.BoundedBytes.{BoundedBytes, taken_with, bytes_if_fit};
 
 use crate::sink::Sink;
 use cq_common::{Failed, NoMemory};
@@ -19,9 +19,9 @@ pub struct SureSink {
 
 impl Model for SureSink {
     ghost use Rattle.std.specs.Prelude.{◌≤◌, Some, None, vec_capacity, vec_len, if◌then◌else◌};
-    ghost use Rattle.cq_outside.specs.Kept.{Kept};
+    ghost use Rattle.cq_outside.specs.BoundedBytes.{BoundedBytes};
 
-    ghost Value = { Kept };
+    ghost Value = { BoundedBytes };
 
     ghost view = { λ s. record { room = s.room; taken = if s.is_past_room then None else Some s.bytes.items } };
 
@@ -60,9 +60,9 @@ impl Sink for SureSink {
     /// Takes all of `bytes`.
     fn write(&mut self, bytes: &[u8]) -> Result<usize, Failed>
         ensures all { result ≡ Ok (length bytes.now) }
-        ensures within { (before : List ℕ) → self.old.taken ≡ within self.old.room before
-            → self.new.taken ≡ within self.old.room (before ++ bytes.now) }
-        ensures kept { self.new ≡ record { room = self.old.room; taken = taken_and self.old.room self.old.taken bytes.now } }
+        ensures within { (before : List ℕ) → self.old.taken ≡ bytes_if_fit self.old.room before
+            → self.new.taken ≡ bytes_if_fit self.old.room (before ++ bytes.now) }
+        ensures kept { self.new ≡ record { room = self.old.room; taken = taken_with self.old.room self.old.taken bytes.now } }
     {
         if self.is_past_room || bytes.len() > self.room - self.bytes.len() {
             self.is_past_room = true;

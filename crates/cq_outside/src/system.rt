@@ -72,7 +72,7 @@ impl<W: Write + Drop> Writer for W {
 }
 
 /// The files of the system by name.
-pub trait Folder: Drop {
+pub trait FileSystem: Drop {
     type File: Reader;
 
     /// A file of this name was opened, in this state.
@@ -91,7 +91,7 @@ pub trait Folder: Drop {
         ensures counted { IsOneMore (openings self.old) (openings self.new) };
 }
 
-impl<R: Files + Drop> Folder for R {
+impl<R: Files + Drop> FileSystem for R {
     type File = R::File;
 
     ghost opened = { λ _ _. Unit {0} };

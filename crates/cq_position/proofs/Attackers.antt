@@ -11,7 +11,7 @@ use Rattle.std.proofs.lemmas.List.Folds.{list_all-append}
 use Rattle.cq_geometry.specs.declared.compass.Compass.{Compass}
 use Rattle.cq_geometry.specs.Squares.{squares, file_of, rank_of}
 use Rattle.cq_geometry.specs.Steps.{ray_from, is_king_step, is_knight_step, king_squares, knight_squares}
-use Rattle.cq_geometry.specs.Expansions.{king_goals, knight_goals, kept_goals}
+use Rattle.cq_geometry.specs.Internal.Expansions.{king_goals, knight_goals, kept_goals}
 use Rattle.cq_geometry.specs.Directions.{files_of, ranks_of}
 use Rattle.cq_geometry.specs.Lines.{between_squares, is_open, is_orthogonal, is_diagonal, rising_of, falling_of, seen, sees, orthogonals, diagonals}
 use Rattle.cq_geometry.proofs.Board.{squares_board}
@@ -30,7 +30,7 @@ use Rattle.cq_position.specs.Board.{man_at, stands}
 use Rattle.cq_position.specs.Attacks.{is_occupied, is_pawn_attack, attacks_as, attacks, attacker, is_attacked}
 use Rattle.cq_square_sets.specs.Bitboards.{IsBitboard, contains}
 use Rattle.cq_square_sets.proofs.Marked.{marks_same, marks_or}
-use Rattle.cq_position.specs.Outward.{first_man, is_straight, is_slanted, knight_of, first_is, holds, pawn_origins, some_man}
+use Rattle.cq_position.specs.AttackTest.{first_man, is_orthogonal_slider, is_diagonal_slider, knight_of, first_is, holds, pawn_origins, some_man}
 
 -- ---- tests of some element
 pub any_same : {X : Type 0} (p q : X → Bool) → ((x : X) → p x ≡ q x) → (xs : List X) → list_any p xs ≡ list_any q xs
@@ -184,33 +184,33 @@ along kind men directions s e =
     ∙ any_same (λ c. list_any (λ a. kind (man_at men a)) (seen (is_occupied men) (ray c))) (λ c. kind (first_man men (ray c)))
     (λ c. first_decides kind men (ray c) e) directions
 
-no_straight : (by : Side) → is_straight by Empty ≡ false
+no_straight : (by : Side) → is_orthogonal_slider by Empty ≡ false
 no_straight White = refl
 no_straight Black = refl
 
-no_slanted : (by : Side) → is_slanted by Empty ≡ false
+no_slanted : (by : Side) → is_diagonal_slider by Empty ≡ false
 no_slanted White = refl
 no_slanted Black = refl
 
 straight_attacks : (men : List Man) (by : Side) (s : ℕ) → s < 64
-    → list_any (λ a. is_straight by (man_at men a) && (is_orthogonal a s && is_open (is_occupied men) a s)) squares
-    ≡ first_is (is_straight by) men orthogonals s
+    → list_any (λ a. is_orthogonal_slider by (man_at men a) && (is_orthogonal a s && is_open (is_occupied men) a s)) squares
+    ≡ first_is (is_orthogonal_slider by) men orthogonals s
 straight_attacks men by s h =
     let occupied = is_occupied men in
-    any_same_on _ (λ a. is_straight by (man_at men a) && sees orthogonals occupied s a) squares
-    (All-weaker (λ a. a < 64) _ (λ a low. ap (λ t. is_straight by (man_at men a) && t)
+    any_same_on _ (λ a. is_orthogonal_slider by (man_at men a) && sees orthogonals occupied s a) squares
+    (All-weaker (λ a. a < 64) _ (λ a low. ap (λ t. is_orthogonal_slider by (man_at men a) && t)
     (ap₂ (λ x y. x && y) (orthogonal_both_ways a s) (open_both_ways occupied a s h) ∙ sym (sees_orthogonals occupied s a h low))) squares squares_board)
-    ∙ along (is_straight by) men orthogonals s (no_straight by)
+    ∙ along (is_orthogonal_slider by) men orthogonals s (no_straight by)
 
 slanted_attacks : (men : List Man) (by : Side) (s : ℕ) → s < 64
-    → list_any (λ a. is_slanted by (man_at men a) && (is_diagonal a s && is_open (is_occupied men) a s)) squares
-    ≡ first_is (is_slanted by) men diagonals s
+    → list_any (λ a. is_diagonal_slider by (man_at men a) && (is_diagonal a s && is_open (is_occupied men) a s)) squares
+    ≡ first_is (is_diagonal_slider by) men diagonals s
 slanted_attacks men by s h =
     let occupied = is_occupied men in
-    any_same_on _ (λ a. is_slanted by (man_at men a) && sees diagonals occupied s a) squares
-    (All-weaker (λ a. a < 64) _ (λ a low. ap (λ t. is_slanted by (man_at men a) && t)
+    any_same_on _ (λ a. is_diagonal_slider by (man_at men a) && sees diagonals occupied s a) squares
+    (All-weaker (λ a. a < 64) _ (λ a low. ap (λ t. is_diagonal_slider by (man_at men a) && t)
     (ap₂ (λ x y. x && y) (diagonal_both_ways a s) (open_both_ways occupied a s h) ∙ sym (sees_diagonals occupied s a h low))) squares squares_board)
-    ∙ along (is_slanted by) men diagonals s (no_slanted by)
+    ∙ along (is_diagonal_slider by) men diagonals s (no_slanted by)
 
 any_kept : (men : List Man) (man : Man) (goals : List (Option ℕ))
     → list_any (λ a. stands men a man) (kept_goals goals) ≡ list_any (holds men man) goals
@@ -253,8 +253,8 @@ pawn_attacks men by man s h =
 -- ---- the ways together
 abbrev in_ways : Side → Man → (ℕ → Bool) → ℕ → ℕ → Bool
 in_ways by m occupied a b =
-    is_straight by m && (is_orthogonal a b && is_open occupied a b)
-    || (is_slanted by m && (is_diagonal a b && is_open occupied a b)
+    is_orthogonal_slider by m && (is_orthogonal a b && is_open occupied a b)
+    || (is_diagonal_slider by m && (is_diagonal a b && is_open occupied a b)
     || (same_man m (knight_of by) && is_knight_step a b
     || (same_man m (pawn_of by) && is_pawn_attack by a b
     || same_man m (king_of by) && is_king_step a b)))
@@ -297,14 +297,14 @@ by_kind Black P occupied a b = refl
 by_kind Black Empty occupied a b = refl
 
 pub attacked_outward : (men : List Man) (by : Side) (s : ℕ) → s < 64 → is_attacked men by s ≡
-    (first_is (is_straight by) men orthogonals s || (first_is (is_slanted by) men diagonals s
+    (first_is (is_orthogonal_slider by) men orthogonals s || (first_is (is_diagonal_slider by) men diagonals s
     || (list_any (holds men (knight_of by)) (knight_goals s) || (list_any (holds men (pawn_of by)) (pawn_origins by s)
     || list_any (holds men (king_of by)) (king_goals s)))))
 unfolding is_attacked attacks
 attacked_outward men by s h =
     let occupied = is_occupied men in
-    let straight = λ (a : ℕ). is_straight by (man_at men a) && (is_orthogonal a s && is_open occupied a s) in
-    let slanted = λ (a : ℕ). is_slanted by (man_at men a) && (is_diagonal a s && is_open occupied a s) in
+    let straight = λ (a : ℕ). is_orthogonal_slider by (man_at men a) && (is_orthogonal a s && is_open occupied a s) in
+    let slanted = λ (a : ℕ). is_diagonal_slider by (man_at men a) && (is_diagonal a s && is_open occupied a s) in
     let knight = λ (a : ℕ). stands men a (knight_of by) && is_knight_step a s in
     let pawn = λ (a : ℕ). stands men a (pawn_of by) && is_pawn_attack by a s in
     let king = λ (a : ℕ). stands men a (king_of by) && is_king_step a s in
@@ -323,24 +323,24 @@ pawn_back White = refl
 pawn_back Black = refl
 
 pub attacked_in_ways : (men : List Man) (by : Side) (s : ℕ) → s < 64 → is_attacked men by s ≡
-    (some_man (λ a. is_straight by (man_at men a)) (λ a. is_orthogonal s a && is_open (is_occupied men) s a)
-    || (some_man (λ a. is_slanted by (man_at men a)) (λ a. is_diagonal s a && is_open (is_occupied men) s a)
+    (some_man (λ a. is_orthogonal_slider by (man_at men a)) (λ a. is_orthogonal s a && is_open (is_occupied men) s a)
+    || (some_man (λ a. is_diagonal_slider by (man_at men a)) (λ a. is_diagonal s a && is_open (is_occupied men) s a)
     || (some_man (λ a. stands men a (knight_of by)) (is_knight_step s)
     || (some_man (λ a. stands men a (pawn_of by)) (is_pawn_attack (opponent by) s)
     || some_man (λ a. stands men a (king_of by)) (is_king_step s)))))
 unfolding is_attacked attacks
 attacked_in_ways men by s h =
     let occupied = is_occupied men in
-    let straight = λ (a : ℕ). is_straight by (man_at men a) && (is_orthogonal a s && is_open occupied a s) in
-    let slanted = λ (a : ℕ). is_slanted by (man_at men a) && (is_diagonal a s && is_open occupied a s) in
+    let straight = λ (a : ℕ). is_orthogonal_slider by (man_at men a) && (is_orthogonal a s && is_open occupied a s) in
+    let slanted = λ (a : ℕ). is_diagonal_slider by (man_at men a) && (is_diagonal a s && is_open occupied a s) in
     let knight = λ (a : ℕ). stands men a (knight_of by) && is_knight_step a s in
     let pawn = λ (a : ℕ). stands men a (pawn_of by) && is_pawn_attack by a s in
     let king = λ (a : ℕ). stands men a (king_of by) && is_king_step a s in
     any_same (attacker men by s) (λ a. straight a || (slanted a || (knight a || (pawn a || king a)))) (λ a. by_kind by (man_at men a) occupied a s) squares
     ∙ any_or straight (λ a. slanted a || (knight a || (pawn a || king a))) squares
-    ∙ ap₂ (λ x y. x || y) (any_same straight _ (λ a. ap (λ t. is_straight by (man_at men a) && t) (ap₂ (λ x y. x && y) (orthogonal_both_ways a s) (open_both_ways occupied a s h))) squares)
+    ∙ ap₂ (λ x y. x || y) (any_same straight _ (λ a. ap (λ t. is_orthogonal_slider by (man_at men a) && t) (ap₂ (λ x y. x && y) (orthogonal_both_ways a s) (open_both_ways occupied a s h))) squares)
     (any_or slanted (λ a. knight a || (pawn a || king a)) squares
-    ∙ ap₂ (λ x y. x || y) (any_same slanted _ (λ a. ap (λ t. is_slanted by (man_at men a) && t) (ap₂ (λ x y. x && y) (diagonal_both_ways a s) (open_both_ways occupied a s h))) squares)
+    ∙ ap₂ (λ x y. x || y) (any_same slanted _ (λ a. ap (λ t. is_diagonal_slider by (man_at men a) && t) (ap₂ (λ x y. x && y) (diagonal_both_ways a s) (open_both_ways occupied a s h))) squares)
     (any_or knight (λ a. pawn a || king a) squares
     ∙ ap₂ (λ x y. x || y) (any_same knight _ (λ a. ap (λ t. stands men a (knight_of by) && t) (knight_steps_back a s)) squares)
     (any_or pawn king squares
@@ -366,7 +366,7 @@ pub none_on_lines : (t u v : ℕ → Bool) → some_man t u ≡ false → some_m
 none_on_lines t u v e = any_less t u v squares e
 
 -- the kinds of men that attack along lines
-straight_kinds : (by : Side) (m : Man) → (same_man m (man_of by Queen) || same_man m (man_of by Rook)) ≡ is_straight by m
+straight_kinds : (by : Side) (m : Man) → (same_man m (man_of by Queen) || same_man m (man_of by Rook)) ≡ is_orthogonal_slider by m
 straight_kinds White K = refl
 straight_kinds White Q = refl
 straight_kinds White R = refl
@@ -394,7 +394,7 @@ straight_kinds Black BlackN = refl
 straight_kinds Black BlackP = refl
 straight_kinds Black Empty = refl
 
-slanted_kinds : (by : Side) (m : Man) → (same_man m (man_of by Queen) || same_man m (man_of by Bishop)) ≡ is_slanted by m
+slanted_kinds : (by : Side) (m : Man) → (same_man m (man_of by Queen) || same_man m (man_of by Bishop)) ≡ is_diagonal_slider by m
 slanted_kinds White K = refl
 slanted_kinds White Q = refl
 slanted_kinds White R = refl
@@ -423,11 +423,11 @@ slanted_kinds Black BlackP = refl
 slanted_kinds Black Empty = refl
 
 pub straight_found : (men : List Man) (by : Side) (a b : ℕ) → IsBitboard a (λ k. stands men k (man_of by Queen)) → IsBitboard b (λ k. stands men k (man_of by Rook))
-    → IsBitboard (bit_or a b) (λ k. is_straight by (man_at men k))
+    → IsBitboard (bit_or a b) (λ k. is_orthogonal_slider by (man_at men k))
 straight_found men by a b m n = marks_same _ _ _ (λ k h. straight_kinds by (man_at men k)) (marks_or a b _ _ m n)
 
 pub slanted_found : (men : List Man) (by : Side) (a b : ℕ) → IsBitboard a (λ k. stands men k (man_of by Queen)) → IsBitboard b (λ k. stands men k (man_of by Bishop))
-    → IsBitboard (bit_or a b) (λ k. is_slanted by (man_at men k))
+    → IsBitboard (bit_or a b) (λ k. is_diagonal_slider by (man_at men k))
 slanted_found men by a b m n = marks_same _ _ _ (λ k h. slanted_kinds by (man_at men k)) (marks_or a b _ _ m n)
 
 twice_not : (b : Bool) → not (not b) ≡ b

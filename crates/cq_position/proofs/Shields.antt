@@ -7,7 +7,7 @@ use Rattle.std.proofs.lemmas.List.{get_or-set_same, get_or-set_other}
 use Rattle.cq_geometry.specs.declared.compass.Compass.{Compass}
 use Rattle.cq_geometry.specs.Squares.{squares}
 use Rattle.cq_geometry.specs.Steps.{ray_from}
-use Rattle.cq_geometry.specs.Expansions.{king_goals, knight_goals}
+use Rattle.cq_geometry.specs.Internal.Expansions.{king_goals, knight_goals}
 use Rattle.cq_geometry.specs.Directions.{files_of, ranks_of}
 use Rattle.cq_geometry.specs.Lines.{between_squares, is_open, is_orthogonal, is_diagonal, seen, sees, orthogonals, diagonals}
 use Rattle.cq_geometry.proofs.Seen.{sees_orthogonals, sees_diagonals}
@@ -19,7 +19,7 @@ use Rattle.cq_position.specs.Men.{same_man, is_of_side, king_of, pawn_of}
 use Rattle.cq_position.specs.Board.{man_at}
 use Rattle.cq_position.specs.Attacks.{is_occupied, attacks_as, attacks, attacker, is_attacked}
 use Rattle.cq_position.specs.Bitboards.{contains}
-use Rattle.cq_position.specs.Outward.{first_man, is_straight, is_slanted, knight_of, first_is, holds, pawn_origins}
+use Rattle.cq_position.specs.AttackTest.{first_man, is_orthogonal_slider, is_diagonal_slider, knight_of, first_is, holds, pawn_origins}
 use Rattle.cq_position.proofs.Attackers.{attacked_outward}
 
 false_is_not_true : {A : Type 0} → false ≡ true → A
@@ -106,12 +106,12 @@ pub uncovers_nothing : (men : List Man) (by : Side) (from k : ℕ) → from < le
 uncovers_nothing men by from k low from_board k_board hidden safe =
     let left = without men from in
     let both = unseen (is_orthogonal k from) (is_diagonal k from) (is_open (is_occupied men) k from) hidden in
-    let straight = same_firsts (is_straight by) men from k orthogonals (sees_orthogonals (is_occupied men) k from k_board from_board ∙ both.0) in
-    let slanted = same_firsts (is_slanted by) men from k diagonals (sees_diagonals (is_occupied men) k from k_board from_board ∙ both.1) in
+    let straight = same_firsts (is_orthogonal_slider by) men from k orthogonals (sees_orthogonals (is_occupied men) k from k_board from_board ∙ both.0) in
+    let slanted = same_firsts (is_diagonal_slider by) men from k diagonals (sees_diagonals (is_occupied men) k from k_board from_board ∙ both.1) in
     false_from_ne_true (is_attacked left by k) (λ e.
     let after = sym (attacked_outward left by k k_board) ∙ e in
-    let before = or_both _ _ (first_is (is_straight by) men orthogonals k) _ (λ h. sym straight ∙ h)
-    (or_both _ _ (first_is (is_slanted by) men diagonals k) _ (λ h. sym slanted ∙ h)
+    let before = or_both _ _ (first_is (is_orthogonal_slider by) men orthogonals k) _ (λ h. sym straight ∙ h)
+    (or_both _ _ (first_is (is_diagonal_slider by) men diagonals k) _ (λ h. sym slanted ∙ h)
     (or_both _ _ (list_any (holds men (knight_of by)) (knight_goals k)) _ (some_before men from (knight_of by) (knight_goals k) low (knight_is_man by))
     (or_both _ _ (list_any (holds men (pawn_of by)) (pawn_origins by k)) (list_any (holds men (king_of by)) (king_goals k))
     (some_before men from (pawn_of by) (pawn_origins by k) low (pawn_is_man by))

@@ -150,12 +150,12 @@ passant_after p m =
     if is_pawn (man_at p.men m.from) && (ranks_apart m.from m.to == 2) then Some (middle m.from m.to) else None
 
 -- the number rises after Black's move, up to its greatest value
-abbrev pub raised : Side → ℕ → ℕ
-raised White number = number
-raised Black number = min (number + 1) 4294967295
+abbrev pub next_move_number : Side → ℕ → ℕ
+next_move_number White number = number
+next_move_number Black number = min (number + 1) 4294967295
 
 abbrev pub number_after : Board → ℕ
-number_after p = raised p.side p.number
+number_after p = next_move_number p.side p.number
 
 -- the position after a move
 unfoldable pub after : Board → Move → Board

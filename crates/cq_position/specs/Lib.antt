@@ -7,14 +7,14 @@ pub mod Fen
 pub mod FenBytes
 pub mod FenText
 pub mod Games
-pub mod Kept
+pub mod BoardInside
 pub mod King
 pub mod Led
 pub mod Legal
 pub mod Legality
 pub mod Men
 pub mod Moves
-pub mod Outward
+pub mod AttackTest
 pub mod Position
 pub mod Reading
 pub mod Search

@@ -6,12 +6,12 @@ ghost use Rattle.cq_square_sets.specs.Bitboards.{IsBitboard};
 
 use crate::king::king_square;
 use crate::men::{Man, Side, king_of, opponent};
-pub use crate::outward::{is_attacked, slanted_men, straight_men};
+pub use crate::attack_test::{is_attacked, diagonal_sliders, orthogonal_sliders};
 use crate::planes::Men;
 use crate::position::{Position, stands};
 use cq_geometry::{Square, between, files_apart, rank};
 use cq_square_sets::{
-    king_steps, knight_steps, slanted_squares, steps_down, steps_up, straight_squares,
+    king_attacks, knight_attacks, bishop_attacks, black_pawn_attacks, white_pawn_attacks, rook_attacks,
 };
 
 /// The squares that the man on a square attacks, whatever stands there (FIDE Laws of Chess, articles 3.2 to 3.8): bit k of the
@@ -87,11 +87,11 @@ pub fn squares_attacked(man: Man, men: &Men, from: Square) -> u64
     ensures { IsBitboard result (attack.attacks_as man (attack.is_occupied men.now) from) }
 {
     match man {
-        Man::K | Man::BlackK => king_steps(from),
+        Man::K | Man::BlackK => king_attacks(from),
         Man::Q | Man::BlackQ => queen_squares(men, from),
         Man::R | Man::BlackR => rook_squares(men, from),
         Man::B | Man::BlackB => bishop_squares(men, from),
-        Man::N | Man::BlackN => knight_steps(from),
+        Man::N | Man::BlackN => knight_attacks(from),
         Man::P => pawn_squares(Side::White, from),
         Man::BlackP => pawn_squares(Side::Black, from),
         Man::Empty => 0,
@@ -111,7 +111,7 @@ pub fn queen_squares(men: &Men, from: Square) -> u64
 fn rook_squares(men: &Men, from: Square) -> u64
     ensures { IsBitboard result (λ to. lines.is_orthogonal from to && lines.is_open (attack.is_occupied men.now) from to) }
 {
-    straight_squares(from, men.squares_of(Man::Empty))
+    rook_attacks(from, men.squares_of(Man::Empty))
 }
 
 // The squares that a bishop on a square attacks.
@@ -119,7 +119,7 @@ fn rook_squares(men: &Men, from: Square) -> u64
 fn bishop_squares(men: &Men, from: Square) -> u64
     ensures { IsBitboard result (λ to. lines.is_diagonal from to && lines.is_open (attack.is_occupied men.now) from to) }
 {
-    slanted_squares(from, men.squares_of(Man::Empty))
+    bishop_attacks(from, men.squares_of(Man::Empty))
 }
 
 /// The squares that a pawn of a side on a square attacks: the two diagonally in front of it (FIDE Laws of Chess, article 3.7.3).
@@ -128,7 +128,7 @@ pub(crate) fn pawn_squares(side: Side, from: Square) -> u64
     ensures { IsBitboard result (attack.is_pawn_attack side from) }
 {
     match side {
-        Side::White => steps_up(from),
-        Side::Black => steps_down(from),
+        Side::White => white_pawn_attacks(from),
+        Side::Black => black_pawn_attacks(from),
     }
 }

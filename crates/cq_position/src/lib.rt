@@ -7,12 +7,12 @@
 pub mod attacks;
 pub mod fen;
 pub mod games;
-pub mod home;
+pub mod home_squares;
 pub mod king;
 pub mod laws;
 pub mod men;
 pub mod moves;
-mod outward;
+mod attack_test;
 pub mod planes;
 pub mod position;
 

@@ -42,7 +42,7 @@ impl Model for Position {
 
     ghost Value = { Board };
 
-    ghost use Rattle.cq_position.specs.Kept.{board_inside, inside_of};
+    ghost use Rattle.cq_position.specs.BoardInside.{board_inside, inside_of};
     ghost use Rattle.cq_position.specs.Position.{IsPosition};
 
     ghost view = { board_inside };

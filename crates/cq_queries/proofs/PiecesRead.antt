@@ -8,14 +8,14 @@ use Rattle.cq_common.specs.declared.faults.Refusal.TheVariants.{Fault, NoMemory}
 use Rattle.cql_syntax.specs.TreeOf.{query_tree}
 use Rattle.cql_syntax.specs.Trees.{QueryTree}
 use Rattle.cql_syntax.specs.declared.fault.QueryFault.{QueryFault}
-use Rattle.cql_syntax.specs.declared.typed.TypedQuery.{TypedQuery}
+use Rattle.cql_syntax.specs.declared.typed_query.TypedQuery.{TypedQuery}
 use Rattle.cql_syntax.specs.QueryTrees.{trees_of}
 use Rattle.cq_queries.specs.QueryReading.{ReadsText, ReadsPiece, ReadsPieces, RefusesPieces}
 use Rattle.cq_queries.specs.declared.query_files.ManyFault.{ManyFault}
 use Rattle.cq_queries.specs.declared.query_files.ManyFault.TheVariants.{TooLong, TooMany, Faulty}
 use Rattle.cq_queries.specs.Queries.{IsQuery, IsQueryFault}
 use Rattle.cq_queries.specs.QueryFiles.{HoldsQueries, IsFirstFault, most_in_file, most_queries, pieces}
-use Rattle.cq_queries.specs.Files.{some_queries}
+use Rattle.cq_queries.specs.Files.{queries_file_kind}
 use Rattle.cq_queries.proofs.Pieces.{some_pieces, texts_of}
 
 zip_on : {A B : Type 0} (R : A → B → Type 0) (xs : List A) (ys : List B) (x : A) (y : B) → AllZip R xs ys → R x y → AllZip R (xs ++ x ∷ []) (ys ++ y ∷ [])
@@ -97,7 +97,7 @@ few_pieces text slices are few =
     omega (arith, few, same, long)
 
 pub pieces_read : {T : Type 0} (shown : T → List QueryTree) (text : List ℕ) (slices : List (Bor (List ℕ))) (result : Result T (Refusal ManyFault))
-    → length text ≤ most_in_file → texts_of slices ≡ pieces text → length slices ≤ most_queries → ReadsPieces shown (texts_of slices) result → ReadsText some_queries shown text result
+    → length text ≤ most_in_file → texts_of slices ≡ pieces text → length slices ≤ most_queries → ReadsPieces shown (texts_of slices) result → ReadsText queries_file_kind shown text result
 pieces_read shown text slices (Ok found) short are few reads = record {
   short = short;
   few = few_pieces text slices are few;

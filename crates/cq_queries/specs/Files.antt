@@ -4,7 +4,7 @@ use Rattle.std.specs.Option.{option_map}
 use Rattle.std.specs.Io.KnownBytes.{Consumes, IsAtEnd}
 use Rattle.cq_outside.specs.Faults.{Rose}
 use Rattle.cq_outside.specs.Flow.{TakesAtMost}
-use Rattle.cq_outside.specs.Told.{Told, bytes_of}
+use Rattle.cq_outside.specs.DeskFiles.{DeskFiles, bytes_of}
 use Rattle.cql_syntax.specs.Limits.{most_bytes}
 use Rattle.cql_syntax.specs.Trees.{QueryTree}
 use Rattle.cql_syntax.specs.declared.fault.QueryFault.{QueryFault}
@@ -15,13 +15,13 @@ use Rattle.cq_queries.specs.QueryFiles.{HoldsQueries, IsManyFault, many_line, mo
 use Rattle.cq_queries.specs.Views.{SourceView, DeskView}
 
 -- a desk on which one more name was opened
-abbrev pub with_open : List ℕ → Told → Told
+abbrev pub with_open : List ℕ → DeskFiles → DeskFiles
 with_open name told = record { files = told.files; opened = told.opened ++ name ∷ [] }
 
 -- As far as the desk tells, this name was opened, once, and no other was. The file that was opened, before it was read.
 pub record Opened (name : List ℕ) (desk after : DeskView) (file : SourceView) : Type 0 where
   pub told : after.told ≡ option_map (with_open name) desk.told
-  pub bytes : (told : Told) → desk.told ≡ Some told → file.left ≡ Some (bytes_of told.files name)
+  pub bytes : (told : DeskFiles) → desk.told ≡ Some told → file.left ≡ Some (bytes_of told.files name)
   pub faults : file.faults ≡ desk.file.faults
   pub opens : after.open_faults ≡ desk.open_faults
 
@@ -55,14 +55,14 @@ pub data LacksMemory (most : ℕ) (name : List ℕ) (desk after : DeskView) : Ty
 
 -- What a file is asked for, one query or several: how many bytes of it count, what its text is where it is accepted, with which faults it
 -- is refused, and the line that tells of one.
-pub record Reading (Accepted Fault : Type 0) : Type 1 where
+pub record FileKind (Accepted Fault : Type 0) : Type 1 where
   pub most : ℕ
   pub Is : List ℕ → Accepted → Type 0
   pub Has : List ℕ → Fault → Type 0
   pub line : Fault → List ℕ
 
-abbrev pub a_query : Reading QueryTree QueryFault
-a_query = record { most = most_bytes; Is = IsQuery; Has = IsQueryFault; line = query_line }
+abbrev pub query_file_kind : FileKind QueryTree QueryFault
+query_file_kind = record { most = most_bytes; Is = IsQuery; Has = IsQueryFault; line = query_line }
 
-abbrev pub some_queries : Reading (List QueryTree) ManyFault
-some_queries = record { most = most_in_file; Is = HoldsQueries; Has = IsManyFault; line = many_line }
+abbrev pub queries_file_kind : FileKind (List QueryTree) ManyFault
+queries_file_kind = record { most = most_in_file; Is = HoldsQueries; Has = IsManyFault; line = many_line }

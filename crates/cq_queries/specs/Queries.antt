@@ -6,7 +6,7 @@ use Rattle.cql_syntax.specs.TreeFaults.{tree_fault}
 use Rattle.cql_syntax.specs.declared.fault.QueryFault.{QueryFault}
 use Rattle.cql_syntax.specs.declared.token.QueryToken.{QueryToken}
 use Rattle.cql_lexer.specs.Tokens.{tokens_of}
-use Rattle.cql_parser.specs.Drafts.{Spells}
+use Rattle.cql_parser.specs.PartialFilters.{Spells}
 use Rattle.cql_parser.specs.Faults.{IsFault}
 
 -- A text is this query: its tokens spell it, and it breaks no rule.

@@ -6,7 +6,7 @@ use Rattle.cq_common.specs.declared.faults.Refusal.TheVariants.{Fault, NoMemory 
 use Rattle.cql_syntax.specs.TreeOf.{query_tree}
 use Rattle.cql_syntax.specs.Trees.{QueryTree}
 use Rattle.cql_syntax.specs.declared.fault.QueryFault.{QueryFault}
-use Rattle.cql_syntax.specs.declared.typed.TypedQuery.{TypedQuery}
+use Rattle.cql_syntax.specs.declared.typed_query.TypedQuery.{TypedQuery}
 use Rattle.cq_queries.specs.declared.queries.FileRefusal.{FileRefusal}
 use Rattle.cq_queries.specs.declared.queries.FileRefusal.TheVariants.{Faulty, Unopened, Unread, OutOfMemory}
 use Rattle.cq_queries.specs.declared.query_files.ManyFault.{ManyFault}
@@ -16,11 +16,11 @@ use Rattle.cq_queries.specs.declared.status.Status.TheVariants.{OpenFault, ReadF
 use Rattle.cq_queries.specs.Queries.{IsQuery, IsQueryFault}
 use Rattle.cq_queries.specs.QueryFiles.{IsFirstFault}
 use Rattle.cq_queries.specs.Views.{Sinks, DeskView, IsUnwritten}
-use Rattle.cq_queries.specs.Files.{Reading, a_query, TakesQuery, FailsToOpen, FailsToRead, LacksMemory}
+use Rattle.cq_queries.specs.Files.{FileKind, query_file_kind, TakesQuery, FailsToOpen, FailsToRead, LacksMemory}
 use Rattle.cq_queries.specs.Lines.{RefusesQuery}
 
 -- reading a text: it is accepted as what is shown, or has this fault
-abbrev pub ReadsText : {Q F T : Type 0} → Reading Q F → (T → Q) → List ℕ → Result T (Refusal F) → Type 0
+abbrev pub ReadsText : {Q F T : Type 0} → FileKind Q F → (T → Q) → List ℕ → Result T (Refusal F) → Type 0
 ReadsText reading shown text (Ok found) = reading.Is text (shown found)
 ReadsText reading shown text (Err (Fault fault)) = reading.Has text fault
 ReadsText reading shown text (Err IsNoMemory) = Unit {0}
@@ -34,7 +34,7 @@ TakesText most name desk after (Err Unread) = FailsToRead most name desk after
 TakesText most name desk after (Err OutOfMemory) = LacksMemory most name desk after
 
 -- why nothing is accepted of a file: what is taken of it has this fault, or nothing is taken
-abbrev pub RefusesFile : {Q F : Type 0} → Reading Q F → List ℕ → DeskView → DeskView → FileRefusal F → Type 0
+abbrev pub RefusesFile : {Q F : Type 0} → FileKind Q F → List ℕ → DeskView → DeskView → FileRefusal F → Type 0
 RefusesFile reading name desk after (Faulty fault) =
     (text : List ℕ) × TakesQuery reading.most name desk after text × reading.Has text fault
 RefusesFile reading name desk after Unopened = FailsToOpen desk after
@@ -42,14 +42,14 @@ RefusesFile reading name desk after Unread = FailsToRead reading.most name desk 
 RefusesFile reading name desk after OutOfMemory = LacksMemory reading.most name desk after
 
 -- reading a file: what is taken of it is accepted as what is shown
-abbrev pub ReadsFile : {Q F T : Type 0} → Reading Q F → (T → Q) → List ℕ → DeskView → DeskView → Result T (FileRefusal F)
+abbrev pub ReadsFile : {Q F T : Type 0} → FileKind Q F → (T → Q) → List ℕ → DeskView → DeskView → Result T (FileRefusal F)
     → Type 0
 ReadsFile reading shown name desk after (Ok found) =
     (text : List ℕ) × TakesQuery reading.most name desk after text × reading.Is text (shown found)
 ReadsFile reading shown name desk after (Err why) = RefusesFile reading name desk after why
 
 -- saying why what is in a file is not answered
-abbrev pub TellsWhy : {Q F : Type 0} → Reading Q F → FileRefusal F → Status → Sinks → Type 0
+abbrev pub TellsWhy : {Q F : Type 0} → FileKind Q F → FileRefusal F → Status → Sinks → Type 0
 TellsWhy reading (Faulty fault) status sinks = RefusesQuery (reading.line fault) status sinks
 TellsWhy reading Unopened status sinks = (status ≡ OpenFault) × IsUnwritten sinks
 TellsWhy reading Unread status sinks = (status ≡ ReadFault) × IsUnwritten sinks
@@ -57,7 +57,7 @@ TellsWhy reading OutOfMemory status sinks = (status ≡ NoMemory) × IsUnwritten
 
 -- the query that a text is
 abbrev pub ReadsQuery : List ℕ → Result TypedQuery (Refusal QueryFault) → Type 0
-ReadsQuery text result = ReadsText a_query (λ typed. query_tree typed.query) text result
+ReadsQuery text result = ReadsText query_file_kind (λ typed. query_tree typed.query) text result
 
 -- ---- a file of queries
 

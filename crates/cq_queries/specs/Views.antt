@@ -2,7 +2,7 @@
 use Rattle.std.specs.Prelude.{◌≡◌, ◌⊎◌, ℕ, List, take, Option}
 use Rattle.cq_outside.specs.Faults.{Rose}
 use Rattle.cq_outside.specs.Flow.{Grew}
-use Rattle.cq_outside.specs.Told.{Told}
+use Rattle.cq_outside.specs.DeskFiles.{DeskFiles}
 
 -- a source at one moment: the bytes that are left, where it tells them, and its count of faults
 pub record SourceView : Type 0 where
@@ -11,7 +11,7 @@ pub record SourceView : Type 0 where
 
 -- a desk at one moment: what it tells, its open file, and its count of files that could not be opened
 pub record DeskView : Type 0 where
-  pub told : Option Told
+  pub told : Option DeskFiles
   pub file : SourceView
   pub open_faults : ℕ
 
@@ -75,7 +75,7 @@ SinkFailed sinks = Rose sinks.out.faults sinks.out_after.faults ⊎ Rose sinks.e
 abbrev pub source_view : {S : Type 0} → (S → Option (List ℕ)) → (S → ℕ) → S → SourceView
 source_view left faults source = record { left = left source; faults = faults source }
 
-abbrev pub desk_view : {D : Type 0} → (D → Option Told) → (D → Option (List ℕ)) → (D → ℕ) → (D → ℕ) → D → DeskView
+abbrev pub desk_view : {D : Type 0} → (D → Option DeskFiles) → (D → Option (List ℕ)) → (D → ℕ) → (D → ℕ) → D → DeskView
 desk_view told left read_faults open_faults desk = record {
   told = told desk;
   file = source_view left read_faults desk;

@@ -5,7 +5,7 @@ ghost use Rattle.cq_report.specs.Queries.{query_line};
 ghost use Rattle.cq_queries.specs.QueryReading.{ReadsQuery, ReadsFile, TakesText, TellsWhy};
 ghost use Rattle.cq_queries.specs.Views.{SinkView, desk_view, sink_view, sinks_of};
 ghost use Rattle.cq_queries.specs.Lines.{AcceptsQuery, RefusesQuery};
-ghost use Rattle.cq_queries.specs.Files.{a_query};
+ghost use Rattle.cq_queries.specs.Files.{query_file_kind};
 
 use crate::status::Status;
 use cq_common::{Bytes, OpenFault, Refusal};
@@ -62,7 +62,7 @@ pub fn query_in_file<D: Desk>(
     name: &[u8],
     desk: &mut D,
 ) -> Result<TypedQuery, FileRefusal<QueryFault>>
-    ensures { ReadsFile a_query (λ typed. query_tree typed.query) name.now
+    ensures { ReadsFile query_file_kind (λ typed. query_tree typed.query) name.now
         (desk_view D.told D.left D.faults D.open_faults desk.old)
         (desk_view D.told D.left D.faults D.open_faults desk.new) result }
 {
@@ -110,7 +110,7 @@ pub fn drop_query(query: TypedQuery) {
 /// - `WriteFault`: a write failed, and the count of `err` rose. A prefix of the line was taken.
 /// - `NoMemory`: no memory was found, for the query or for the line; nothing is written.
 pub fn report_refusal<E: Sink>(alloc: Global, why: &FileRefusal<QueryFault>, err: &mut E) -> Status
-    ensures { (out : SinkView) → TellsWhy a_query why.now result
+    ensures { (out : SinkView) → TellsWhy query_file_kind why.now result
         (sinks_of out out (sink_view E.taken E.faults err.old) (sink_view E.taken E.faults err.new)) }
 {
     match why {

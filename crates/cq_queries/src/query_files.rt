@@ -5,7 +5,7 @@ ghost use Rattle.cq_queries.specs.QueryReading.{ReadsFile, ReadsPiece, ReadsPiec
 ghost use Rattle.cq_queries.specs.Views.{SinkView, desk_view, sink_view, sinks_of};
 ghost use Rattle.cq_queries.specs.QueryFiles.{is_divider, lines, many_line, pieces};
 ghost use Rattle.cq_queries.specs.Lines.{RefusesQuery};
-ghost use Rattle.cq_queries.specs.Files.{some_queries};
+ghost use Rattle.cq_queries.specs.Files.{queries_file_kind};
 
 use crate::queries::{FileRefusal, read_query, text_in_file};
 use crate::status::Status;
@@ -46,7 +46,7 @@ pub fn queries_in_file<D: Desk>(
     name: &[u8],
     desk: &mut D,
 ) -> Result<Vec<TypedQuery>, FileRefusal<ManyFault>>
-    ensures { ReadsFile some_queries (λ queries. trees_of queries.items) name.now
+    ensures { ReadsFile queries_file_kind (λ queries. trees_of queries.items) name.now
         (desk_view D.told D.left D.faults D.open_faults desk.old)
         (desk_view D.told D.left D.faults D.open_faults desk.new) result }
 {
@@ -65,7 +65,7 @@ pub fn drop_queries(queries: Vec<TypedQuery>) {
 
 // The queries of a file of queries, or why it is refused.
 fn read_queries(alloc: Global, text: &[u8]) -> Result<Vec<TypedQuery>, Refusal<ManyFault>>
-    ensures { ReadsText some_queries (λ queries. trees_of queries.items) text.now result }
+    ensures { ReadsText queries_file_kind (λ queries. trees_of queries.items) text.now result }
 {
     if text.len() > FILE_LIMIT {
         return Err(Refusal::Fault(ManyFault::TooLong));
@@ -151,7 +151,7 @@ pub fn report_queries_refusal<E: Sink>(
     why: &FileRefusal<ManyFault>,
     err: &mut E,
 ) -> Status
-    ensures { (out : SinkView) → TellsWhy some_queries why.now result
+    ensures { (out : SinkView) → TellsWhy queries_file_kind why.now result
         (sinks_of out out (sink_view E.taken E.faults err.old) (sink_view E.taken E.faults err.new)) }
 {
     match why {

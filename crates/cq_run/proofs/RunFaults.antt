@@ -1,6 +1,6 @@
 -- A count that rose in a call of `run` is answered by its own fault.
 use Rattle.std.proofs.Common.{◌≡◌, ℕ, List, refl, ap, sym, ◌∙◌, arith, subst}
-use Rattle.cq_maker.specs.Made.{made}
+use Rattle.cq_maker.specs.GeneratedArchive.{generated_archive}
 use Rattle.cq_words.specs.declared.job.Job.{Job}
 use Rattle.cq_words.specs.declared.job.Job.TheVariants.{Run, Eval, Check, Explain, SelfRun, Many}
 use Rattle.cql_syntax.specs.Trees.{QueryTree}
@@ -8,11 +8,11 @@ use Rattle.cq_report.specs.Queries.{query_line}
 use Rattle.cq_queries.specs.declared.status.Status.{Status}
 use Rattle.cq_queries.specs.declared.status.Status.TheVariants.{Done, DoneWithRefusals, QueryRefused, WordsRefused, OpenFault, ReadFault, WriteFault, NoMemory, ArchiveTooLong}
 use Rattle.cq_queries.specs.Views.{SourceView, DeskView, IsUnwritten, NoWriteFailed}
-use Rattle.cq_search.specs.Promise.{Wanted, SaysOfAnswer}
-use Rattle.cq_search.specs.FirstGame.{wanted}
+use Rattle.cq_search.specs.Promise.{ExpectedOutput, SaysOfAnswer}
+use Rattle.cq_search.specs.FirstGame.{expected_output}
 use Rattle.cq_search.specs.ManyQueries.{texts_of_all}
 use Rattle.cq_run.specs.Run.{Call, from_desk, IsUnmoved}
-use Rattle.cq_queries.specs.Files.{Opened, FailsToOpen, TakesQuery, LacksMemory, no_memory_to_open, no_memory_to_read, Reading, a_query, some_queries}
+use Rattle.cq_queries.specs.Files.{Opened, FailsToOpen, TakesQuery, LacksMemory, no_memory_to_open, no_memory_to_read, FileKind, query_file_kind, queries_file_kind}
 use Rattle.cq_run.specs.Run.{WritesUsage, AnswersFile, archive_answered, archive_unopened, archive_out_of_memory}
 use Rattle.cq_queries.specs.Lines.{RefusesQuery, AcceptsQuery, WritesFlat}
 use Rattle.cq_run.specs.Run.{OverText, text_accepted, text_refused, text_out_of_memory, OverFile, file_accepted, file_refused, file_unopened, file_unread, file_out_of_memory}
@@ -116,7 +116,7 @@ made_faults : (archive : List ℕ) (q : QueryTree) (status : Status) (call : Cal
 made_faults archive q status call input (totals_written totals are does) = totals_faults totals status call input does
 made_faults archive q status call input (made_out_of_memory is same) = at_none status call input (wrote_none call.sinks same)
 
-answer_faults : (name : List ℕ) (limit : ℕ) (asks : Wanted) (file : SourceView) (status : Status) (call : Call) → Opened name call.desk call.desk_after file
+answer_faults : (name : List ℕ) (limit : ℕ) (asks : ExpectedOutput) (file : SourceView) (status : Status) (call : Call) → Opened name call.desk call.desk_after file
     → SaysOfAnswer status asks (record { limit = limit; source = file; source_after = call.desk_after.file; sinks = call.sinks }) → AnswersItsFault status call
 answer_faults name limit asks file Done call opened says = at_none Done call (opened_counts name call.desk call.desk_after file opened says.1.source) says.1.sinks
 answer_faults name limit asks file DoneWithRefusals call opened says = at_none DoneWithRefusals call (opened_counts name call.desk call.desk_after file opened says.1.source) says.1.sinks
@@ -135,7 +135,7 @@ unopened_faults : (status : Status) (call : Call) → status ≡ OpenFault → F
 unopened_faults status call is fails same =
     subst (λ s. AnswersItsFault s call) (sym is) (at_open call (ap (λ (s : SourceView). s.faults) fails.file) (wrote_none call.sinks same))
 
-archive_faults : (archive : List ℕ) (limit : ℕ) (asks : Wanted) (status : Status) (call : Call) → AnswersFile archive limit asks status call → AnswersItsFault status call
+archive_faults : (archive : List ℕ) (limit : ℕ) (asks : ExpectedOutput) (status : Status) (call : Call) → AnswersFile archive limit asks status call → AnswersItsFault status call
 archive_faults archive limit asks status call (archive_answered file opened answers) = answer_faults archive limit asks file status call opened answers.says
 archive_faults archive limit asks status call (archive_unopened is fails same) = unopened_faults status call is fails same
 archive_faults archive limit asks status call (archive_out_of_memory is same) = unmoved_faults status call same
@@ -165,7 +165,7 @@ text_faults text Accepted status call accepted (text_accepted query is does) = a
 text_faults text Accepted status call accepted (text_refused fault is does same) = refusal_faults (query_line fault) status call (same_counts call.desk call.desk_after same) does
 text_faults text Accepted status call accepted (text_out_of_memory is same) = unmoved_faults status call same
 
-file_faults : {Q F : Type 0} (reading : Reading Q F) (name : List ℕ) (Accepted : Q → Status → Call → Type 0) (status : Status) (call : Call)
+file_faults : {Q F : Type 0} (reading : FileKind Q F) (name : List ℕ) (Accepted : Q → Status → Call → Type 0) (status : Status) (call : Call)
     → ((found : Q) (mid : DeskView) → Accepted found status (from_desk mid call) → AnswersItsFault status (from_desk mid call))
     → OverFile reading name Accepted status call → AnswersItsFault status call
 file_faults reading name Accepted status call accepted (file_accepted text found mid takes is does) =
@@ -180,19 +180,19 @@ file_faults reading name Accepted status call accepted (file_out_of_memory is la
 
 pub job_faults : (job : Job) (status : Status) (call : Call) → DoesJob job status call → AnswersItsFault status call
 job_faults (Run query archive settings) status call does =
-    file_faults a_query query (λ asks. AnswersFile archive settings.limit (wanted settings.first asks)) status call
-    (λ q mid a. archive_faults archive settings.limit (wanted settings.first q) status (from_desk mid call) a) does
+    file_faults query_file_kind query (λ asks. AnswersFile archive settings.limit (expected_output settings.first asks)) status call
+    (λ q mid a. archive_faults archive settings.limit (expected_output settings.first q) status (from_desk mid call) a) does
 job_faults (Eval text archive settings) status call does =
-    text_faults text (λ asks. AnswersFile archive settings.limit (wanted settings.first asks)) status call
-    (λ q a. archive_faults archive settings.limit (wanted settings.first q) status call a) does
+    text_faults text (λ asks. AnswersFile archive settings.limit (expected_output settings.first asks)) status call
+    (λ q a. archive_faults archive settings.limit (expected_output settings.first q) status call a) does
 job_faults (Check query) status call does =
-    file_faults a_query query SaysAccepted status call (λ q mid a. acceptance_faults status (from_desk mid call) (same_counts mid call.desk_after a.1) a.0) does
+    file_faults query_file_kind query SaysAccepted status call (λ q mid a. acceptance_faults status (from_desk mid call) (same_counts mid call.desk_after a.1) a.0) does
 job_faults (Explain query) status call does =
-    file_faults a_query query Explains status call (λ q mid a. explanation_faults q status (from_desk mid call) (same_counts mid call.desk_after a.1) a.0) does
+    file_faults query_file_kind query Explains status call (λ q mid a. explanation_faults q status (from_desk mid call) (same_counts mid call.desk_after a.1) a.0) does
 job_faults (SelfRun text settings) status call does =
-    text_faults text (RunsMade settings.seed settings.games) status call (λ q a. made_faults (made settings.seed settings.games) q status call (same_counts call.desk call.desk_after a.1) a.0) does
+    text_faults text (RunsMade settings.seed settings.games) status call (λ q a. made_faults (generated_archive settings.seed settings.games) q status call (same_counts call.desk call.desk_after a.1) a.0) does
 job_faults (Many queries archive settings) status call does =
-    file_faults some_queries queries (λ asks. AnswersFile archive settings.limit (texts_of_all asks)) status call
+    file_faults queries_file_kind queries (λ asks. AnswersFile archive settings.limit (texts_of_all asks)) status call
     (λ qs mid a. archive_faults archive settings.limit (texts_of_all qs) status (from_desk mid call) a) does
 
 pub usage_faults : (status : Status) (call : Call) → call.desk_after ≡ call.desk → WritesUsage status call.sinks → AnswersItsFault status call

@@ -7,13 +7,13 @@ use Rattle.std.proofs.lemmas.List.{take_all}
 use Rattle.std.specs.Io.KnownBytes.{Consumes, IsAtEnd}
 use Rattle.cq_outside.specs.Faults.{Rose}
 use Rattle.std.specs.Option.{option_map}
-use Rattle.cq_outside.specs.Told.{bytes_of}
+use Rattle.cq_outside.specs.DeskFiles.{bytes_of}
 use Rattle.cq_common.specs.declared.faults.Refusal.{Refusal}
 use Rattle.cq_common.specs.declared.faults.Refusal.TheVariants.{Fault}
 use Rattle.clap.specs.Takes.{takes}
-use Rattle.cq_maker.specs.Made.{made}
+use Rattle.cq_maker.specs.GeneratedArchive.{generated_archive}
 use Rattle.clap.specs.Simple.{matches_of}
-use Rattle.cq_words.specs.Jobs.{Answers, asked, job_in}
+use Rattle.cq_words.specs.Jobs.{Answers, job_of_words, job_in}
 use Rattle.cq_words.specs.Line.{line}
 use Rattle.cq_words.specs.declared.job.Job.{Job}
 use Rattle.cq_words.specs.declared.job.Job.TheVariants.{Run, Eval, Check, Explain, SelfRun, Many}
@@ -26,11 +26,11 @@ use Rattle.cq_queries.specs.declared.status.Status.{Status}
 use Rattle.cq_queries.specs.declared.status.Status.TheVariants.{Done, DoneWithRefusals, QueryRefused, WordsRefused, OpenFault, ReadFault, WriteFault, NoMemory, ArchiveTooLong}
 use Rattle.cq_report.specs.Queries.{query_line}
 use Rattle.cq_queries.specs.Views.{DeskView, Sinks, IsUnwritten}
-use Rattle.cq_search.specs.Promise.{Wanted, SaysOfAnswer, IsOneOf}
-use Rattle.cq_search.specs.FirstGame.{wanted}
+use Rattle.cq_search.specs.Promise.{ExpectedOutput, SaysOfAnswer, IsOneOf}
+use Rattle.cq_search.specs.FirstGame.{expected_output}
 use Rattle.cq_search.specs.ManyQueries.{texts_of_all}
 use Rattle.cq_run.specs.Run.{Call, from_desk, IsUnmoved}
-use Rattle.cq_queries.specs.Files.{with_open, TakesQuery, Reading, a_query, some_queries}
+use Rattle.cq_queries.specs.Files.{with_open, TakesQuery, FileKind, query_file_kind, queries_file_kind}
 use Rattle.cq_run.specs.Run.{WritesUsage, AnswersFile, archive_answered, archive_unopened, archive_out_of_memory}
 use Rattle.cq_queries.specs.Lines.{RefusesQuery, AcceptsQuery, WritesFlat}
 use Rattle.cq_run.specs.Run.{OverText, text_accepted, text_refused, text_out_of_memory, OverFile, file_accepted, file_refused, file_unopened, file_unread, file_out_of_memory}
@@ -47,7 +47,7 @@ use Rattle.cq_run.proofs.RunFaults.{job_faults, takes_counts, unmoved_faults, us
 not_twice : (status s : Status) → status ≡ s → status ≡ WordsRefused → s ≡ WordsRefused
 not_twice status s is e = sym is ∙ e
 
-archive_not_words : (archive : List ℕ) (limit : ℕ) (asks : Wanted) (status : Status) (call : Call) → AnswersFile archive limit asks status call → status ≡ WordsRefused → ⊥
+archive_not_words : (archive : List ℕ) (limit : ℕ) (asks : ExpectedOutput) (status : Status) (call : Call) → AnswersFile archive limit asks status call → status ≡ WordsRefused → ⊥
 archive_not_words archive limit asks status call (archive_answered file opened answers) e =
     subst (λ s. SaysOfAnswer s asks (record { limit = limit; source = file; source_after = call.desk_after.file; sinks = call.sinks })) e answers.says
 archive_not_words archive limit asks status call (archive_unopened is fails same) e = let f = not_twice status OpenFault is e in cc
@@ -62,7 +62,7 @@ text_not_words text Accepted status call accepted (text_accepted query is does) 
 text_not_words text Accepted status call accepted (text_refused fault is does same) e = refusal_not_words (query_line fault) status call.sinks does e
 text_not_words text Accepted status call accepted (text_out_of_memory is same) e = let f = not_twice status NoMemory is e in cc
 
-file_not_words : {Q F : Type 0} (reading : Reading Q F) (name : List ℕ) (Accepted : Q → Status → Call → Type 0) (status : Status) (call : Call)
+file_not_words : {Q F : Type 0} (reading : FileKind Q F) (name : List ℕ) (Accepted : Q → Status → Call → Type 0) (status : Status) (call : Call)
     → ((found : Q) (mid : DeskView) → Accepted found status (from_desk mid call) → status ≡ WordsRefused → ⊥)
     → OverFile reading name Accepted status call → status ≡ WordsRefused → ⊥
 file_not_words reading name Accepted status call accepted (file_accepted text found mid takes is does) e = accepted found mid does e
@@ -77,19 +77,19 @@ made_not_words archive q status sinks (made_out_of_memory is same) e = let f = n
 
 job_not_words : (job : Job) (status : Status) (call : Call) → DoesJob job status call → status ≡ WordsRefused → ⊥
 job_not_words (Run query archive settings) status call does e =
-    file_not_words a_query query (λ asks. AnswersFile archive settings.limit (wanted settings.first asks)) status call
-    (λ q mid a f. archive_not_words archive settings.limit (wanted settings.first q) status (from_desk mid call) a f) does e
+    file_not_words query_file_kind query (λ asks. AnswersFile archive settings.limit (expected_output settings.first asks)) status call
+    (λ q mid a f. archive_not_words archive settings.limit (expected_output settings.first q) status (from_desk mid call) a f) does e
 job_not_words (Eval text archive settings) status call does e =
-    text_not_words text (λ asks. AnswersFile archive settings.limit (wanted settings.first asks)) status call
-    (λ q a f. archive_not_words archive settings.limit (wanted settings.first q) status call a f) does e
+    text_not_words text (λ asks. AnswersFile archive settings.limit (expected_output settings.first asks)) status call
+    (λ q a f. archive_not_words archive settings.limit (expected_output settings.first q) status call a f) does e
 job_not_words (Check query) status call does e =
-    file_not_words a_query query SaysAccepted status call (λ q mid a f. subst (λ s. AcceptsQuery s call.sinks) f a.0) does e
+    file_not_words query_file_kind query SaysAccepted status call (λ q mid a f. subst (λ s. AcceptsQuery s call.sinks) f a.0) does e
 job_not_words (Explain query) status call does e =
-    file_not_words a_query query Explains status call (λ q mid a f. subst (λ s. WritesFlat q s call.sinks) f a.0) does e
+    file_not_words query_file_kind query Explains status call (λ q mid a f. subst (λ s. WritesFlat q s call.sinks) f a.0) does e
 job_not_words (SelfRun text settings) status call does e =
-    text_not_words text (RunsMade settings.seed settings.games) status call (λ q a f. made_not_words (made settings.seed settings.games) q status call.sinks a.0 f) does e
+    text_not_words text (RunsMade settings.seed settings.games) status call (λ q a f. made_not_words (generated_archive settings.seed settings.games) q status call.sinks a.0 f) does e
 job_not_words (Many queries archive settings) status call does e =
-    file_not_words some_queries queries (λ asks. AnswersFile archive settings.limit (texts_of_all asks)) status call
+    file_not_words queries_file_kind queries (λ asks. AnswersFile archive settings.limit (texts_of_all asks)) status call
     (λ qs mid a f. archive_not_words archive settings.limit (texts_of_all qs) status (from_desk mid call) a f) does e
 
 -- a faulty query is refused
@@ -127,16 +127,16 @@ read_text call most name text found mid asks takes =
     (subst (λ l. Consumes l mid.file.left found) (takes.opened.bytes asks.told asks.tells) takes.takes) takes.few takes.whole ∙ sym asks.taken
 
 -- a text that is not accepted
-abbrev Never : {Q F : Type 0} → Reading Q F → List ℕ → Type 0
+abbrev Never : {Q F : Type 0} → FileKind Q F → List ℕ → Type 0
 Never {Q} reading text = (found : Q) → reading.Is text found → ⊥
 
 text_refused_always : (text : List ℕ) (Accepted : QueryTree → Status → Call → Type 0) (status : Status) (call : Call)
-    → Never a_query text → OverText text Accepted status call → IsOneOf status (QueryRefused ∷ WriteFault ∷ NoMemory ∷ [])
+    → Never query_file_kind text → OverText text Accepted status call → IsOneOf status (QueryRefused ∷ WriteFault ∷ NoMemory ∷ [])
 text_refused_always text Accepted status call never (text_accepted query is does) = absurd (never query is)
 text_refused_always text Accepted status call never (text_refused found is does same) = refusal_is_one (query_line found) status call.sinks does
 text_refused_always text Accepted status call never (text_out_of_memory is same) = inr (inr (inl is))
 
-file_refused_always : {Q F : Type 0} (reading : Reading Q F) (name text : List ℕ) (Accepted : Q → Status → Call → Type 0) (status : Status) (call : Call)
+file_refused_always : {Q F : Type 0} (reading : FileKind Q F) (name text : List ℕ) (Accepted : Q → Status → Call → Type 0) (status : Status) (call : Call)
     → (asks : IsInFile call reading.most name text) → Never reading text → OverFile reading name Accepted status call
     → IsOneOf status (QueryRefused ∷ WriteFault ∷ NoMemory ∷ [])
 file_refused_always reading name text Accepted status call asks never (file_accepted taken found mid takes is does) =
@@ -147,23 +147,23 @@ file_refused_always reading name text Accepted status call asks never (file_unre
     absurd (asks.reads (subst (λ n. Rose n call.desk_after.file.faults) fails.opened.faults fails.rose))
 file_refused_always reading name text Accepted status call asks never (file_out_of_memory is lacks same) = inr (inr (inl is))
 
-job_refused_always : (job : Job) (text : List ℕ) (status : Status) (call : Call) → HasText call job text → Never a_query text
+job_refused_always : (job : Job) (text : List ℕ) (status : Status) (call : Call) → HasText call job text → Never query_file_kind text
     → DoesJob job status call → IsOneOf status (QueryRefused ∷ WriteFault ∷ NoMemory ∷ [])
 job_refused_always (Run query archive settings) text status call has never does =
-    file_refused_always a_query query text (λ asks. AnswersFile archive settings.limit (wanted settings.first asks)) status call has never does
+    file_refused_always query_file_kind query text (λ asks. AnswersFile archive settings.limit (expected_output settings.first asks)) status call has never does
 job_refused_always (Eval word archive settings) text status call has never does =
-    text_refused_always text (λ asks. AnswersFile archive settings.limit (wanted settings.first asks)) status call never
-    (subst (λ t. OverText t (λ asks. AnswersFile archive settings.limit (wanted settings.first asks)) status call) has does)
-job_refused_always (Check query) text status call has never does = file_refused_always a_query query text SaysAccepted status call has never does
-job_refused_always (Explain query) text status call has never does = file_refused_always a_query query text Explains status call has never does
+    text_refused_always text (λ asks. AnswersFile archive settings.limit (expected_output settings.first asks)) status call never
+    (subst (λ t. OverText t (λ asks. AnswersFile archive settings.limit (expected_output settings.first asks)) status call) has does)
+job_refused_always (Check query) text status call has never does = file_refused_always query_file_kind query text SaysAccepted status call has never does
+job_refused_always (Explain query) text status call has never does = file_refused_always query_file_kind query text Explains status call has never does
 job_refused_always (SelfRun word settings) text status call has never does =
     text_refused_always text (RunsMade settings.seed settings.games) status call never (subst (λ t. OverText t (RunsMade settings.seed settings.games) status call) has does)
 job_refused_always (Many queries archive settings) text status call has never does = absurd has
 
-queries_refused_always : (job : Job) (text : List ℕ) (status : Status) (call : Call) → HasQueriesText call job text → Never some_queries text
+queries_refused_always : (job : Job) (text : List ℕ) (status : Status) (call : Call) → HasQueriesText call job text → Never queries_file_kind text
     → DoesJob job status call → IsOneOf status (QueryRefused ∷ WriteFault ∷ NoMemory ∷ [])
 queries_refused_always (Many queries archive settings) text status call has never does =
-    file_refused_always some_queries queries text (λ asks. AnswersFile archive settings.limit (texts_of_all asks)) status call has never does
+    file_refused_always queries_file_kind queries text (λ asks. AnswersFile archive settings.limit (texts_of_all asks)) status call has never does
 queries_refused_always (Run query archive settings) text status call has never does = absurd has
 queries_refused_always (Eval word archive settings) text status call has never does = absurd has
 queries_refused_always (Check query) text status call has never does = absurd has
@@ -172,7 +172,7 @@ queries_refused_always (SelfRun word settings) text status call has never does =
 
 -- an accepted query is answered
 
-archive_complete : (archive : List ℕ) (limit : ℕ) (asks : Wanted) (status : Status) (call : Call) → (short : IsShort call archive limit asks) → (none : NothingRose call)
+archive_complete : (archive : List ℕ) (limit : ℕ) (asks : ExpectedOutput) (status : Status) (call : Call) → (short : IsShort call archive limit asks) → (none : NothingRose call)
     → AnswersFile archive limit asks status call → IsOneOf status (Done ∷ DoneWithRefusals ∷ NoMemory ∷ [])
 archive_complete archive limit asks status call short none (archive_answered file opened answers) =
     answers.complete (record {
@@ -186,7 +186,7 @@ archive_complete archive limit asks status call short none (archive_unopened is 
 archive_complete archive limit asks status call short none (archive_out_of_memory is same) = inr (inr (inl is))
 
 -- a text that is accepted as this, as nothing else, and has no fault
-record Only {Q F : Type 0} (reading : Reading Q F) (text : List ℕ) (found : Q) : Type 0 where
+record Only {Q F : Type 0} (reading : FileKind Q F) (text : List ℕ) (found : Q) : Type 0 where
   one : (other : Q) → reading.Is text other → other ≡ found
   none : (fault : F) → reading.Has text fault → ⊥
 
@@ -202,18 +202,18 @@ abbrev done_alone : Good
 done_alone = record { statuses = Done ∷ NoMemory ∷ []; memory = inr (inl refl) }
 
 text_complete : (text : List ℕ) (query : QueryTree) (Accepted : QueryTree → Status → Call → Type 0) (good : Good) (status : Status) (call : Call)
-    → Only a_query text query → (Accepted query status call → IsOneOf status good.statuses) → OverText text Accepted status call → IsOneOf status good.statuses
+    → Only query_file_kind text query → (Accepted query status call → IsOneOf status good.statuses) → OverText text Accepted status call → IsOneOf status good.statuses
 text_complete text query Accepted good status call only answers (text_accepted q is does) = answers (subst (λ q. Accepted q status call) (only.one q is) does)
 text_complete text query Accepted good status call only answers (text_refused fault faulty does same) = absurd (only.none fault faulty)
 text_complete text query Accepted good status call only answers (text_out_of_memory is same) = subst (λ s. IsOneOf s good.statuses) (sym is) good.memory
 
 -- what is taken of a file is accepted as this, and as nothing else
-record IsFoundIn {Q F : Type 0} (reading : Reading Q F) (name : List ℕ) (found : Q) (call : Call) : Type 0 where
+record IsFoundIn {Q F : Type 0} (reading : FileKind Q F) (name : List ℕ) (found : Q) (call : Call) : Type 0 where
   text : List ℕ
   asks : IsInFile call reading.most name text
   only : Only reading text found
 
-file_complete : {Q F : Type 0} (reading : Reading Q F) (name : List ℕ) (found : Q) (Accepted : Q → Status → Call → Type 0) (good : Good) (status : Status) (call : Call)
+file_complete : {Q F : Type 0} (reading : FileKind Q F) (name : List ℕ) (found : Q) (Accepted : Q → Status → Call → Type 0) (good : Good) (status : Status) (call : Call)
     → IsFoundIn reading name found call
     → ((mid : DeskView) (taken : List ℕ) → TakesQuery reading.most name call.desk mid taken → Accepted found status (from_desk mid call) → IsOneOf status good.statuses)
     → OverFile reading name Accepted status call → IsOneOf status good.statuses
@@ -231,7 +231,7 @@ file_complete reading name found Accepted good status call file answers (file_ou
 
 -- the same for the archive, from a desk in between on
 
-short_later : (most : ℕ) (name archive : List ℕ) (limit : ℕ) (asks : Wanted) (mid : DeskView) (text : List ℕ) (call : Call) → TakesQuery most name call.desk mid text
+short_later : (most : ℕ) (name archive : List ℕ) (limit : ℕ) (asks : ExpectedOutput) (mid : DeskView) (text : List ℕ) (call : Call) → TakesQuery most name call.desk mid text
     → IsShort call archive limit asks → IsShort (from_desk mid call) archive limit asks
 short_later most name archive limit asks mid text call takes short = record {
   told = with_open name short.told;
@@ -249,13 +249,13 @@ none_later most name mid text call takes none =
     }
 
 -- What is taken of a file is accepted as this, and as nothing else, the archive is short enough for it, and no count rose.
-record IsAnswerable {Q F : Type 0} (reading : Reading Q F) (name : List ℕ) (found : Q) (archive : List ℕ) (limit : ℕ) (asked_of : Wanted) (call : Call) : Type 0 where
+record IsAnswerable {Q F : Type 0} (reading : FileKind Q F) (name : List ℕ) (found : Q) (archive : List ℕ) (limit : ℕ) (asked_of : ExpectedOutput) (call : Call) : Type 0 where
   file : IsFoundIn reading name found call
   short : IsShort call archive limit asked_of
   none : NothingRose call
 
 -- what a file is asked for is answered over an archive
-over_archive : {Q F : Type 0} (reading : Reading Q F) (name : List ℕ) (found : Q) (archive : List ℕ) (limit : ℕ) (asks : Q → Wanted) (status : Status) (call : Call)
+over_archive : {Q F : Type 0} (reading : FileKind Q F) (name : List ℕ) (found : Q) (archive : List ℕ) (limit : ℕ) (asks : Q → ExpectedOutput) (status : Status) (call : Call)
     → IsAnswerable reading name found archive limit (asks found) call
     → OverFile reading name (λ q. AnswersFile archive limit (asks q)) status call → IsOneOf status (Done ∷ DoneWithRefusals ∷ NoMemory ∷ [])
 over_archive reading name found archive limit asks status call can does =
@@ -304,27 +304,27 @@ made_is_one : (archive : List ℕ) (q : QueryTree) (status : Status) (call : Cal
 made_is_one archive q status call none (totals_written totals are does) = totals_is_one totals status call none does
 made_is_one archive q status call none (made_out_of_memory is same) = inr (inr (inl is))
 
-job_complete : (job : Job) (text : List ℕ) (query : QueryTree) (status : Status) (call : Call) → HasText call job text → Only a_query text query
+job_complete : (job : Job) (text : List ℕ) (query : QueryTree) (status : Status) (call : Call) → HasText call job text → Only query_file_kind text query
     → IsWithin call job query → NothingRose call → DoesJob job status call → IsOneOf status (good_answers job)
 job_complete (Run name archive settings) text query status call has only short none does =
-    over_archive a_query name query archive settings.limit (wanted settings.first) status call (record { file = record { text = text; asks = has; only = only }; short = short; none = none }) does
+    over_archive query_file_kind name query archive settings.limit (expected_output settings.first) status call (record { file = record { text = text; asks = has; only = only }; short = short; none = none }) does
 job_complete (Eval word archive settings) text query status call has only short none does =
-    text_complete text query (λ asks. AnswersFile archive settings.limit (wanted settings.first asks)) counted_or_refused status call only
-    (λ a. archive_complete archive settings.limit (wanted settings.first query) status call short none a)
-    (subst (λ t. OverText t (λ asks. AnswersFile archive settings.limit (wanted settings.first asks)) status call) has does)
+    text_complete text query (λ asks. AnswersFile archive settings.limit (expected_output settings.first asks)) counted_or_refused status call only
+    (λ a. archive_complete archive settings.limit (expected_output settings.first query) status call short none a)
+    (subst (λ t. OverText t (λ asks. AnswersFile archive settings.limit (expected_output settings.first asks)) status call) has does)
 job_complete (Check name) text query status call has only short none does =
-    file_complete a_query name query SaysAccepted done_alone status call (record { text = text; asks = has; only = only }) (λ mid taken takes a. acceptance_is_one status call none a.0) does
+    file_complete query_file_kind name query SaysAccepted done_alone status call (record { text = text; asks = has; only = only }) (λ mid taken takes a. acceptance_is_one status call none a.0) does
 job_complete (Explain name) text query status call has only short none does =
-    file_complete a_query name query Explains done_alone status call (record { text = text; asks = has; only = only }) (λ mid taken takes a. explanation_is_one query status call none a.0) does
+    file_complete query_file_kind name query Explains done_alone status call (record { text = text; asks = has; only = only }) (λ mid taken takes a. explanation_is_one query status call none a.0) does
 job_complete (SelfRun word settings) text query status call has only short none does =
     text_complete text query (RunsMade settings.seed settings.games) counted_or_refused status call only
-    (λ a. made_is_one (made settings.seed settings.games) query status call none a.0) (subst (λ t. OverText t (RunsMade settings.seed settings.games) status call) has does)
+    (λ a. made_is_one (generated_archive settings.seed settings.games) query status call none a.0) (subst (λ t. OverText t (RunsMade settings.seed settings.games) status call) has does)
 job_complete (Many name archive settings) text query status call has only short none does = absurd has
 
-all_complete : (job : Job) (text : List ℕ) (queries : List QueryTree) (status : Status) (call : Call) → HasQueriesText call job text → Only some_queries text queries
+all_complete : (job : Job) (text : List ℕ) (queries : List QueryTree) (status : Status) (call : Call) → HasQueriesText call job text → Only queries_file_kind text queries
     → IsWithinForAll call job queries → NothingRose call → DoesJob job status call → IsOneOf status (good_answers job)
 all_complete (Many name archive settings) text queries status call has only short none does =
-    over_archive some_queries name queries archive settings.limit texts_of_all status call (record { file = record { text = text; asks = has; only = only }; short = short; none = none }) does
+    over_archive queries_file_kind name queries archive settings.limit texts_of_all status call (record { file = record { text = text; asks = has; only = only }; short = short; none = none }) does
 all_complete (Run name archive settings) text queries status call has only short none does = absurd has
 all_complete (Eval word archive settings) text queries status call has only short none does = absurd has
 all_complete (Check name) text queries status call has only short none does = absurd has
@@ -342,7 +342,7 @@ pub with_settings : (job : Settings → Job) (given own : Settings) (status : St
 with_settings job given own status call is does = subst (λ s. DoesJob (job s) status call) is does
 
 -- the same of the words that are its own
-pub of_file : {Q F : Type 0} (reading : Reading Q F) (name query : List ℕ) (Accepted : Q → Status → Call → Type 0) (status : Status) (call : Call) → name ≡ query
+pub of_file : {Q F : Type 0} (reading : FileKind Q F) (name query : List ℕ) (Accepted : Q → Status → Call → Type 0) (status : Status) (call : Call) → name ≡ query
     → OverFile reading name Accepted status call → OverFile reading query Accepted status call
 of_file reading name query Accepted status call names does = subst (λ n. OverFile reading n Accepted status call) names does
 
@@ -350,18 +350,18 @@ pub of_text : (text word : List ℕ) (Accepted : QueryTree → Status → Call �
     → OverText text Accepted status call → OverText word Accepted status call
 of_text text word Accepted status call texts does = subst (λ t. OverText t Accepted status call) texts does
 
-pub file_over : {Q F : Type 0} (reading : Reading Q F) (name file archive : List ℕ) (limit : ℕ) (asks : Q → Wanted) (status : Status) (call : Call) → file ≡ archive
+pub file_over : {Q F : Type 0} (reading : FileKind Q F) (name file archive : List ℕ) (limit : ℕ) (asks : Q → ExpectedOutput) (status : Status) (call : Call) → file ≡ archive
     → OverFile reading name (λ q. AnswersFile file limit (asks q)) status call → OverFile reading name (λ q. AnswersFile archive limit (asks q)) status call
 file_over reading name file archive limit asks status call files does =
     subst (λ f. OverFile reading name (λ q. AnswersFile f limit (asks q)) status call) files does
 
-pub text_over : (text file archive : List ℕ) (limit : ℕ) (asks : QueryTree → Wanted) (status : Status) (call : Call) → file ≡ archive
+pub text_over : (text file archive : List ℕ) (limit : ℕ) (asks : QueryTree → ExpectedOutput) (status : Status) (call : Call) → file ≡ archive
     → OverText text (λ q. AnswersFile file limit (asks q)) status call → OverText text (λ q. AnswersFile archive limit (asks q)) status call
 text_over text file archive limit asks status call files does = subst (λ f. OverText text (λ q. AnswersFile f limit (asks q)) status call) files does
 
 -- the words
 
-asks_answered : (words : List (List ℕ)) (result : Result Job (Refusal RefusedWords)) → Answers (asked words) result → (takes line words ≡ true → Answers (job_in (matches_of line words)) result)
+asks_answered : (words : List (List ℕ)) (result : Result Job (Refusal RefusedWords)) → Answers (job_of_words words) result → (takes line words ≡ true → Answers (job_in (matches_of line words)) result)
     → (job : Option Job) → Asks words job → Answers job result
 asks_answered words result value taken job (inl promised) = subst (λ j. Answers j result) promised.1 (taken promised.0)
 asks_answered words result value taken job (inr is) = subst (λ j. Answers j result) is value
@@ -370,38 +370,38 @@ same_job : (a b : Job) → ◌≡◌ {A = Option Job} (Some a) (Some b) → b �
 same_job a b e = cc
 
 -- the job that was done is the one that is asked
-asked_done : (words : List (List ℕ)) (status : Status) (call : Call) (job other : Job) → Answers (asked words) (Ok job)
+asked_done : (words : List (List ℕ)) (status : Status) (call : Call) (job other : Job) → Answers (job_of_words words) (Ok job)
     → (takes line words ≡ true → Answers (job_in (matches_of line words)) (Ok job)) → DoesJob job status call → Asks words (Some other) → DoesJob other status call
 asked_done words status call job other value taken does asks =
     subst (λ j. DoesJob j status call) (same_job other job (asks_answered words (Ok job) value taken (Some other) asks)) does
 
 -- a text is accepted or has a fault, and not both
-abbrev pub IsDecided : {Q F : Type 0} → Reading Q F → List ℕ → Type 0
+abbrev pub IsDecided : {Q F : Type 0} → FileKind Q F → List ℕ → Type 0
 IsDecided {Q} {F} reading text =
     (((found : Q) × reading.Is text found) × ((fault : F) → reading.Has text fault → ⊥))
     ⊎ (((fault : F) × reading.Has text fault) × ((found : Q) → reading.Is text found → ⊥))
 
 -- the laws of what a file is asked for: each text is decided, and is accepted as one thing at most
-pub record HasOneOutcome {Q F : Type 0} (reading : Reading Q F) : Type 0 where
+pub record HasOneOutcome {Q F : Type 0} (reading : FileKind Q F) : Type 0 where
   pub one : (text : List ℕ) (found other : Q) → reading.Is text found → reading.Is text other → found ≡ other
   pub decided : (text : List ℕ) → IsDecided reading text
 
-not_of_both : {Q F : Type 0} (reading : Reading Q F) (text : List ℕ) (found : Q) (fault : F) → IsDecided reading text → reading.Is text found
+not_of_both : {Q F : Type 0} (reading : FileKind Q F) (text : List ℕ) (found : Q) (fault : F) → IsDecided reading text → reading.Is text found
     → reading.Has text fault → ⊥
 not_of_both reading text found fault (inl accepted) is has = accepted.1 fault has
 not_of_both reading text found fault (inr refused) is has = refused.1 found is
 
-not_both : {Q F : Type 0} (reading : Reading Q F) → HasOneOutcome reading → (text : List ℕ) (found : Q) (fault : F) → reading.Is text found
+not_both : {Q F : Type 0} (reading : FileKind Q F) → HasOneOutcome reading → (text : List ℕ) (found : Q) (fault : F) → reading.Is text found
     → reading.Has text fault → ⊥
 not_both reading laws text found fault is has = not_of_both reading text found fault (laws.decided text) is has
 
-only_one : {Q F : Type 0} (reading : Reading Q F) → HasOneOutcome reading → (text : List ℕ) (found : Q) → reading.Is text found → Only reading text found
+only_one : {Q F : Type 0} (reading : FileKind Q F) → HasOneOutcome reading → (text : List ℕ) (found : Q) → reading.Is text found → Only reading text found
 only_one reading laws text found is = record {
   one = λ other also. laws.one text other found also is;
   none = λ fault has. not_both reading laws text found fault is has;
 }
 
-pub job_promised : HasOneOutcome a_query → HasOneOutcome some_queries → (words : List (List ℕ)) (status : Status) (call : Call) (job : Job) → Answers (asked words) (Ok job)
+pub job_promised : HasOneOutcome query_file_kind → HasOneOutcome queries_file_kind → (words : List (List ℕ)) (status : Status) (call : Call) (job : Job) → Answers (job_of_words words) (Ok job)
     → (takes line words ≡ true → Answers (job_in (matches_of line words)) (Ok job)) → DoesJob job status call → Promise words status call
 job_promised query_laws file_laws words status call job value taken does = record {
   does = job_done job value does;
@@ -409,16 +409,16 @@ job_promised query_laws file_laws words status call job value taken does = recor
   words_never_refused = λ other asks e. job_not_words job status call does e;
   words_always_refused = λ asks. absurd (let e = asks_answered words (Ok job) value taken None asks in cc);
   query_always_refused = λ other text fault asks has faulty.
-      job_refused_always other text status call has (λ query is. not_both a_query query_laws text query fault is faulty)
+      job_refused_always other text status call has (λ query is. not_both query_file_kind query_laws text query fault is faulty)
       (asked_done words status call job other value taken does asks);
   complete = λ other text query asks has is short none.
-      job_complete other text query status call has (only_one a_query query_laws text query is) short none
+      job_complete other text query status call has (only_one query_file_kind query_laws text query is) short none
       (asked_done words status call job other value taken does asks);
   queries_always_refused = λ other text fault asks has faulty.
-      queries_refused_always other text status call has (λ queries are. not_both some_queries file_laws text queries fault are faulty)
+      queries_refused_always other text status call has (λ queries are. not_both queries_file_kind file_laws text queries fault are faulty)
       (asked_done words status call job other value taken does asks);
   queries_complete = λ other text queries asks has are short none.
-      all_complete other text queries status call has (only_one some_queries file_laws text queries are) short none
+      all_complete other text queries status call has (only_one queries_file_kind file_laws text queries are) short none
       (asked_done words status call job other value taken does asks);
 }
 
@@ -433,11 +433,11 @@ usage_is_one ReadFault sinks does = absurd does
 usage_is_one NoMemory sinks does = absurd does
 usage_is_one ArchiveTooLong sinks does = absurd does
 
-not_asked : (words : List (List ℕ)) (refused : RefusedWords) (job : Job) → Answers (asked words) (Err (Fault refused))
+not_asked : (words : List (List ℕ)) (refused : RefusedWords) (job : Job) → Answers (job_of_words words) (Err (Fault refused))
     → (takes line words ≡ true → Answers (job_in (matches_of line words)) (Err (Fault refused))) → Asks words (Some job) → ⊥
 not_asked words refused job value taken asks = let e = asks_answered words (Err (Fault refused)) value taken (Some job) asks in cc
 
-pub refusal_promised : (words : List (List ℕ)) (status : Status) (desk : DeskView) (sinks : Sinks) (refused : RefusedWords) → Answers (asked words) (Err (Fault refused))
+pub refusal_promised : (words : List (List ℕ)) (status : Status) (desk : DeskView) (sinks : Sinks) (refused : RefusedWords) → Answers (job_of_words words) (Err (Fault refused))
     → (takes line words ≡ true → Answers (job_in (matches_of line words)) (Err (Fault refused))) → WritesUsage status sinks → Promise words status (call_of desk desk sinks)
 refusal_promised words status desk sinks refused value taken does = record {
   does = words_refused value does refl;
@@ -473,7 +473,7 @@ memory_refusal_promised words desk sinks same =
     }
 
 -- what was said of a file that is not answered
-pub told_why : {Q F : Type 0} (reading : Reading Q F) (name : List ℕ) (Accepted : Q → Status → Call → Type 0) (why : FileRefusal F) (status : Status)
+pub told_why : {Q F : Type 0} (reading : FileKind Q F) (name : List ℕ) (Accepted : Q → Status → Call → Type 0) (why : FileRefusal F) (status : Status)
     (desk after : DeskView) (sinks : Sinks) → RefusesFile reading name desk after why → TellsWhy reading why status sinks
     → OverFile reading name Accepted status (call_of desk after sinks)
 told_why reading name Accepted (Faulty fault) status desk after sinks reads tells = file_refused reads.0 fault reads.1 reads.2 tells
@@ -481,7 +481,7 @@ told_why reading name Accepted Unopened status desk after sinks reads tells = fi
 told_why reading name Accepted Unread status desk after sinks reads tells = file_unread tells.0 reads tells.1
 told_why reading name Accepted OutOfMemory status desk after sinks reads tells = file_out_of_memory tells.0 reads tells.1
 
-pub file_answered : {Q F : Type 0} (reading : Reading Q F) (name : List ℕ) (Accepted : Q → Status → Call → Type 0) (found : Q) (status : Status) (mid : DeskView) (call : Call)
+pub file_answered : {Q F : Type 0} (reading : FileKind Q F) (name : List ℕ) (Accepted : Q → Status → Call → Type 0) (found : Q) (status : Status) (mid : DeskView) (call : Call)
     → ((text : List ℕ) × TakesQuery reading.most name call.desk mid text × reading.Is text found) → Accepted found status (from_desk mid call)
     → OverFile reading name Accepted status call
 file_answered reading name Accepted found status mid call (text, takes, is) does = file_accepted text found mid takes is does

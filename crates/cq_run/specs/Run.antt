@@ -3,13 +3,13 @@ use Rattle.std.specs.Prelude.{◌≡◌, ◌⊎◌, ℕ, ◌+◌, ◌≤◌, ◌
 use Rattle.clap.specs.Takes.{takes}
 use Rattle.clap.specs.Simple.{matches_of}
 use Rattle.cq_outside.specs.Faults.{Rose}
-use Rattle.cq_outside.specs.Told.{Told, bytes_of}
+use Rattle.cq_outside.specs.DeskFiles.{DeskFiles, bytes_of}
 use Rattle.cql_syntax.specs.Limits.{most_bytes}
-use Rattle.cq_words.specs.Jobs.{asked, job_in}
+use Rattle.cq_words.specs.Jobs.{job_of_words, job_in}
 use Rattle.cq_words.specs.Line.{line}
 use Rattle.cq_words.specs.declared.job.Job.{Job}
 use Rattle.cq_words.specs.declared.job.Job.TheVariants.{Run, Eval, Check, Explain, SelfRun, Many}
-use Rattle.cq_maker.specs.Made.{made}
+use Rattle.cq_maker.specs.GeneratedArchive.{generated_archive}
 use Rattle.cql_syntax.specs.Trees.{QueryTree}
 use Rattle.cql_syntax.specs.declared.fault.QueryFault.{QueryFault}
 use Rattle.cq_report.specs.Queries.{query_line}
@@ -19,14 +19,14 @@ use Rattle.cq_queries.specs.declared.status.Status.TheVariants.{OpenFault, ReadF
 use Rattle.cq_queries.specs.declared.query_files.ManyFault.{ManyFault}
 use Rattle.cq_queries.specs.Queries.{IsQuery, IsQueryFault}
 use Rattle.cq_queries.specs.QueryFiles.{HoldsQueries, IsManyFault, most_in_file}
-use Rattle.cq_queries.specs.Files.{Opened, FailsToOpen, TakesQuery, FailsToRead, LacksMemory, Reading, a_query, some_queries}
+use Rattle.cq_queries.specs.Files.{Opened, FailsToOpen, TakesQuery, FailsToRead, LacksMemory, FileKind, query_file_kind, queries_file_kind}
 use Rattle.cq_queries.specs.Lines.{text_for_err, RefusesQuery, AcceptsQuery, WritesFlat}
 use Rattle.cq_search.specs.ManyQueries.{texts_of_all}
 use Rattle.cq_search.specs.SelfRun.{WritesMade}
-use Rattle.cq_search.specs.FirstGame.{wanted}
+use Rattle.cq_search.specs.FirstGame.{expected_output}
 use Rattle.cq_queries.specs.Views.{SourceView, DeskView, Sinks, Writes, WritesPrefix, IsUnwritten, NoWriteFailed}
 use Rattle.cq_queries.specs.Views.{ErrFailed, SinkFailed}
-use Rattle.cq_search.specs.Promise.{IsOneOf, AnswerPromise, Suffices, Wanted}
+use Rattle.cq_search.specs.Promise.{IsOneOf, AnswerPromise, Suffices, ExpectedOutput}
 
 -- what a call of `run` was lent, as it began and as it ended
 pub record Call : Type 0 where
@@ -61,7 +61,7 @@ WritesUsage _ sinks = ⊥
 -- ---- jobs
 
 -- What is accepted is answered over the archive in a file, of which so many bytes are the limit, by the texts that it asks for.
-pub data AnswersFile (archive : List ℕ) (limit : ℕ) (asks : Wanted) (status : Status) (call : Call) : Type 0 where
+pub data AnswersFile (archive : List ℕ) (limit : ℕ) (asks : ExpectedOutput) (status : Status) (call : Call) : Type 0 where
   archive_answered : (file : SourceView) → Opened archive call.desk call.desk_after file
       → AnswerPromise asks status (record { limit = limit; source = file; source_after = call.desk_after.file; sinks = call.sinks })
       → AnswersFile archive limit asks status call
@@ -77,7 +77,7 @@ pub data OverText (text : List ℕ) (Accepted : QueryTree → Status → Call �
   text_out_of_memory : status ≡ NoMemory → IsUnmoved call → OverText text Accepted status call
 
 -- The same of what a file is asked for, which is opened and read first.
-pub data OverFile {Q F : Type 0} (reading : Reading Q F) (name : List ℕ) (Accepted : Q → Status → Call → Type 0) (status : Status)
+pub data OverFile {Q F : Type 0} (reading : FileKind Q F) (name : List ℕ) (Accepted : Q → Status → Call → Type 0) (status : Status)
     (call : Call) : Type 0 where
   file_accepted : (text : List ℕ) (found : Q) (mid : DeskView) → TakesQuery reading.most name call.desk mid text
       → reading.Is text found → Accepted found status (from_desk mid call) → OverFile reading name Accepted status call
@@ -100,29 +100,29 @@ Explains query status call = WritesFlat query status call.sinks × (call.desk_af
 
 -- an accepted query is answered over the archive that is made, and no file is opened
 abbrev pub RunsMade : ℕ → ℕ → QueryTree → Status → Call → Type 0
-RunsMade seed games query status call = WritesMade (made seed games) query status call.sinks × (call.desk_after ≡ call.desk)
+RunsMade seed games query status call = WritesMade (generated_archive seed games) query status call.sinks × (call.desk_after ≡ call.desk)
 
 -- what is done for a job
 abbrev pub DoesJob : Job → Status → Call → Type 0
-DoesJob (Run query archive settings) = OverFile a_query query (λ asks. AnswersFile archive settings.limit (wanted settings.first asks))
-DoesJob (Eval text archive settings) = OverText text (λ asks. AnswersFile archive settings.limit (wanted settings.first asks))
-DoesJob (Check query) = OverFile a_query query SaysAccepted
-DoesJob (Explain query) = OverFile a_query query Explains
+DoesJob (Run query archive settings) = OverFile query_file_kind query (λ asks. AnswersFile archive settings.limit (expected_output settings.first asks))
+DoesJob (Eval text archive settings) = OverText text (λ asks. AnswersFile archive settings.limit (expected_output settings.first asks))
+DoesJob (Check query) = OverFile query_file_kind query SaysAccepted
+DoesJob (Explain query) = OverFile query_file_kind query Explains
 DoesJob (SelfRun text settings) = OverText text (RunsMade settings.seed settings.games)
-DoesJob (Many queries archive settings) = OverFile some_queries queries (λ asks. AnswersFile archive settings.limit (texts_of_all asks))
+DoesJob (Many queries archive settings) = OverFile queries_file_kind queries (λ asks. AnswersFile archive settings.limit (texts_of_all asks))
 
 -- What is done for words: the job that they ask, or they are refused, and no file is opened then.
-pub data Does (words : List (List ℕ)) (status : Status) (call : Call) : Type 0 where
-  job_done : (job : Job) → asked words ≡ Some job → DoesJob job status call → Does words status call
-  words_refused : asked words ≡ None → WritesUsage status call.sinks → call.desk_after ≡ call.desk → Does words status call
-  words_out_of_memory : status ≡ NoMemory → IsUnmoved call → Does words status call
+pub data AnswersWords (words : List (List ℕ)) (status : Status) (call : Call) : Type 0 where
+  job_done : (job : Job) → job_of_words words ≡ Some job → DoesJob job status call → AnswersWords words status call
+  words_refused : job_of_words words ≡ None → WritesUsage status call.sinks → call.desk_after ≡ call.desk → AnswersWords words status call
+  words_out_of_memory : status ≡ NoMemory → IsUnmoved call → AnswersWords words status call
 
 -- ---- when an answer always comes
 
 -- The words ask for this job, or for none: by the matches that `clap` promises where it promises to take them, or by the faults that
 -- it finds in them.
 abbrev pub Asks : List (List ℕ) → Option Job → Type 0
-Asks words job = ((takes line words ≡ true) × (job_in (matches_of line words) ≡ job)) ⊎ (asked words ≡ job)
+Asks words job = ((takes line words ≡ true) × (job_in (matches_of line words) ≡ job)) ⊎ (job_of_words words ≡ job)
 
 -- a count that is greater than it was is answered by its own fault
 pub record AnswersItsFault (status : Status) (call : Call) : Type 0 where
@@ -134,7 +134,7 @@ pub record AnswersItsFault (status : Status) (call : Call) : Type 0 where
 -- The desk tells its files, and this is taken of the file of a query, or of several, which was opened and read without a fault: all of it,
 -- or one byte more than the limit.
 pub record IsInFile (call : Call) (most : ℕ) (name text : List ℕ) : Type 0 where
-  pub told : Told
+  pub told : DeskFiles
   pub tells : call.desk.told ≡ Some told
   pub taken : text ≡ take (most + 1) (bytes_of told.files name)
   pub opens : Rose call.desk.open_faults call.desk_after.open_faults → ⊥
@@ -161,16 +161,16 @@ pub record NothingRose (call : Call) : Type 0 where
   pub writes : SinkFailed call.sinks → ⊥
 
 -- the desk tells its files, and this one is within the limit, or so many of its bytes suffice
-pub record IsShort (call : Call) (archive : List ℕ) (limit : ℕ) (asked_of : Wanted) : Type 0 where
-  pub told : Told
+pub record IsShort (call : Call) (archive : List ℕ) (limit : ℕ) (asked_of : ExpectedOutput) : Type 0 where
+  pub told : DeskFiles
   pub tells : call.desk.told ≡ Some told
   pub within : (length (bytes_of told.files archive) ≤ limit) ⊎ Suffices asked_of (take limit (bytes_of told.files archive))
 
 -- The archive of a job, where it reads one, is within the limit. Up to the first match it is enough that a game matches in the whole
 -- batches of that many bytes.
 abbrev pub IsWithin : Call → Job → QueryTree → Type 0
-IsWithin call (Run name archive settings) query = IsShort call archive settings.limit (wanted settings.first query)
-IsWithin call (Eval text archive settings) query = IsShort call archive settings.limit (wanted settings.first query)
+IsWithin call (Run name archive settings) query = IsShort call archive settings.limit (expected_output settings.first query)
+IsWithin call (Eval text archive settings) query = IsShort call archive settings.limit (expected_output settings.first query)
 IsWithin call (Check name) query = Unit {0}
 IsWithin call (Explain name) query = Unit {0}
 IsWithin call (SelfRun text settings) query = Unit {0}
@@ -193,7 +193,7 @@ good_answers (Many queries archive settings) = Done ∷ DoneWithRefusals ∷ NoM
 -- What `run` promises of its status: what was done for the words, that a count that rose is answered by its own fault, and when an
 -- answer always or never comes.
 pub record Promise (words : List (List ℕ)) (status : Status) (call : Call) : Type 0 where
-  pub does : Does words status call
+  pub does : AnswersWords words status call
   pub faults : AnswersItsFault status call
   pub words_never_refused : (job : Job) → Asks words (Some job) → status ≡ WordsRefused → ⊥
   pub words_always_refused : Asks words None → IsOneOf status (WordsRefused ∷ WriteFault ∷ NoMemory ∷ [])

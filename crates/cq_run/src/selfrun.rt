@@ -6,13 +6,13 @@ ghost use Rattle.cq_run.specs.Run.{OverText, RunsMade, call_of};
 use cq_common::Refusal;
 use cq_outside::{Gate, Sink};
 use cq_queries::{Status, drop_query, read_query, refuse_query};
-use cq_search::{Crew, MADE_LIMIT, answer_made};
+use cq_search::{RunContext, MADE_LIMIT, search_made_archive};
 use cq_words::{SelfRunSettings, Settings};
 use std::alloc::Global;
 use std::thread::Threads;
 
 /// Answers the query that a text is over the archive that is made as the settings say: `out` takes one line with the counts.
-pub fn answer_text_over_made<R: Threads + Sync, O: Sink, E: Sink, G: Gate + Sync>(
+pub fn do_self_run<R: Threads + Sync, O: Sink, E: Sink, G: Gate + Sync>(
     rt: &R,
     alloc: Global,
     text: &[u8],
@@ -37,8 +37,8 @@ pub fn answer_text_over_made<R: Threads + Sync, O: Sink, E: Sink, G: Gate + Sync
         limit: MADE_LIMIT,
         first: false,
     };
-    let crew = Crew::new(rt, alloc, all, gate);
-    let status = answer_made(&crew, &query, settings.seed, settings.games, out);
+    let context = RunContext::new(rt, alloc, all, gate);
+    let status = search_made_archive(&context, &query, settings.seed, settings.games, out);
     drop_query(query);
     status
 }

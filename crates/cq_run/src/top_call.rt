@@ -5,13 +5,13 @@ ghost use Rattle.cq_words.specs.Jobs.{IsInRange};
 ghost use Rattle.cq_words.specs.declared.job.Job.TheVariants as jobs;
 ghost use Rattle.cql_syntax.specs.QueryTrees.{trees_of};
 ghost use Rattle.cql_syntax.specs.TreeOf.{query_tree};
-ghost use Rattle.cq_search.specs.FirstGame.{wanted};
+ghost use Rattle.cq_search.specs.FirstGame.{expected_output};
 ghost use Rattle.cq_search.specs.ManyQueries.{texts_of_all};
 ghost use Rattle.cq_run.specs.Run.{call_of, Promise, AnswersFile, OverFile, SaysAccepted, Explains, DoesJob, WritesUsage};
 ghost use Rattle.cq_queries.specs.Views.{SinkView, desk_view, sink_view, sinks_of};
-ghost use Rattle.cq_queries.specs.Files.{a_query};
+ghost use Rattle.cq_queries.specs.Files.{query_file_kind};
 
-use crate::selfrun::answer_text_over_made;
+use crate::selfrun::do_self_run;
 use cq_common::{OpenFault, Refusal};
 use cq_outside::{Desk, Gate, Sink, write_all_of};
 use cq_queries::laws::{
@@ -22,7 +22,7 @@ use cq_queries::{
     Status, accept_query, drop_queries, drop_query, explain, queries_in_file, query_in_file,
     read_query, refuse_query, report_queries_refusal, report_refusal,
 };
-use cq_search::{Crew, answer_many_with, answer_with};
+use cq_search::{RunContext, search_archive_many, search_archive};
 use cq_words::{Job, read_words};
 use cql_syntax::TypedQuery;
 use std::alloc::Global;
@@ -133,132 +133,132 @@ fn do_job<R: Threads + Sync, D: Desk, O: Sink, E: Sink, G: Gate + Sync>(
             archive,
             settings,
         } => {
-            let crew = Crew::new(rt, alloc, *settings, gate);
+            let context = RunContext::new(rt, alloc, *settings, gate);
             let (query, archive) = (query.as_slice(), archive.as_slice());
-            answer_query_file(&crew, query, archive, desk, out, err)
+            do_run(&context, query, archive, desk, out, err)
         }
         Job::Eval {
             text,
             archive,
             settings,
         } => {
-            let crew = Crew::new(rt, alloc, *settings, gate);
+            let context = RunContext::new(rt, alloc, *settings, gate);
             let (text, archive) = (text.as_slice(), archive.as_slice());
-            answer_text(&crew, text, archive, desk, out, err)
+            do_eval(&context, text, archive, desk, out, err)
         }
-        Job::Check { query } => check_file(alloc, query.as_slice(), desk, out, err),
-        Job::Explain { query } => explain_file(alloc, query.as_slice(), desk, out, err),
+        Job::Check { query } => do_check(alloc, query.as_slice(), desk, out, err),
+        Job::Explain { query } => do_explain(alloc, query.as_slice(), desk, out, err),
         Job::SelfRun { text, settings } => {
-            answer_text_over_made(rt, alloc, text.as_slice(), *settings, out, err, gate)
+            do_self_run(rt, alloc, text.as_slice(), *settings, out, err, gate)
         }
         Job::Many {
             queries,
             archive,
             settings,
         } => {
-            let crew = Crew::new(rt, alloc, *settings, gate);
+            let context = RunContext::new(rt, alloc, *settings, gate);
             let (queries, archive) = (queries.as_slice(), archive.as_slice());
-            answer_queries_file(&crew, queries, archive, desk, out, err)
+            do_many(&context, queries, archive, desk, out, err)
         }
     }
 }
 
 // Answers the query in a file over the archive in another.
-fn answer_query_file<R: Threads + Sync, D: Desk, O: Sink, E: Sink, G: Gate + Sync>(
-    crew: &Crew<'_, R, G>,
+fn do_run<R: Threads + Sync, D: Desk, O: Sink, E: Sink, G: Gate + Sync>(
+    context: &RunContext<'_, R, G>,
     name: &[u8],
     archive: &[u8],
     desk: &mut D,
     out: &mut O,
     err: &mut E,
 ) -> Status
-    ensures { DoesJob (jobs.Run name.now archive.now crew.now.settings) result (call_of
+    ensures { DoesJob (jobs.Run name.now archive.now context.now.settings) result (call_of
         (desk_view D.told D.left D.faults D.open_faults desk.old) (desk_view D.told D.left D.faults D.open_faults desk.new)
         (sinks_of (sink_view O.taken O.faults out.old) (sink_view O.taken O.faults out.new)
         (sink_view E.taken E.faults err.old) (sink_view E.taken E.faults err.new))) }
 {
-    match query_in_file(crew.alloc, name, desk) {
+    match query_in_file(context.alloc, name, desk) {
         Ok(query) => {
-            let status = answer_file(crew, &query, archive, desk, out, err);
+            let status = search_file(context, &query, archive, desk, out, err);
             drop_query(query);
             status
         }
-        Err(why) => report_refusal(crew.alloc, &why, err),
+        Err(why) => report_refusal(context.alloc, &why, err),
     }
 }
 
 // Answers the query that a text is over the archive in a file.
-fn answer_text<R: Threads + Sync, D: Desk, O: Sink, E: Sink, G: Gate + Sync>(
-    crew: &Crew<'_, R, G>,
+fn do_eval<R: Threads + Sync, D: Desk, O: Sink, E: Sink, G: Gate + Sync>(
+    context: &RunContext<'_, R, G>,
     text: &[u8],
     archive: &[u8],
     desk: &mut D,
     out: &mut O,
     err: &mut E,
 ) -> Status
-    ensures { DoesJob (jobs.Eval text.now archive.now crew.now.settings) result (call_of
+    ensures { DoesJob (jobs.Eval text.now archive.now context.now.settings) result (call_of
         (desk_view D.told D.left D.faults D.open_faults desk.old) (desk_view D.told D.left D.faults D.open_faults desk.new)
         (sinks_of (sink_view O.taken O.faults out.old) (sink_view O.taken O.faults out.new)
         (sink_view E.taken E.faults err.old) (sink_view E.taken E.faults err.new))) }
 {
-    let query = match read_query(crew.alloc, text) {
+    let query = match read_query(context.alloc, text) {
         Ok(query) => query,
-        Err(Refusal::Fault(fault)) => return refuse_query(crew.alloc, &fault, err),
+        Err(Refusal::Fault(fault)) => return refuse_query(context.alloc, &fault, err),
         Err(Refusal::NoMemory) => return Status::NoMemory,
     };
-    let status = answer_file(crew, &query, archive, desk, out, err);
+    let status = search_file(context, &query, archive, desk, out, err);
     drop_query(query);
     status
 }
 
 // Answers a query that is accepted over the archive in a file.
-fn answer_file<R: Threads + Sync, D: Desk, O: Sink, E: Sink, G: Gate + Sync>(
-    crew: &Crew<'_, R, G>,
+fn search_file<R: Threads + Sync, D: Desk, O: Sink, E: Sink, G: Gate + Sync>(
+    context: &RunContext<'_, R, G>,
     query: &TypedQuery,
     archive: &[u8],
     desk: &mut D,
     out: &mut O,
     err: &mut E,
 ) -> Status
-    ensures { AnswersFile archive.now crew.now.settings.limit (wanted crew.now.settings.first (query_tree query.now.query)) result (call_of
+    ensures { AnswersFile archive.now context.now.settings.limit (expected_output context.now.settings.first (query_tree query.now.query)) result (call_of
         (desk_view D.told D.left D.faults D.open_faults desk.old) (desk_view D.told D.left D.faults D.open_faults desk.new)
         (sinks_of (sink_view O.taken O.faults out.old) (sink_view O.taken O.faults out.new)
         (sink_view E.taken E.faults err.old) (sink_view E.taken E.faults err.new))) }
 {
-    match desk.open(crew.alloc, archive) {
-        Ok(()) => answer_with(crew, query, desk, out, err),
+    match desk.open(context.alloc, archive) {
+        Ok(()) => search_archive(context, query, desk, out, err),
         Err(OpenFault::Failed) => Status::OpenFault,
         Err(OpenFault::NoMemory) => Status::NoMemory,
     }
 }
 
 // Answers the queries in a file over the archive in another.
-fn answer_queries_file<R: Threads + Sync, D: Desk, O: Sink, E: Sink, G: Gate + Sync>(
-    crew: &Crew<'_, R, G>,
+fn do_many<R: Threads + Sync, D: Desk, O: Sink, E: Sink, G: Gate + Sync>(
+    context: &RunContext<'_, R, G>,
     name: &[u8],
     archive: &[u8],
     desk: &mut D,
     out: &mut O,
     err: &mut E,
 ) -> Status
-    ensures { DoesJob (jobs.Many name.now archive.now crew.now.settings) result (call_of
+    ensures { DoesJob (jobs.Many name.now archive.now context.now.settings) result (call_of
         (desk_view D.told D.left D.faults D.open_faults desk.old) (desk_view D.told D.left D.faults D.open_faults desk.new)
         (sinks_of (sink_view O.taken O.faults out.old) (sink_view O.taken O.faults out.new)
         (sink_view E.taken E.faults err.old) (sink_view E.taken E.faults err.new))) }
 {
-    match queries_in_file(crew.alloc, name, desk) {
+    match queries_in_file(context.alloc, name, desk) {
         Ok(queries) => {
-            let status = answer_file_by_all(crew, queries.as_slice(), archive, desk, out, err);
+            let status = search_file_many(context, queries.as_slice(), archive, desk, out, err);
             drop_queries(queries);
             status
         }
-        Err(why) => report_queries_refusal(crew.alloc, &why, err),
+        Err(why) => report_queries_refusal(context.alloc, &why, err),
     }
 }
 
 // Answers several queries over the archive in a file.
-fn answer_file_by_all<R: Threads + Sync, D: Desk, O: Sink, E: Sink, G: Gate + Sync>(
-    crew: &Crew<'_, R, G>,
+fn search_file_many<R: Threads + Sync, D: Desk, O: Sink, E: Sink, G: Gate + Sync>(
+    context: &RunContext<'_, R, G>,
     queries: &[TypedQuery],
     archive: &[u8],
     desk: &mut D,
@@ -266,27 +266,27 @@ fn answer_file_by_all<R: Threads + Sync, D: Desk, O: Sink, E: Sink, G: Gate + Sy
     err: &mut E,
 ) -> Status
     requires few { (1 ≤ length queries.now) × (length queries.now ≤ 16) }
-    ensures { AnswersFile archive.now crew.now.settings.limit (texts_of_all (trees_of queries.now)) result (call_of
+    ensures { AnswersFile archive.now context.now.settings.limit (texts_of_all (trees_of queries.now)) result (call_of
         (desk_view D.told D.left D.faults D.open_faults desk.old) (desk_view D.told D.left D.faults D.open_faults desk.new)
         (sinks_of (sink_view O.taken O.faults out.old) (sink_view O.taken O.faults out.new)
         (sink_view E.taken E.faults err.old) (sink_view E.taken E.faults err.new))) }
 {
-    match desk.open(crew.alloc, archive) {
-        Ok(()) => answer_many_with(crew, queries, desk, out, err),
+    match desk.open(context.alloc, archive) {
+        Ok(()) => search_archive_many(context, queries, desk, out, err),
         Err(OpenFault::Failed) => Status::OpenFault,
         Err(OpenFault::NoMemory) => Status::NoMemory,
     }
 }
 
 // Says whether the query in a file is accepted.
-fn check_file<D: Desk, O: Sink, E: Sink>(
+fn do_check<D: Desk, O: Sink, E: Sink>(
     alloc: Global,
     name: &[u8],
     desk: &mut D,
     out: &mut O,
     err: &mut E,
 ) -> Status
-    ensures { OverFile a_query name.now SaysAccepted result (call_of
+    ensures { OverFile query_file_kind name.now SaysAccepted result (call_of
         (desk_view D.told D.left D.faults D.open_faults desk.old) (desk_view D.told D.left D.faults D.open_faults desk.new)
         (sinks_of (sink_view O.taken O.faults out.old) (sink_view O.taken O.faults out.new)
         (sink_view E.taken E.faults err.old) (sink_view E.taken E.faults err.new))) }
@@ -301,14 +301,14 @@ fn check_file<D: Desk, O: Sink, E: Sink>(
 }
 
 // Writes the flat form of the query in a file.
-fn explain_file<D: Desk, O: Sink, E: Sink>(
+fn do_explain<D: Desk, O: Sink, E: Sink>(
     alloc: Global,
     name: &[u8],
     desk: &mut D,
     out: &mut O,
     err: &mut E,
 ) -> Status
-    ensures { OverFile a_query name.now Explains result (call_of
+    ensures { OverFile query_file_kind name.now Explains result (call_of
         (desk_view D.told D.left D.faults D.open_faults desk.old) (desk_view D.told D.left D.faults D.open_faults desk.new)
         (sinks_of (sink_view O.taken O.faults out.old) (sink_view O.taken O.faults out.new)
         (sink_view E.taken E.faults err.old) (sink_view E.taken E.faults err.new))) }

@@ -78,9 +78,9 @@ impl Desk for FailingDesk {
 }
 
 /// How openings and reads are answered, and the status of `eval` over standard input.
-type Row = (Result<(), OpenFault>, Result<(), Failed>, Status);
+type FailureCase = (Result<(), OpenFault>, Result<(), Failed>, Status);
 
-static ROWS: [Row; 4] = [
+static ROWS: [FailureCase; 4] = [
     (Err(OpenFault::Failed), Ok(()), Status::OpenFault),
     (Err(OpenFault::NoMemory), Ok(()), Status::NoMemory),
     (Ok(()), Err(Failed), Status::ReadFault),
@@ -88,7 +88,7 @@ static ROWS: [Row; 4] = [
 ];
 
 // The status of `eval` over a desk and a first sink.
-fn answered<R: Threads + Sync>(
+fn status_of_eval<R: Threads + Sync>(
     rt: &R,
     alloc: Global,
     desk: &mut FailingDesk,
@@ -103,15 +103,15 @@ fn answered<R: Threads + Sync>(
 fn answered_by<R: Threads + Sync>(
     rt: &R,
     alloc: Global,
-    row: &Row,
+    row: &FailureCase,
     out: &mut SureSink,
 ) -> Result<Status, NoMemory> {
     let mut desk = FailingDesk::new(row.0, row.1);
-    answered(rt, alloc, &mut desk, out)
+    status_of_eval(rt, alloc, &mut desk, out)
 }
 
 // Asks that a row has its status, and that no game is written.
-fn expect<R: Threads + Sync + Abort>(rt: &R, alloc: Global, row: &Row) -> Result<(), Fail> {
+fn expect<R: Threads + Sync + Abort>(rt: &R, alloc: Global, row: &FailureCase) -> Result<(), Fail> {
     let mut out = SureSink::new(alloc, 64)?;
     let status = answered_by(rt, alloc, row, &mut out)?;
     assert!(rt; status == row.2 && out.taken() == Some(b"".as_slice()));

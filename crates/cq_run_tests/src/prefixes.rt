@@ -60,7 +60,7 @@ const PIECE: usize = 65_536;
 
 /// How many bytes a read gives and a write takes at most, and the numbers of the calls that fail: of a read, and of a write to the first
 /// sink and to the second. No call has the number 0.
-type Run = (usize, usize, u64, u64, u64);
+type FailureRun = (usize, usize, u64, u64, u64);
 
 // ---- one run
 
@@ -74,7 +74,7 @@ fn taken_before(number: u64, piece: usize) -> Option<usize> {
 }
 
 // How many bytes the two sinks should have taken, None where any number may be; nothing where this status should not be.
-fn counts(run: &Run, status: Status) -> Option<(Option<usize>, Option<usize>)> {
+fn counts(run: &FailureRun, status: Status) -> Option<(Option<usize>, Option<usize>)> {
     let (_, taken, read, at_out, at_err) = *run;
     if status == Status::Done {
         return Some((Some(EXPORT.len()), Some(REPORT.len())));
@@ -98,10 +98,10 @@ fn desk_with(alloc: Global, given: usize, read: u64) -> Result<MemDesk, NoMemory
 }
 
 // The status in a run, over two sinks.
-fn answered<R: Threads + Sync + Abort>(
+fn status_of_run<R: Threads + Sync + Abort>(
     rt: &R,
     alloc: Global,
-    run: &Run,
+    run: &FailureRun,
     out: &mut MemSink,
     err: &mut MemSink,
 ) -> Result<Status, NoMemory> {
@@ -111,7 +111,7 @@ fn answered<R: Threads + Sync + Abort>(
 }
 
 // Whether this status and what the sinks have taken are as they should be in a run.
-fn is_right(run: &Run, status: Status, out: Option<&[u8]>, err: Option<&[u8]>) -> bool {
+fn is_right(run: &FailureRun, status: Status, out: Option<&[u8]>, err: Option<&[u8]>) -> bool {
     match counts(run, status) {
         Some((outs, errs)) => is_part(out, EXPORT, outs) && is_part(err, REPORT, errs),
         None => false,
@@ -122,11 +122,11 @@ fn is_right(run: &Run, status: Status, out: Option<&[u8]>, err: Option<&[u8]>) -
 fn expect_by<R: Threads + Sync + Abort>(
     rt: &R,
     alloc: Global,
-    run: &Run,
+    run: &FailureRun,
     out: &mut MemSink,
     err: &mut MemSink,
 ) -> Result<bool, Fail> {
-    let status = answered(rt, alloc, run, out, err)?;
+    let status = status_of_run(rt, alloc, run, out, err)?;
     assert!(rt; is_right(run, status, out.taken(), err.taken()));
     Ok(status != Status::Done)
 }
@@ -135,7 +135,7 @@ fn expect_by<R: Threads + Sync + Abort>(
 fn expect_with<R: Threads + Sync + Abort>(
     rt: &R,
     alloc: Global,
-    run: &Run,
+    run: &FailureRun,
     out: &mut MemSink,
 ) -> Result<bool, Fail> {
     assert!(rt; run.1 >= 1);
@@ -144,7 +144,7 @@ fn expect_with<R: Threads + Sync + Abort>(
 }
 
 // Asks for this, and says whether a call failed.
-fn expect<R: Threads + Sync + Abort>(rt: &R, alloc: Global, run: &Run) -> Result<bool, Fail> {
+fn expect<R: Threads + Sync + Abort>(rt: &R, alloc: Global, run: &FailureRun) -> Result<bool, Fail> {
     assert!(rt; run.1 >= 1);
     let mut out = sink_with(alloc, run.1, &[run.3])?;
     expect_with(rt, alloc, run, &mut out)
@@ -160,7 +160,7 @@ enum Failing {
     Errs,
 }
 
-fn run_of(failing: Failing, piece: usize, number: u64) -> Run {
+fn run_of(failing: Failing, piece: usize, number: u64) -> FailureRun {
     match failing {
         Failing::Reads => (piece, PIECE, number, 0, 0),
         Failing::Outs => (PIECE, piece, 0, number, 0),
@@ -170,9 +170,9 @@ fn run_of(failing: Failing, piece: usize, number: u64) -> Run {
 
 /// Which calls fail, how many bytes one gives or takes at most, and the bits that the number of a call that fails hasn't: a read costs as
 /// much however little it gives, so of many reads a part fails.
-type Turns = (Failing, usize, u64);
+type FailureTurns = (Failing, usize, u64);
 
-static TURNS: [Turns; 9] = [
+static TURNS: [FailureTurns; 9] = [
     (Failing::Outs, 1, 0),
     (Failing::Errs, 1, 0),
     (Failing::Outs, 7, 0),
@@ -188,7 +188,7 @@ static TURNS: [Turns; 9] = [
 fn failed_in_turn<R: Threads + Sync + Abort>(
     rt: &R,
     alloc: Global,
-    turns: &Turns,
+    turns: &FailureTurns,
 ) -> Result<u64, Fail> {
     let (failing, piece, passed) = *turns;
     let mut count = 0u64;

@@ -110,11 +110,11 @@ static FILES: [(&str, &str); 4] = [
 ];
 
 /// Words, how many games are entered and left, and how many exports the gate is told.
-type Job<'a> = (&'a [&'a str], u32, u32);
+type WorkersCase<'a> = (&'a [&'a str], u32, u32);
 
 /// Jobs of each mode that answers games. Of several queries the gate is told the exports of the first: one of 108 bytes and seven of 102,
 /// where those of the second are shorter by two.
-static JOBS: [Job<'static>; 7] = [
+static JOBS: [WorkersCase<'static>; 7] = [
     (&["run", "q.cql", "games.pgn"], 8, 0),
     (&["eval", "cql() mate", "games.pgn"], 8, 0),
     (&["eval", "cql() mate sort \"p\" ply", "games.pgn"], 8, 0),
@@ -125,10 +125,10 @@ static JOBS: [Job<'static>; 7] = [
 ];
 
 /// One worker draws in order, so it skips every game after the first match.
-static FIRST: Job<'static> = (&["eval", "cql() initial", "games.pgn", "--first"], 1, 1);
+static FIRST: WorkersCase<'static> = (&["eval", "cql() initial", "games.pgn", "--first"], 1, 1);
 
 // The status of words over a desk, at a gate.
-fn answered<R: Threads + Sync>(
+fn status_of_words<R: Threads + Sync>(
     rt: &R,
     alloc: Global,
     words: &[String],
@@ -150,14 +150,14 @@ fn status_at<R: Threads + Sync>(
 ) -> Result<Status, NoMemory> {
     let words = job_of(alloc, job, workers)?;
     let mut desk = desk_of(alloc, &FILES)?;
-    answered(rt, alloc, words.as_slice(), &mut desk, gate)
+    status_of_words(rt, alloc, words.as_slice(), &mut desk, gate)
 }
 
 // Asks that so many workers enter and leave the games of a job once each, none of them a worker too many.
 fn expect<R: Threads + Sync + Abort>(
     rt: &R,
     alloc: Global,
-    job: &Job<'_>,
+    job: &WorkersCase<'_>,
     workers: &str,
     told: u64,
 ) -> Result<(), Fail> {

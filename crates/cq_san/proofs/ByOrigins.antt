@@ -20,8 +20,8 @@ use Rattle.cq_position.proofs.Legality.{legal_passes, test_leads}
 use Rattle.cq_san.specs.declared.parts.PieceMove.{PieceMove}
 use Rattle.cq_san.specs.declared.parts.Parts.TheVariants.{Castling, Moved}
 use Rattle.cq_san.specs.Fits.{agrees, agrees_in_parts, goes_right, Fits}
-use Rattle.cq_san.specs.Origins.{move_from, is_origin, origins, castling_move}
-use Rattle.cq_san.specs.Reading.{IsAnswer, IsMeant, IsIllegal, only}
+use Rattle.cq_san.specs.Internal.Origins.{move_from, is_origin, origins, castling_move}
+use Rattle.cq_san.specs.Reading.{IsMeaningOfParts, IsMeant, IsIllegal, only}
 use Rattle.cq_san.proofs.Alone.{agrees_so, null_fails, same_move, both_none, castles_so, agrees_castling, castling_meant}
 use Rattle.cq_san.proofs.Meaning.{answer_of}
 
@@ -78,7 +78,7 @@ module _ (p : Board) (parts : PieceMove) (long : length p.men ≡ 64) where
       let rise : AllPairs (λ x y. x < y) (filter (is_origin p parts) squares) = AllPairs-from_increasing (filter (is_origin p parts) squares) (kept_squares_rise (is_origin p parts)) in
       AllPairs-map Precedes (move_from parts) (filter (is_origin p parts) squares) (λ i j d before below. inl (rise i j d before below))
 
-  pub by_origins : IsAnswer p (Moved parts) (only (map (move_from parts) (origins p parts)))
+  pub by_origins : IsMeaningOfParts p (Moved parts) (only (map (move_from parts) (origins p parts)))
   by_origins = answer_of p (Moved parts) (map (move_from parts) (origins p parts)) fits_from from_fits in_order
 
 -- castling is the one move of the king two files aside

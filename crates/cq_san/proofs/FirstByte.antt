@@ -2,7 +2,7 @@
 use Rattle.std.proofs.Common.{◌≡◌, ℕ, Bool, true, false, ◌||◌, ◌&&◌, ◌==◌, cond, List, [], ◌∷◌, reverse, Some, refl, ap, ap₂, sym, ◌∙◌}
 use Rattle.std.specs.Prelude.{codes}
 use Rattle.std.specs.Str.{bytes_eq}
-use Rattle.cq_san.specs.FromEnd.{begins_with, is_null, is_short_castling, is_long_castling, move_parts, piece_move}
+use Rattle.cq_san.specs.ParseFromEnd.{begins_with, is_null, is_short_castling, is_long_castling, move_parts, piece_move}
 use Rattle.cq_san.specs.declared.parts.Parts.TheVariants.{Castling}
 
 neither : (s t : Bool) → (s || t) ≡ false → (s ≡ false) × (t ≡ false)

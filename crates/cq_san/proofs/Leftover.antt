@@ -24,7 +24,7 @@ use Rattle.cq_position.specs.declared.moves.Move.{Move}
 use Rattle.cq_san.specs.declared.fault.SanFault.TheVariants.{AmbiguousMove}
 use Rattle.cq_san.specs.declared.parts.PieceMove.{PieceMove}
 use Rattle.cq_san.specs.Fits.{agrees_in_parts}
-use Rattle.cq_san.specs.Origins.{move_from, is_origin, origins}
+use Rattle.cq_san.specs.Internal.Origins.{move_from, is_origin, origins}
 use Rattle.cq_san.specs.Reading.{only}
 use Rattle.cq_san.proofs.Candidates.{so_far-room, so_far-end}
 

@@ -12,9 +12,9 @@ use Rattle.cq_san.specs.declared.parts.Parts.{Parts}
 use Rattle.cq_san.specs.declared.parts.Parts.TheVariants.{Castling, Null, Moved}
 use Rattle.cq_san.specs.declared.fault.SanFault.{SanFault}
 use Rattle.cq_san.specs.declared.fault.SanFault.TheVariants.{IllegalMove}
-use Rattle.cq_san.specs.FromEnd.{parts_from_end}
-use Rattle.cq_san.specs.Reading.{IsAnswer, IsReading}
-use Rattle.cq_san.specs.San.{parts_answer, answer_by, san, AnswersExactly}
+use Rattle.cq_san.specs.ParseFromEnd.{parts_from_end}
+use Rattle.cq_san.specs.Reading.{IsMeaningOfParts, IsMeaningOfText}
+use Rattle.cq_san.specs.San.{parts_result, result_by, san, MeansExactly}
 use Rattle.cq_san.specs.Writing.{san_parts, san_text}
 use Rattle.cq_san.proofs.Alone.{meant}
 use Rattle.cq_san.proofs.Grammar.{exactly_spelled, exactly_unspelled, spells_or_not}
@@ -22,33 +22,33 @@ use Rattle.cq_san.proofs.Meaning.{answer_from_list, same_answer, null_illegal, n
 use Rattle.cq_san.proofs.Room.{on_board}
 use Rattle.cq_san.proofs.Writing.{text_spells}
 
-null_by : (p : Board) (b : Bool) → in_check p.men p.side ≡ b → IsAnswer p Null (cond b (Err IllegalMove) (Ok null_move))
+null_by : (p : Board) (b : Bool) → in_check p.men p.side ≡ b → IsMeaningOfParts p Null (cond b (Err IllegalMove) (Ok null_move))
 null_by p true is = null_illegal p is
 null_by p false is = null_meant p null_move refl is
 
-by_list : (p : Board) → length p.men ≡ 64 → (parts : Parts) → parts ≢ Null → IsAnswer p parts (parts_answer p parts)
+by_list : (p : Board) → length p.men ≡ 64 → (parts : Parts) → parts ≢ Null → IsMeaningOfParts p parts (parts_result p parts)
 by_list p long Null other = absurd (other refl)
 by_list p long (Castling kingside) other =
     answer_from_list p (Castling kingside) (legal_list p) (λ m. (listed_is_legal p m, legal_is_listed p m long)) (legal_in_order p) other
 by_list p long (Moved parts) other =
     answer_from_list p (Moved parts) (legal_list p) (λ m. (listed_is_legal p m, legal_is_listed p m long)) (legal_in_order p) other
 
-parts_answered : (p : Board) → length p.men ≡ 64 → (parts : Parts) → IsAnswer p parts (parts_answer p parts)
+parts_answered : (p : Board) → length p.men ≡ 64 → (parts : Parts) → IsMeaningOfParts p parts (parts_result p parts)
 parts_answered p long Null = null_by p (in_check p.men p.side) refl
 parts_answered p long (Castling kingside) = by_list p long (Castling kingside) (λ e. cc)
 parts_answered p long (Moved parts) = by_list p long (Moved parts) (λ e. cc)
 
-pub san_read : (p : Board) (text : List ℕ) → length p.men ≡ 64 → IsReading p text (san p text)
+pub san_read : (p : Board) (text : List ℕ) → length p.men ≡ 64 → IsMeaningOfText p text (san p text)
 unfolding san
 san_read p text long = record {
   spelled = λ parts spells.
       let is : parts_from_end text ≡ Some parts = (exactly_spelled text (parts_from_end text) refl parts).1 spells in
-      subst (IsAnswer p parts) (sym (ap (answer_by p) is)) (parts_answered p long parts);
-  unspelled = λ none. ap (answer_by p) ((exactly_unspelled text (parts_from_end text) refl).1 none);
+      subst (IsMeaningOfParts p parts) (sym (ap (result_by p) is)) (parts_answered p long parts);
+  unspelled = λ none. ap (result_by p) ((exactly_unspelled text (parts_from_end text) refl).1 none);
 }
 
 -- any reading is this value
-pub is_san : (p : Board) (text : List ℕ) (r : Result Move SanFault) → length p.men ≡ 64 → IsReading p text r → r ≡ san p text
+pub is_san : (p : Board) (text : List ℕ) (r : Result Move SanFault) → length p.men ≡ 64 → IsMeaningOfText p text r → r ≡ san p text
 is_san p text r long reading =
     let value = san_read p text long in
     elim (spells_or_not text) [
@@ -56,7 +56,7 @@ is_san p text r long reading =
       | inr none ↦ reading.unspelled none ∙ sym (value.unspelled none)
     ]
 
-pub exact : (p : Board) (text : List ℕ) → length p.men ≡ 64 → AnswersExactly p text (san p text)
+pub exact : (p : Board) (text : List ℕ) → length p.men ≡ 64 → MeansExactly p text (san p text)
 exact p text long =
     let reading = san_read p text long in
     record {

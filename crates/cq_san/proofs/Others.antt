@@ -7,7 +7,7 @@ use Rattle.cq_position.specs.declared.moves.Move.{Move}
 use Rattle.cq_position.specs.Board.{Board, man_at, is_pawn}
 use Rattle.cq_moves.specs.LegalMoves.{legal_list}
 use Rattle.cq_san.specs.Writing.{tells, file_among, rank_among, is_rival, rivals_of, is_capture, given_file, given_rank}
-use Rattle.cq_san.specs.Rivals.{on_file, on_rank}
+use Rattle.cq_san.specs.Internal.Rivals.{on_file, on_rank}
 
 module _ (r : Move → Bool) where
   -- a part tells the man from the others where none shares it

@@ -26,8 +26,8 @@ use Rattle.cq_moves.proofs.Law.{Moves, what_moves, legal_on_board}
 use Rattle.cq_position.proofs.Legality.{legal_passes, test_leads}
 use Rattle.cq_moves.proofs.Order.{listed_is_legal, legal_is_listed}
 use Rattle.cq_san.specs.Fits.{agrees_in_parts, is_same_promotion}
-use Rattle.cq_san.specs.Origins.{move_from, is_origin, origins}
-use Rattle.cq_san.specs.Rivals.{on_file, on_rank, unplaced, is_elsewhere, is_elsewhere_on_file, is_elsewhere_on_rank}
+use Rattle.cq_san.specs.Internal.Origins.{move_from, is_origin, origins}
+use Rattle.cq_san.specs.Internal.Rivals.{on_file, on_rank, without_origin, is_elsewhere, is_elsewhere_on_file, is_elsewhere_on_rank}
 use Rattle.cq_san.specs.Writing.{is_rival, piece_of_man}
 use Rattle.cq_san.proofs.Alone.{man_back, same_move, both_none, five_from, five_parts}
 use Rattle.cq_san.proofs.Candidates.{same_test}
@@ -112,7 +112,7 @@ module _ (p : Board) (m : Move) (kept : IsPosition p) (q : Board) (legal : Legal
   same_promotion a b e = subst (λ x. is_same_promotion a x ≡ true) e (eq-eqb _ _ refl)
 
   -- the square of a rival is an origin of the same move
-  rival_origin : (n : Move) → ((r : Board) × Legal p n r) → is_rival p m n ≡ true → Contains (origins p (unplaced p m)) n.from
+  rival_origin : (n : Move) → ((r : Board) × Legal p n r) → is_rival p m n ≡ true → Contains (origins p (without_origin p m)) n.from
   unfolding origins
   rival_origin n legal_n rival =
       let passes = legal_passes p n legal_n.0 legal_n.1 in
@@ -123,21 +123,21 @@ module _ (p : Board) (m : Move) (kept : IsPosition p) (q : Board) (legal : Legal
       let from_n = (legal_on_board p n kept.whole passes).from in
       let from_m = (legal_on_board p m kept.whole (legal_passes p m q legal)).from in
       let promotion = both_none n.promotion m.promotion (none_promoted n v same) (none_promoted m w refl) in
-      let is : move_from (unplaced p m) n.from ≡ n = same_move n (move_from (unplaced p m) n.from) refl (sym goal) (sym promotion) (sym v.null) in
-      let agrees : agrees_in_parts p (unplaced p m) n ≡ true =
+      let is : move_from (without_origin p m) n.from ≡ n = same_move n (move_from (without_origin p m) n.from) refl (sym goal) (sym promotion) (sym v.null) in
+      let agrees : agrees_in_parts p (without_origin p m) n ≡ true =
       five_from (stands p.men n.from (man_of p.side (piece_of_man (man_at p.men m.from)))) true true (n.to == m.to) (is_same_promotion n.promotion m.promotion)
       (same_man-itself (man_at p.men n.from) (man_of p.side (piece_of_man (man_at p.men m.from))) (same ∙ sym own_man)) refl refl t.1 (same_promotion n.promotion m.promotion promotion) in
-      in_kept_squares (is_origin p (unplaced p m)) n.from from_n
-      (subst (λ (x : Move). (agrees_in_parts p (unplaced p m) x && not (is_castling p x) && legal_test p x) ≡ true) (sym is)
-      (and_from (agrees_in_parts p (unplaced p m) n && not (is_castling p n)) (legal_test p n)
-      (and_from (agrees_in_parts p (unplaced p m) n) (not (is_castling p n)) agrees (no_castling n v from_n from_m same (elsewhere n.from m.from t.2))) passes))
+      in_kept_squares (is_origin p (without_origin p m)) n.from from_n
+      (subst (λ (x : Move). (agrees_in_parts p (without_origin p m) x && not (is_castling p x) && legal_test p x) ≡ true) (sym is)
+      (and_from (agrees_in_parts p (without_origin p m) n && not (is_castling p n)) (legal_test p n)
+      (and_from (agrees_in_parts p (without_origin p m) n) (not (is_castling p n)) agrees (no_castling n v from_n from_m same (elsewhere n.from m.from t.2))) passes))
 
   -- an origin of the same move on another square is a rival's
-  origin_rival : (s : ℕ) → is_origin p (unplaced p m) s ≡ true → not (s == m.from) ≡ true → Contains (legal_list p) (move_from (unplaced p m) s) × (is_rival p m (move_from (unplaced p m) s) ≡ true)
+  origin_rival : (s : ℕ) → is_origin p (without_origin p m) s ≡ true → not (s == m.from) ≡ true → Contains (legal_list p) (move_from (without_origin p m) s) × (is_rival p m (move_from (without_origin p m) s) ≡ true)
   origin_rival s e other =
-      let n = move_from (unplaced p m) s in
-      let both = and_parts (agrees_in_parts p (unplaced p m) n && not (is_castling p n)) (legal_test p n) e in
-      let agrees = (and_parts (agrees_in_parts p (unplaced p m) n) (not (is_castling p n)) both.0).0 in
+      let n = move_from (without_origin p m) s in
+      let both = and_parts (agrees_in_parts p (without_origin p m) n && not (is_castling p n)) (legal_test p n) e in
+      let agrees = (and_parts (agrees_in_parts p (without_origin p m) n) (not (is_castling p n)) both.0).0 in
       let five = five_parts (stands p.men s (man_of p.side (piece_of_man (man_at p.men m.from)))) true true (m.to == m.to) (is_same_promotion m.promotion m.promotion) agrees in
       let same = stands-is p.men s (man_of p.side (piece_of_man (man_at p.men m.from))) five.0 in (
         legal_is_listed p n kept.whole (after p n, test_leads p n both.1),
@@ -146,44 +146,44 @@ module _ (p : Board) (m : Move) (kept : IsPosition p) (q : Board) (legal : Legal
 
   -- so rivals of a kind are found among the squares
   module _ (u : ℕ → Bool) (t : Move → Bool) (v : ℕ → Bool) (t_is : (n : Move) → t n ≡ (is_rival p m n && u n.from)) (v_is : (s : ℕ) → v s ≡ (not (s == m.from) && u s)) where
-    to_list : list_any v (origins p (unplaced p m)) ≡ true → list_any t (legal_list p) ≡ true
+    to_list : list_any v (origins p (without_origin p m)) ≡ true → list_any t (legal_list p) ≡ true
     unfolding origins
     to_list e =
-        let found = Any-from_list_any v (filter (is_origin p (unplaced p m)) squares) e in
+        let found = Any-from_list_any v (filter (is_origin p (without_origin p m)) squares) e in
         let s = found.1 in
         let both = and_parts (not (s == m.from)) (u s) (sym (v_is s) ∙ found.4) in
-        let passes = All-contains (λ x. is_origin p (unplaced p m) x ≡ true) (filter (is_origin p (unplaced p m)) squares) s
-        (filter_passes (is_origin p (unplaced p m)) squares) (found.0, found.2, found.3) in
+        let passes = All-contains (λ x. is_origin p (without_origin p m) x ≡ true) (filter (is_origin p (without_origin p m)) squares) s
+        (filter_passes (is_origin p (without_origin p m)) squares) (found.0, found.2, found.3) in
         let rival = origin_rival s passes both.0 in
         list_any-from_Any t (legal_list p) (
           rival.0.0,
-          move_from (unplaced p m) s,
+          move_from (without_origin p m) s,
           rival.0.1,
           rival.0.2,
-          t_is (move_from (unplaced p m) s)
-              ∙ and_from (is_rival p m (move_from (unplaced p m) s)) (u s) rival.1 both.1,
+          t_is (move_from (without_origin p m) s)
+              ∙ and_from (is_rival p m (move_from (without_origin p m) s)) (u s) rival.1 both.1,
         )
 
-    to_squares : list_any t (legal_list p) ≡ true → list_any v (origins p (unplaced p m)) ≡ true
+    to_squares : list_any t (legal_list p) ≡ true → list_any v (origins p (without_origin p m)) ≡ true
     to_squares e =
         let found = Any-from_list_any t (legal_list p) e in
         let n = found.1 in
         let both = and_parts (is_rival p m n) (u n.from) (sym (t_is n) ∙ found.4) in
         let there = rival_origin n (listed_is_legal p n (found.0, found.2, found.3)) both.0 in
-        list_any-from_Any v (origins p (unplaced p m)) (there.0, n.from, there.1, there.2, v_is n.from ∙ and_from (not (n.from == m.from)) (u n.from) (rival_parts n both.0).2 both.1)
+        list_any-from_Any v (origins p (without_origin p m)) (there.0, n.from, there.1, there.2, v_is n.from ∙ and_from (not (n.from == m.from)) (u n.from) (rival_parts n both.0).2 both.1)
 
-    by_squares : list_any v (origins p (unplaced p m)) ≡ list_any t (legal_list p)
-    by_squares = same_test (list_any v (origins p (unplaced p m))) (list_any t (legal_list p)) to_list to_squares
+    by_squares : list_any v (origins p (without_origin p m)) ≡ list_any t (legal_list p)
+    by_squares = same_test (list_any v (origins p (without_origin p m))) (list_any t (legal_list p)) to_list to_squares
 
   and_true : (b : Bool) → b ≡ (b && true)
   and_true true = refl
   and_true false = refl
 
-  pub any_by_squares : list_any (is_elsewhere m.from) (origins p (unplaced p m)) ≡ list_any (is_rival p m) (legal_list p)
+  pub any_by_squares : list_any (is_elsewhere m.from) (origins p (without_origin p m)) ≡ list_any (is_rival p m) (legal_list p)
   any_by_squares = by_squares (λ s. true) (is_rival p m) (is_elsewhere m.from) (λ n. and_true (is_rival p m n)) (λ s. and_true (not (s == m.from)))
 
-  pub file_by_squares : list_any (is_elsewhere_on_file m.from) (origins p (unplaced p m)) ≡ list_any (on_file p m) (legal_list p)
+  pub file_by_squares : list_any (is_elsewhere_on_file m.from) (origins p (without_origin p m)) ≡ list_any (on_file p m) (legal_list p)
   file_by_squares = by_squares (λ s. file_of m.from == file_of s) (on_file p m) (is_elsewhere_on_file m.from) (λ n. refl) (λ s. refl)
 
-  pub rank_by_squares : list_any (is_elsewhere_on_rank m.from) (origins p (unplaced p m)) ≡ list_any (on_rank p m) (legal_list p)
+  pub rank_by_squares : list_any (is_elsewhere_on_rank m.from) (origins p (without_origin p m)) ≡ list_any (on_rank p m) (legal_list p)
   rank_by_squares = by_squares (λ s. rank_of m.from == rank_of s) (on_rank p m) (is_elsewhere_on_rank m.from) (λ n. refl) (λ s. refl)

@@ -6,7 +6,7 @@ use Rattle.cq_position.specs.declared.moves.Move.{Move}
 use Rattle.cq_position.specs.Board.{Board}
 use Rattle.cq_position.specs.Attacks.{in_check}
 use Rattle.cq_moves.specs.LegalMoves.{legal_list}
-use Rattle.cq_moves.specs.Outcome.{IsMate}
+use Rattle.cq_moves.specs.Mate.{IsMate}
 use Rattle.cq_moves.proofs.Order.{listed_is_legal, legal_is_listed}
 use Rattle.cq_san.specs.Writing.{check_sign, sign_of}
 use Rattle.cq_san.specs.Signs.{SignsSay}

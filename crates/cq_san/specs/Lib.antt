@@ -1,9 +1,8 @@
 pub mod Spelling
-pub mod FromEnd
+pub mod ParseFromEnd
 pub mod Fits
 pub mod Reading
-pub mod Origins
 pub mod San
 pub mod Writing
-pub mod Rivals
 pub mod Signs
+pub mod Internal

@@ -10,31 +10,31 @@ use Rattle.cq_san.specs.declared.parts.Parts.{Parts}
 use Rattle.cq_san.specs.declared.parts.Parts.TheVariants.{Castling, Null, Moved}
 use Rattle.cq_san.specs.declared.fault.SanFault.{SanFault}
 use Rattle.cq_san.specs.declared.fault.SanFault.TheVariants.{NotAMove, IllegalMove, AmbiguousMove}
-use Rattle.cq_san.specs.FromEnd.{parts_from_end}
+use Rattle.cq_san.specs.ParseFromEnd.{parts_from_end}
 use Rattle.cq_san.specs.Fits.{agrees}
 use Rattle.cq_san.specs.Spelling.{Spells}
 use Rattle.cq_san.specs.Reading.{IsMeant, IsIllegal, IsAmbiguous, only}
 
 -- the null move, where the side to move may pass
-abbrev pub null_answer : Board → Result Move SanFault
-null_answer p = if in_check p.men p.side then Err IllegalMove else Ok null_move
+abbrev pub null_move_result : Board → Result Move SanFault
+null_move_result p = if in_check p.men p.side then Err IllegalMove else Ok null_move
 
 -- the one legal move that agrees with the parts
-abbrev pub parts_answer : Board → Parts → Result Move SanFault
-parts_answer p Null = null_answer p
-parts_answer p (Castling kingside) = only (filter (agrees p (Castling kingside)) (legal_list p))
-parts_answer p (Moved m) = only (filter (agrees p (Moved m)) (legal_list p))
+abbrev pub parts_result : Board → Parts → Result Move SanFault
+parts_result p Null = null_move_result p
+parts_result p (Castling kingside) = only (filter (agrees p (Castling kingside)) (legal_list p))
+parts_result p (Moved m) = only (filter (agrees p (Moved m)) (legal_list p))
 
-abbrev pub answer_by : Board → Option Parts → Result Move SanFault
-answer_by p None = Err NotAMove
-answer_by p (Some parts) = parts_answer p parts
+abbrev pub result_by : Board → Option Parts → Result Move SanFault
+result_by p None = Err NotAMove
+result_by p (Some parts) = parts_result p parts
 
 -- the move that a text means, or why it means none
 unfoldable pub san : Board → List ℕ → Result Move SanFault
-san p text = answer_by p (parts_from_end text)
+san p text = result_by p (parts_from_end text)
 
 -- each answer is given exactly where it is right
-pub record AnswersExactly (p : Board) (text : List ℕ) (answer : Result Move SanFault) : Type 0 where
+pub record MeansExactly (p : Board) (text : List ℕ) (answer : Result Move SanFault) : Type 0 where
   pub meant : (m : Move) → (answer ≡ Ok m) ↔ ((parts : Parts) × Spells text parts × IsMeant p parts m)
   pub not_a_move : (answer ≡ Err NotAMove) ↔ ((parts : Parts) → Spells text parts → ⊥)
   pub illegal : (answer ≡ Err IllegalMove) ↔ ((parts : Parts) × Spells text parts × IsIllegal p parts)

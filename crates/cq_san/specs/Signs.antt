@@ -2,7 +2,7 @@
 use Rattle.std.specs.Prelude.{◌≡◌, ◌↔◌, ℕ, List, [], true, false, codes}
 use Rattle.cq_position.specs.Board.{Board}
 use Rattle.cq_position.specs.Attacks.{in_check}
-use Rattle.cq_moves.specs.Outcome.{IsMate}
+use Rattle.cq_moves.specs.Mate.{IsMate}
 
 -- `#` stands exactly where the side to move is mated, `+` exactly where it is in check and not mated, and no sign where it isn't in check
 pub record SignsSay (p : Board) (sign : List ℕ) : Type 0 where

@@ -4,13 +4,13 @@ ghost use Rattle.cq_position.specs.declared.moves.Move.{Move as MoveValue};
 ghost use Rattle.cq_position.specs.Board.{Board};
 ghost use Rattle.cq_position.specs.Legal.{Leads};
 ghost use Rattle.cq_position.specs.Position.{IsPosition};
-ghost use Rattle.cq_san.specs.San.{san, AnswersExactly};
+ghost use Rattle.cq_san.specs.San.{san, MeansExactly};
 ghost use Rattle.cq_san.specs.Signs.{SignsSay};
 ghost use Rattle.cq_san.specs.Writing.{san_text, sign_of};
 
 /// `san` gives each answer exactly where `read_san` promises it.
 pub fn san_means()
-    ensures { (p : Board) (text : List ℕ) → length p.men ≡ 64 → AnswersExactly p text (san p text) }
+    ensures { (p : Board) (text : List ℕ) → length p.men ≡ 64 → MeansExactly p text (san p text) }
 {}
 
 /// What is written of a move is read as this move.

@@ -8,7 +8,7 @@ ghost use Rattle.cq_position.specs.Men.{man_of};
 ghost use Rattle.cq_position.specs.Legal as legal;
 ghost use Rattle.cq_position.specs.Legality.{legal_test};
 ghost use Rattle.cq_san.specs.Fits as fit;
-ghost use Rattle.cq_san.specs.Origins as origin;
+ghost use Rattle.cq_san.specs.Internal.Origins as origin;
 ghost use Rattle.cq_san.specs.Reading.{only};
 
 use crate::fault::SanFault;
@@ -17,7 +17,7 @@ use crate::parts::PieceMove;
 use arrayvec::ArrayVec;
 use cq_geometry::Square;
 use cq_moves::{is_castling, is_legal_seen, origins_to};
-use cq_position::home::{castling_goal, king_home};
+use cq_position::home_squares::{castling_goal, king_home};
 use cq_position::{Move, Position, Promotion, Side, man_of};
 use cq_square_sets::lowest_square;
 
@@ -70,7 +70,7 @@ pub(crate) fn only_move(position: &Position, parts: &PieceMove) -> Result<Move, 
 }
 
 /// Whether no man of the kind may come to the goal from another square than this one: then no other square is an origin.
-pub(crate) fn comes_alone(position: &Position, parts: &PieceMove, from: Square) -> bool
+pub(crate) fn is_sole_origin(position: &Position, parts: &PieceMove, from: Square) -> bool
     ensures { result ≡ true → (s : ℕ) → s < 64 → (s == from) ≡ false → origin.is_origin position.now parts.now s ≡ false }
 {
     let there = position
@@ -90,12 +90,12 @@ fn is_origin(position: &Position, parts: &PieceMove, seen: u64, there: u64, from
 {
     prove!(position.is_position());
     let m = move_from(parts, from);
-    agrees_there(parts, there, from) && is_plain_and_legal(position, parts, seen, &m)
+    agrees_at(parts, there, from) && is_plain_and_legal(position, parts, seen, &m)
 }
 
 // Whether the move from a square agrees with the parts, by the set of the squares where the piece stands.
 #[inline(always)]
-fn agrees_there(parts: &PieceMove, there: u64, from: Square) -> bool
+fn agrees_at(parts: &PieceMove, there: u64, from: Square) -> bool
     ensures { (p : Board) → IsBitboard there (λ square. stands p.men square (man_of p.side parts.now.piece)) →
         result ≡ fit.agrees_in_parts p parts.now (origin.move_from parts.now from) }
 {

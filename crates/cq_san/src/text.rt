@@ -11,12 +11,12 @@ ghost use Rattle.cq_moves.specs.LegalMoves.{legal_list};
 ghost use Rattle.cq_position.specs.declared.moves.Move.{Move as MoveValue};
 ghost use Rattle.cq_san.specs.San.{san};
 ghost use Rattle.cq_san.specs.Writing as writing;
-ghost use Rattle.cq_san.specs.Rivals as rival;
+ghost use Rattle.cq_san.specs.Internal.Rivals as rival;
 ghost use Rattle.cq_san.specs.Spelling.{Spells};
 ghost use Rattle.cq_san.specs.Reading.{IsMeant};
 
 use crate::fit::goes_right;
-use crate::origins::{comes_alone, origins};
+use crate::origins::{is_sole_origin, origins};
 use crate::parts::{Parts, PieceMove};
 use arrayvec::ArrayString;
 use cq_geometry::{Square, file, rank};
@@ -87,8 +87,8 @@ fn rivals_of(position: &Position, m: &Move) -> Rivals
     ensures on_rank { result.on_rank ≡ list_any (rival.on_rank position.now m.now) (legal_list position.now) }
 {
     prove!(position.is_position());
-    let parts = unplaced(position, m);
-    if comes_alone(position, &parts, m.from) {
+    let parts = without_origin(position, m);
+    if is_sole_origin(position, &parts, m.from) {
         return Rivals {
             any: false,
             on_file: false,
@@ -104,8 +104,8 @@ fn rivals_of(position: &Position, m: &Move) -> Rivals
 }
 
 // The parts of a move without its origin.
-fn unplaced(position: &Position, m: &Move) -> PieceMove
-    ensures { result ≡ rival.unplaced position.now m.now }
+fn without_origin(position: &Position, m: &Move) -> PieceMove
+    ensures { result ≡ rival.without_origin position.now m.now }
 {
     PieceMove {
         piece: piece_of_man(position.at(m.from)),

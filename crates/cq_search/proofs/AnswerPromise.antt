@@ -5,21 +5,21 @@ use Rattle.pgn_batches.proofs.Filling.{consumes_none}
 use Rattle.cq_outside.specs.Flow.{TakesAtMost}
 use Rattle.cql_syntax.specs.Trees.{QueryTree}
 use Rattle.pgn_cut.specs.Cut.{closed}
-use Rattle.pgn_cut.specs.Joined.{game_bytes}
+use Rattle.pgn_cut.specs.GameTokens.{game_bytes}
 use Rattle.pgn_cut.specs.declared.span.Span.{Span}
-use Rattle.cq_shards.specs.Outcomes.{Outcome}
+use Rattle.cq_shards.specs.ReadResults.{ReadResult}
 use Rattle.cq_queries.specs.declared.status.Status.TheVariants.{NoMemory}
 use Rattle.cq_search.specs.AllGames.{texts_of, texts_so_far}
-use Rattle.cq_search.specs.ByBatches.{HaveOutcomes}
-use Rattle.cq_search.specs.Outcomes.{AreRead}
+use Rattle.cq_search.specs.Internal.ByBatches.{HaveOutcomes}
+use Rattle.cq_search.specs.ArchiveGames.{AreRead}
 use Rattle.cq_queries.specs.Views.{SourceView, SinkView, Sinks, Texts, WritesPrefix, sinks_of}
-use Rattle.cq_search.specs.Promise.{Wanted, Answering, MayBe, TakesTooMuch, Overruns, AnswerPromise, ReadsNoMore}
+use Rattle.cq_search.specs.Promise.{ExpectedOutput, SearchCall, MayBe, TakesTooMuch, Overruns, AnswerPromise, ReadsNoMore}
 use Rattle.cq_search.specs.Sorts.{have_sort}
 use Rattle.cq_search.proofs.GameByGame.{prefix_grows}
 use Rattle.cq_queries.proofs.Sinks.{unwritten}
 
 -- the games of some spans have outcomes
-pub outcomes_of : HaveOutcomes → (archive : List ℕ) (spans : List Span) → (outcomes : List Outcome) × AreRead archive spans outcomes
+pub outcomes_of : HaveOutcomes → (archive : List ℕ) (spans : List Span) → (outcomes : List ReadResult) × AreRead archive spans outcomes
 outcomes_of have archive [] = ([], tt)
 outcomes_of have archive (s ∷ ss) =
     let one = have s.start s.first (game_bytes archive s) in
@@ -58,23 +58,23 @@ not_too_long limit source after told tells few much =
     let long = much.long in
     omega (arith, less, few, long)
 
-abbrev pub answer_call : ℕ → SourceView → SourceView → Sinks → Answering
+abbrev pub answer_call : ℕ → SourceView → SourceView → Sinks → SearchCall
 answer_call limit source after sinks = record { limit = limit; source = source; source_after = after; sinks = sinks }
 
 -- What is asked for of all games of an archive, so that no fewer suffice: what is written of some of them before more are read is a prefix
 -- of what is written of more.
-pub record Asked : Type 1 where
-  pub wanted : Wanted
-  pub so_far : List Outcome → Texts
-  pub reading : (rs : List Outcome) → wanted.reading rs (so_far rs)
-  pub faulted : (rs : List Outcome) → wanted.faulted rs (so_far rs)
-  pub never : (rs : List Outcome) (refused : ℕ) (texts : Texts) → wanted.early rs refused texts → ⊥
-  pub grows : (rs qs : List Outcome) (sinks : Sinks) → WritesPrefix sinks (so_far rs) → WritesPrefix sinks (so_far (rs ++ qs))
+pub record FullOutput : Type 1 where
+  pub expected_output : ExpectedOutput
+  pub so_far : List ReadResult → Texts
+  pub reading : (rs : List ReadResult) → expected_output.reading rs (so_far rs)
+  pub faulted : (rs : List ReadResult) → expected_output.faulted rs (so_far rs)
+  pub never : (rs : List ReadResult) (refused : ℕ) (texts : Texts) → expected_output.early rs refused texts → ⊥
+  pub grows : (rs qs : List ReadResult) (sinks : Sinks) → WritesPrefix sinks (so_far rs) → WritesPrefix sinks (so_far (rs ++ qs))
 
 -- what one query asks for
-abbrev pub asked_of : (sorted : Bool) (query : QueryTree) → have_sort query.items ≡ sorted → Asked
-asked_of sorted query sorts = record {
-  wanted = texts_of query;
+abbrev pub full_output_of : (sorted : Bool) (query : QueryTree) → have_sort query.items ≡ sorted → FullOutput
+full_output_of sorted query sorts = record {
+  expected_output = texts_of query;
   so_far = texts_so_far sorted query;
   reading = λ rs. ap (λ s. texts_so_far s query rs) (sym sorts);
   faulted = λ rs. ap (λ s. texts_so_far s query rs) (sym sorts);
@@ -82,8 +82,8 @@ asked_of sorted query sorts = record {
   grows = prefix_grows sorted query;
 }
 
-pub needs_all : (asked : Asked) (limit : ℕ) (source after : SourceView) (sinks : Sinks) → TakesAtMost (limit + 1) source.left after.left
-    → ReadsNoMore asked.wanted (answer_call limit source after sinks)
+pub needs_all : (asked : FullOutput) (limit : ℕ) (source after : SourceView) (sinks : Sinks) → TakesAtMost (limit + 1) source.left after.left
+    → ReadsNoMore asked.expected_output (answer_call limit source after sinks)
 needs_all asked limit source after sinks some = record {
   front = some.bytes;
   takes = some.takes;
@@ -94,8 +94,8 @@ needs_all asked limit source after sinks some = record {
 pub none_taken : (limit : ℕ) (source : SourceView) → TakesAtMost (limit + 1) source.left source.left
 none_taken limit source = record { bytes = []; takes = consumes_none source.left; few = omega arith }
 
-pub none_answered : HaveOutcomes → (asked : Asked) (limit : ℕ) (source : SourceView) (out err : SinkView)
-    → AnswerPromise asked.wanted NoMemory (answer_call limit source source (sinks_of out out err err))
+pub none_answered : HaveOutcomes → (asked : FullOutput) (limit : ℕ) (source : SourceView) (out err : SinkView)
+    → AnswerPromise asked.expected_output NoMemory (answer_call limit source source (sinks_of out out err err))
 none_answered have asked limit source out err =
     let sinks = sinks_of out out err err in
     let rest = outcomes_of have [] (closed []) in

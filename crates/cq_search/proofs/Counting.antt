@@ -6,8 +6,8 @@ use Rattle.std.proofs.lemmas.List.Concat.{length-flat_map}
 use Rattle.std.proofs.lemmas.List.Sums.{count_by-le-length}
 use Rattle.std.proofs.lemmas.List.Sorted.{sum_by-IsPermutation}
 use Rattle.pgn_batches.specs.Games.{games_of, number_of}
-use Rattle.pgn_batches.specs.Kept.{KeptGames}
-use Rattle.pgn_batches.specs.Rounds.{HasRoundsCause, ReadsAll, SaysRounds}
+use Rattle.pgn_batches.specs.KeptGames.{KeptGames}
+use Rattle.pgn_batches.specs.Visits.{HasVisitCause, ReadsAll, IsVisitResult}
 use Rattle.pgn_batches.specs.Whole.{cut_games}
 use Rattle.pgn_batches.specs.declared.batch.Batch.{Batch}
 use Rattle.pgn_batches.specs.declared.state.BatchFault.{BatchFault}
@@ -15,7 +15,7 @@ use Rattle.pgn_batches.specs.declared.state.BatchFault.TheVariants.{ReadFault, A
 use Rattle.cq_outside.specs.Faults.{Rose}
 use Rattle.cq_common.specs.declared.faults.Refusal.TheVariants.{Fault}
 use Rattle.cq_shards.specs.Answers.{AnswersBatch, answers_from, found_in, text_of}
-use Rattle.cq_shards.specs.Outcomes.{Outcome}
+use Rattle.cq_shards.specs.ReadResults.{ReadResult}
 use Rattle.cq_shards.specs.declared.answers.Answer.TheVariants.{Match, Miss, Refused}
 use Rattle.cq_shards.specs.declared.answers.GameAnswer.{GameAnswer}
 use Rattle.cql_syntax.specs.Hits.{marked}
@@ -25,13 +25,13 @@ use Rattle.pgn_export.specs.Export.{export_text}
 use Rattle.pgn_reader.specs.declared.fault.GameFault.{GameFault}
 use Rattle.cq_search.specs.declared.tally.Tally.{Tally}
 use Rattle.cq_search.specs.declared.totals.Totals.{Totals}
-use Rattle.cq_search.specs.Answer.{export_if, is_match, is_refused}
+use Rattle.cq_search.specs.GameOutput.{export_if, is_match, is_refused}
 use Rattle.cq_search.specs.Exports.{AreExports, matches_from}
-use Rattle.cq_search.specs.ByBatches.{Laws}
-use Rattle.cq_search.specs.Outcomes.{HasGames}
+use Rattle.cq_search.specs.Internal.ByBatches.{Laws}
+use Rattle.cq_search.specs.ArchiveGames.{HasGames}
 use Rattle.cq_search.specs.SelfRun.{AreTotals, totals_of}
-use Rattle.cq_search.specs.Takers.{Reading, Taken}
-use Rattle.cq_search.specs.Writing.{counted}
+use Rattle.cq_search.specs.Internal.Visits.{HaveReadResults, HasVisited}
+use Rattle.cq_search.specs.Internal.Writing.{counted}
 use Rattle.cq_search.proofs.AnswerPromise.{may_be}
 use Rattle.cq_search.proofs.GameByGame.{InBatch, IsFound, answers_count, is_faulty, is_found, is_no_match, next_in, same_tally, tallied_more, tally_with}
 use Rattle.cq_search.proofs.Exports.{texts_same}
@@ -51,14 +51,14 @@ abbrev pub with_one : Totals → ℕ → ℕ → ℕ → Totals
 with_one before matched refused written =
     totals_with before.bytes (tally_with (before.tally.games + 1) (before.tally.matched + matched) (before.tally.refused + refused)) (before.written + written)
 
-pub missed : (query : QueryTree) (r : Outcome) (before : Totals) → Miss ≡ found_in query r → with_one before 0 0 0 ≡ counted query before r
+pub missed : (query : QueryTree) (r : ReadResult) (before : Totals) → Miss ≡ found_in query r → with_one before 0 0 0 ≡ counted query before r
 missed query (Ok game) before is =
     let none = is_no_match query (Ok game) is in
     same_totals before.bytes _ _ _ _ (same_tally _ _ _ _ _ _ refl (ap (λ b. before.tally.matched + cond b 1 0) (sym none)) refl)
     (ap (λ b. before.written + length (cond b (export_text (marked query game)) [])) (sym none))
 missed query (Err fault) before is = absurd cc
 
-pub found : (query : QueryTree) (r : Outcome) (before : Totals) (text : List ℕ) (values : List ℤ) (n : ℕ) → Match text values ≡ found_in query r → n ≡ length text
+pub found : (query : QueryTree) (r : ReadResult) (before : Totals) (text : List ℕ) (values : List ℤ) (n : ℕ) → Match text values ≡ found_in query r → n ≡ length text
     → with_one before 1 0 n ≡ counted query before r
 found query r before text values n is long =
     let one : IsFound query r text = is_found query r text values is in
@@ -68,24 +68,24 @@ found query r before text values n is long =
     (ap (λ k. before.written + k) long ∙ ap (λ t. before.written + length t) one.text_is
     ∙ ap (λ b. before.written + length (cond b (export_text (marked query one.game)) [])) (sym one.some)))
 
-pub faulty : (query : QueryTree) (r : Outcome) (before : Totals) (fault : GameFault) → Refused fault ≡ found_in query r → with_one before 0 1 0 ≡ counted query before r
+pub faulty : (query : QueryTree) (r : ReadResult) (before : Totals) (fault : GameFault) → Refused fault ≡ found_in query r → with_one before 0 1 0 ≡ counted query before r
 faulty query r before fault is = subst (λ o. with_one before 0 1 0 ≡ counted query before o) (sym (is_faulty query r fault is)) refl
 
 -- ---- the games of a batch
 
-lengths_more : (query : QueryTree) (rs : List Outcome) (r : Outcome)
+lengths_more : (query : QueryTree) (rs : List ReadResult) (r : ReadResult)
     → length (flat_map (export_if query) rs) + length (export_if query r) ≡ length (flat_map (export_if query) (rs ++ r ∷ []))
 lengths_more query rs r =
     sym (ap length (flat_map-append (export_if query) rs (r ∷ [])) ∙ length-append (flat_map (export_if query) rs) (flat_map (export_if query) (r ∷ []))
     ∙ ap (λ l. length (flat_map (export_if query) rs) + length l) (append-nil (export_if query r)))
 
-totals_more : (query : QueryTree) (bytes : ℕ) (rs : List Outcome) (r : Outcome) → counted query (totals_of query bytes rs) r ≡ totals_of query bytes (rs ++ r ∷ [])
+totals_more : (query : QueryTree) (bytes : ℕ) (rs : List ReadResult) (r : ReadResult) → counted query (totals_of query bytes rs) r ≡ totals_of query bytes (rs ++ r ∷ [])
 totals_more query bytes rs r = same_totals bytes _ _ _ _ (sym (tallied_more query rs r)) (lengths_more query rs r)
 
 -- one answer more
 pub count_more : (query : QueryTree) (bytes : ℕ) (a : GameAnswer) (batch : InBatch query a) (totals new : Totals)
     → totals ≡ totals_of query bytes (batch.before ++ take (length batch.ys) batch.outcomes)
-    → ((r : Outcome) (n : ℕ) → a ≡ record { index = n; what = found_in query r } → new ≡ counted query totals r)
+    → ((r : ReadResult) (n : ℕ) → a ≡ record { index = n; what = found_in query r } → new ≡ counted query totals r)
     → new ≡ totals_of query bytes (batch.before ++ take (length (batch.ys ++ a ∷ [])) batch.outcomes)
 count_more query bytes a batch totals new so_far does =
     let next = next_in query a batch in
@@ -97,7 +97,7 @@ count_more query bytes a batch totals new so_far does =
 -- ---- all batches
 
 -- the exports are as long in any order
-same_length : (query : QueryTree) (outcomes : List Outcome) (exports : List ℕ) → AreExports query outcomes exports
+same_length : (query : QueryTree) (outcomes : List ReadResult) (exports : List ℕ) → AreExports query outcomes exports
     → length (flat_map (export_if query) outcomes) ≡ length exports
 same_length query outcomes exports are =
     let here = matches_from query 0 outcomes in
@@ -107,10 +107,10 @@ same_length query outcomes exports are =
 
 -- what was counted of the games that were taken
 abbrev pub CountedIn : QueryTree → ℕ → Totals → KeptGames → Type 0
-CountedIn query bytes totals games = Reading games (λ outcomes. totals ≡ totals_of query bytes outcomes)
+CountedIn query bytes totals games = HaveReadResults games (λ outcomes. totals ≡ totals_of query bytes outcomes)
 
 -- by what is asked now, which is what was asked
-pub counted_now : (was now : QueryTree) (bytes : ℕ) (totals : Totals) (games : KeptGames) → Taken was now games (λ outcomes. totals ≡ totals_of was bytes outcomes)
+pub counted_now : (was now : QueryTree) (bytes : ℕ) (totals : Totals) (games : KeptGames) → HasVisited was now games (λ outcomes. totals ≡ totals_of was bytes outcomes)
     → CountedIn now bytes totals games
 counted_now was now bytes totals games taken = subst (λ q. CountedIn q bytes totals games) (sym taken.same) taken.reading
 
@@ -167,7 +167,7 @@ none_too_long archive front after limit is low long =
     let lengths : length archive ≡ length (front ++ after) = ap length is in
     omega (arith, parts, lengths, low, long)
 
-pub never_faults : {X : Type 0} (archive after : List ℕ) (limit : ℕ) (fault : BatchFault) (Taken : KeptGames → Type 0) (Stopped : KeptGames → KeptGames → X → Type 0)
-    → length archive ≤ limit → SaysRounds limit (Some archive) (Some after) Taken Stopped (Err (Fault fault)) → HasRoundsCause {X = X} 0 0 (Err (Fault fault)) → ⊥
-never_faults archive after limit ReadFault Taken Stopped low says cause = none_rose cause
-never_faults archive after limit ArchiveTooLong Taken Stopped low says cause = none_too_long archive says.front after limit says.reads.takes low says.count
+pub never_faults : {X : Type 0} (archive after : List ℕ) (limit : ℕ) (fault : BatchFault) (HasVisited : KeptGames → Type 0) (Stopped : KeptGames → KeptGames → X → Type 0)
+    → length archive ≤ limit → IsVisitResult limit (Some archive) (Some after) HasVisited Stopped (Err (Fault fault)) → HasVisitCause {X = X} 0 0 (Err (Fault fault)) → ⊥
+never_faults archive after limit ReadFault HasVisited Stopped low says cause = none_rose cause
+never_faults archive after limit ArchiveTooLong HasVisited Stopped low says cause = none_too_long archive says.front after limit says.reads.takes low says.count

@@ -1,16 +1,16 @@
 -- How a call ends, from how the batches of the archive were taken.
 use Rattle.std.proofs.Common.{◌≡◌, ◌⊎◌, ℕ, ◌≤◌, ◌<◌, List, [], ◌∷◌, ◌++◌, length, take, Some, refl, arith, subst, inl, inr}
-use Rattle.pgn_batches.specs.Rounds.{AreFirst, Reads, ReadsAll}
+use Rattle.pgn_batches.specs.Visits.{AreLeadingGames, Reads, ReadsAll}
 use Rattle.pgn_batches.specs.Whole.{cut_games, whole, whole_spans}
 use Rattle.cq_outside.specs.Faults.{Rose}
 use Rattle.pgn_cut.specs.Cut.{cut, closed}
-use Rattle.cq_shards.specs.Outcomes.{Outcome, AreKeptRead}
+use Rattle.cq_shards.specs.ReadResults.{ReadResult, AreKeptRead}
 use Rattle.cq_queries.specs.declared.status.Status.{Status}
 use Rattle.cq_queries.specs.declared.status.Status.TheVariants.{Done, DoneWithRefusals, QueryRefused, WordsRefused, OpenFault, ReadFault, WriteFault, NoMemory, ArchiveTooLong}
-use Rattle.cq_search.specs.ByBatches.{Laws}
-use Rattle.cq_search.specs.Promise.{Answering, Wanted, FindsAll, Stops, Breaks, WritesPart, WritesSome, SaysOfAnswer, Suffices, AnswersAll, AnswerPromise, ReadsNoMore, NothingFails, IsOneOf}
+use Rattle.cq_search.specs.Internal.ByBatches.{Laws}
+use Rattle.cq_search.specs.Promise.{SearchCall, ExpectedOutput, FindsAll, Stops, Breaks, WritesPart, WritesSome, SaysOfAnswer, Suffices, AnswersAll, AnswerPromise, ReadsNoMore, NothingFails, IsOneOf}
 use Rattle.cq_queries.specs.Views.{Texts, WritesPrefix, NoWriteFailed, OneSinkFailed}
-use Rattle.cq_search.specs.Takers.{StopsIn}
+use Rattle.cq_search.specs.Internal.Visits.{StopsIn}
 use Rattle.cq_search.proofs.AnswerPromise.{may_be, not_overrun, not_too_long}
 use Rattle.cq_search.proofs.Given.{reads_archive, whole_are}
 use Rattle.cq_search.proofs.Known.{AllRead, Known, ReadOn, first_closed, read_on, takes_some}
@@ -19,13 +19,13 @@ use Rattle.cq_queries.proofs.Sinks.{some_failed}
 -- ---- where it was stopped
 
 -- Each sink has taken a prefix of its text, whatever games follow.
-abbrev pub WritesEver : Wanted → Answering → List Outcome → Type 0
-WritesEver wanted call outcomes = (more : List Outcome) → WritesPart (wanted.reading (outcomes ++ more)) call.sinks
+abbrev pub WritesEver : ExpectedOutput → SearchCall → List ReadResult → Type 0
+WritesEver expected_output call outcomes = (more : List ReadResult) → WritesPart (expected_output.reading (outcomes ++ more)) call.sinks
 
-stops_by : Laws → (wanted : Wanted) (call : Answering) (known : Known call) → WritesEver wanted call known.outcomes
-    → AreFirst known.games (whole known.front) ⊎ (ReadsAll call.limit call.source.left call.source_after.left known.front × AreFirst known.games (cut_games known.front))
-    → Stops wanted call
-stops_by laws wanted call known writes (inl first) =
+stops_by : Laws → (expected_output : ExpectedOutput) (call : SearchCall) (known : Known call) → WritesEver expected_output call known.outcomes
+    → AreLeadingGames known.games (whole known.front) ⊎ (ReadsAll call.limit call.source.left call.source_after.left known.front × AreLeadingGames known.games (cut_games known.front))
+    → Stops expected_output call
+stops_by laws expected_output call known writes (inl first) =
     let on : ReadOn known.front (closed known.front) known.outcomes =
     read_on laws known.front (closed known.front) known.games known.outcomes (first_closed laws known.front known.games first) known.are_read in
     inl (record {
@@ -36,7 +36,7 @@ stops_by laws wanted call known writes (inl first) =
       are_read = on.are_read;
       holds = writes on.more;
     })
-stops_by laws wanted call known writes (inr (all, first)) =
+stops_by laws expected_output call known writes (inr (all, first)) =
     let on : ReadOn known.front (cut known.front) known.outcomes = read_on laws known.front (cut known.front) known.games known.outcomes first known.are_read in
     let part = writes on.more in
     inr (record {
@@ -52,10 +52,10 @@ stops_by laws wanted call known writes (inr (all, first)) =
     })
 
 -- no memory
-pub starves : Laws → (wanted : Wanted) (call : Answering) (known : Known call) → ReadsNoMore wanted call → WritesEver wanted call known.outcomes → NothingFails call
-    → AnswerPromise wanted NoMemory call
-starves laws wanted call known needed writes unfailed = record {
-  says = (stops_by laws wanted call known writes known.first, unfailed);
+pub starves : Laws → (expected_output : ExpectedOutput) (call : SearchCall) (known : Known call) → ReadsNoMore expected_output call → WritesEver expected_output call known.outcomes → NothingFails call
+    → AnswerPromise expected_output NoMemory call
+starves laws expected_output call known needed writes unfailed = record {
+  says = (stops_by laws expected_output call known writes known.first, unfailed);
   takes = takes_some call known.front known.reads;
   reads_no_more = needed;
   too_long_always = λ _. inl (inr (inr (inl refl)));
@@ -63,10 +63,10 @@ starves laws wanted call known needed writes unfailed = record {
 }
 
 -- a write that failed
-pub breaks_off : Laws → (wanted : Wanted) (call : Answering) (known : Known call) → ReadsNoMore wanted call → WritesEver wanted call known.outcomes
-    → call.source_after.faults ≡ call.source.faults → OneSinkFailed call.sinks → AnswerPromise wanted WriteFault call
-breaks_off laws wanted call known needed writes counts failed = record {
-  says = (failed, counts, stops_by laws wanted call known writes known.first);
+pub breaks_off : Laws → (expected_output : ExpectedOutput) (call : SearchCall) (known : Known call) → ReadsNoMore expected_output call → WritesEver expected_output call known.outcomes
+    → call.source_after.faults ≡ call.source.faults → OneSinkFailed call.sinks → AnswerPromise expected_output WriteFault call
+breaks_off laws expected_output call known needed writes counts failed = record {
+  says = (failed, counts, stops_by laws expected_output call known writes known.first);
   takes = takes_some call known.front known.reads;
   reads_no_more = needed;
   too_long_always = λ _. inl (inr (inl refl));
@@ -74,32 +74,32 @@ breaks_off laws wanted call known needed writes counts failed = record {
 }
 
 -- either of them
-pub stopped : Laws → (status : Status) (wanted : Wanted) (call : Answering) (known : Known call) (texts : Texts) → ReadsNoMore wanted call
-    → (WritesPrefix call.sinks texts → WritesEver wanted call known.outcomes) → call.source_after.faults ≡ call.source.faults → StopsIn texts call.sinks status
-    → AnswerPromise wanted status call
-stopped laws WriteFault wanted call known texts needed ever counts stops = breaks_off laws wanted call known needed (ever stops.0) counts stops.1
-stopped laws NoMemory wanted call known texts needed ever counts stops = starves laws wanted call known needed (ever stops.0) (record { source = counts; sinks = stops.1 })
-stopped laws Done wanted call known texts needed ever counts stops = absurd stops
-stopped laws DoneWithRefusals wanted call known texts needed ever counts stops = absurd stops
-stopped laws QueryRefused wanted call known texts needed ever counts stops = absurd stops
-stopped laws WordsRefused wanted call known texts needed ever counts stops = absurd stops
-stopped laws OpenFault wanted call known texts needed ever counts stops = absurd stops
-stopped laws ReadFault wanted call known texts needed ever counts stops = absurd stops
-stopped laws ArchiveTooLong wanted call known texts needed ever counts stops = absurd stops
+pub stopped : Laws → (status : Status) (expected_output : ExpectedOutput) (call : SearchCall) (known : Known call) (texts : Texts) → ReadsNoMore expected_output call
+    → (WritesPrefix call.sinks texts → WritesEver expected_output call known.outcomes) → call.source_after.faults ≡ call.source.faults → StopsIn texts call.sinks status
+    → AnswerPromise expected_output status call
+stopped laws WriteFault expected_output call known texts needed ever counts stops = breaks_off laws expected_output call known needed (ever stops.0) counts stops.1
+stopped laws NoMemory expected_output call known texts needed ever counts stops = starves laws expected_output call known needed (ever stops.0) (record { source = counts; sinks = stops.1 })
+stopped laws Done expected_output call known texts needed ever counts stops = absurd stops
+stopped laws DoneWithRefusals expected_output call known texts needed ever counts stops = absurd stops
+stopped laws QueryRefused expected_output call known texts needed ever counts stops = absurd stops
+stopped laws WordsRefused expected_output call known texts needed ever counts stops = absurd stops
+stopped laws OpenFault expected_output call known texts needed ever counts stops = absurd stops
+stopped laws ReadFault expected_output call known texts needed ever counts stops = absurd stops
+stopped laws ArchiveTooLong expected_output call known texts needed ever counts stops = absurd stops
 
 -- ---- after a fault of reading
 
 -- the games of the whole batches of the bytes read were answered
-pub record Broken (wanted : Wanted) (call : Answering) (AreTaken : ℕ → Type 0) : Type 0 where
+pub record Broken (expected_output : ExpectedOutput) (call : SearchCall) (AreTaken : ℕ → Type 0) : Type 0 where
   pub front : List ℕ
-  pub outcomes : List Outcome
+  pub outcomes : List ReadResult
   pub reads : Reads call.limit call.source.left call.source_after.left front
   pub count : AreTaken (length front)
   pub are_read : AreKeptRead (whole front) outcomes
-  pub writes : WritesSome (wanted.faulted outcomes) call.sinks
+  pub writes : WritesSome (expected_output.faulted outcomes) call.sinks
 
-breaks : Laws → (wanted : Wanted) (call : Answering) (AreTaken Are : ℕ → Type 0) → (at : Broken wanted call AreTaken) → Are (length at.front) → Breaks wanted call Are
-breaks laws wanted call AreTaken Are at count = record {
+breaks : Laws → (expected_output : ExpectedOutput) (call : SearchCall) (AreTaken Are : ℕ → Type 0) → (at : Broken expected_output call AreTaken) → Are (length at.front) → Breaks expected_output call Are
+breaks laws expected_output call AreTaken Are at count = record {
   front = at.front;
   outcomes = at.outcomes;
   takes = at.reads.takes;
@@ -108,36 +108,36 @@ breaks laws wanted call AreTaken Are at count = record {
   holds = (count, at.writes);
 }
 
-pub unread : Laws → (wanted : Wanted) (call : Answering) → Broken wanted call (λ n. n ≤ call.limit) → ReadsNoMore wanted call
-    → Rose call.source.faults call.source_after.faults → NoWriteFailed call.sinks → AnswerPromise wanted ReadFault call
-unread laws wanted call at needed rose unfailed = record {
-  says = (rose, unfailed, breaks laws wanted call (λ n. n ≤ call.limit) (λ n. Unit {0}) at tt);
+pub unread : Laws → (expected_output : ExpectedOutput) (call : SearchCall) → Broken expected_output call (λ n. n ≤ call.limit) → ReadsNoMore expected_output call
+    → Rose call.source.faults call.source_after.faults → NoWriteFailed call.sinks → AnswerPromise expected_output ReadFault call
+unread laws expected_output call at needed rose unfailed = record {
+  says = (rose, unfailed, breaks laws expected_output call (λ n. n ≤ call.limit) (λ n. Unit {0}) at tt);
   takes = takes_some call at.front at.reads;
   reads_no_more = needed;
   too_long_always = λ much. absurd (not_overrun call.limit call.source call.source_after (record { bytes = at.front; takes = at.reads.takes; few = at.count }) much);
   complete = λ all. absurd (all.no_read rose);
 }
 
-never_within : (wanted : Wanted) (call : Answering) (archive : List ℕ) → ((length archive ≤ call.limit) → ⊥) → (Suffices wanted (take call.limit archive) → ⊥)
-    → (length archive ≤ call.limit) ⊎ Suffices wanted (take call.limit archive) → ⊥
-never_within wanted call archive long never (inl few) = long few
-never_within wanted call archive long never (inr enough) = never enough
+never_within : (expected_output : ExpectedOutput) (call : SearchCall) (archive : List ℕ) → ((length archive ≤ call.limit) → ⊥) → (Suffices expected_output (take call.limit archive) → ⊥)
+    → (length archive ≤ call.limit) ⊎ Suffices expected_output (take call.limit archive) → ⊥
+never_within expected_output call archive long never (inl few) = long few
+never_within expected_output call archive long never (inr enough) = never enough
 
-pub too_long : Laws → (wanted : Wanted) (call : Answering) → (at : Broken wanted call (λ n. call.limit < n)) → ReadsNoMore wanted call
-    → ((archive : List ℕ) → call.source.left ≡ Some archive → Suffices wanted (take call.limit archive) → ⊥) → NothingFails call → AnswerPromise wanted ArchiveTooLong call
-too_long laws wanted call at needed never unfailed = record {
-  says = (breaks laws wanted call (λ n. call.limit < n) (λ n. call.limit < n) at at.count, unfailed);
+pub too_long : Laws → (expected_output : ExpectedOutput) (call : SearchCall) → (at : Broken expected_output call (λ n. call.limit < n)) → ReadsNoMore expected_output call
+    → ((archive : List ℕ) → call.source.left ≡ Some archive → Suffices expected_output (take call.limit archive) → ⊥) → NothingFails call → AnswerPromise expected_output ArchiveTooLong call
+too_long laws expected_output call at needed never unfailed = record {
+  says = (breaks laws expected_output call (λ n. call.limit < n) (λ n. call.limit < n) at at.count, unfailed);
   takes = takes_some call at.front at.reads;
   reads_no_more = needed;
   too_long_always = λ _. inl (inl refl);
-  complete = λ every. absurd (never_within wanted call every.archive
+  complete = λ every. absurd (never_within expected_output call every.archive
       (λ few. not_too_long call.limit call.source call.source_after every.archive every.tells few (record { bytes = at.front; takes = at.reads.takes; long = at.count }))
       (never every.archive every.tells) every.within);
 }
 
 -- ---- all games were answered
 
-pub finds_all : (call : Answering) (archive : List ℕ) (outcomes : List Outcome) (Holds : List Outcome → Type 0) → AllRead call archive outcomes → Holds outcomes → FindsAll call Holds
+pub finds_all : (call : SearchCall) (archive : List ℕ) (outcomes : List ReadResult) (Holds : List ReadResult → Type 0) → AllRead call archive outcomes → Holds outcomes → FindsAll call Holds
 finds_all call archive outcomes Holds all holds = record {
   archive = archive;
   outcomes = outcomes;
@@ -150,9 +150,9 @@ finds_all call archive outcomes Holds all holds = record {
   holds = holds;
 }
 
-pub ends : (status : Status) (wanted : Wanted) (call : Answering) (archive : List ℕ) (outcomes : List Outcome) → AllRead call archive outcomes → ReadsNoMore wanted call
-    → SaysOfAnswer status wanted call → (AnswersAll wanted call → IsOneOf status (Done ∷ DoneWithRefusals ∷ NoMemory ∷ [])) → AnswerPromise wanted status call
-ends status wanted call archive outcomes all needed says complete = record {
+pub ends : (status : Status) (expected_output : ExpectedOutput) (call : SearchCall) (archive : List ℕ) (outcomes : List ReadResult) → AllRead call archive outcomes → ReadsNoMore expected_output call
+    → SaysOfAnswer status expected_output call → (AnswersAll expected_output call → IsOneOf status (Done ∷ DoneWithRefusals ∷ NoMemory ∷ [])) → AnswerPromise expected_output status call
+ends status expected_output call archive outcomes all needed says complete = record {
   says = says;
   takes = record { bytes = archive; takes = all.reads.takes; few = let w = all.reads.within in omega (arith, w) };
   reads_no_more = needed;

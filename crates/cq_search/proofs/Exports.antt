@@ -18,11 +18,11 @@ use Rattle.cq_shards.specs.declared.answers.GameAnswer.{GameAnswer}
 use Rattle.cql_syntax.specs.Hits.{marked, keys, hits}
 use Rattle.cql_syntax.specs.Trees.{FilterTrees, QueryTree}
 use Rattle.cq_shards.specs.Answers.{has_match}
-use Rattle.cq_search.specs.Answer.{export_if}
+use Rattle.cq_search.specs.GameOutput.{export_if}
 use Rattle.cq_search.specs.Exports.{AreExports, exports_of, match_if, matches_from}
 use Rattle.cq_shards.specs.Answers.{text_of}
-use Rattle.cq_shards.specs.Outcomes.{Outcome}
-use Rattle.cq_search.specs.Writing.{InOrder}
+use Rattle.cq_shards.specs.ReadResults.{ReadResult}
+use Rattle.cq_search.specs.Internal.Writing.{InOrder}
 use Rattle.cq_search.specs.AllGames.{written}
 
 pub only_values : (values : List ℤ) → values_in (map Some values) ≡ values
@@ -33,11 +33,11 @@ pub first_none : (xs ys : List ℕ) → xs ++ ys ≡ [] → xs ≡ []
 first_none [] ys e = refl
 first_none (x ∷ xs) ys e = cc
 
-pub written_none : (query : QueryTree) (outcomes : List Outcome) → flat_map (written true query) outcomes ≡ []
+pub written_none : (query : QueryTree) (outcomes : List ReadResult) → flat_map (written true query) outcomes ≡ []
 written_none query [] = refl
 written_none query (r ∷ rs) = written_none query rs
 
-pub matches_more : (query : QueryTree) (n : ℕ) (rs : List Outcome) (r : Outcome) → matches_from query n rs ++ match_if query (n + length rs) r ≡ matches_from query n (rs ++ r ∷ [])
+pub matches_more : (query : QueryTree) (n : ℕ) (rs : List ReadResult) (r : ReadResult) → matches_from query n rs ++ match_if query (n + length rs) r ≡ matches_from query n (rs ++ r ∷ [])
 unfolding matches_from
 matches_more query n [] r = ap (λ k. match_if query k r) (let e : n + 0 ≡ n = omega arith in e) ∙ sym (append-nil (match_if query n r))
 matches_more query n (q ∷ qs) r =
@@ -72,7 +72,7 @@ one_of_game query n game false none = All-nil (IsOfGame query n)
 one_of_game query n game true some =
     All-cons (IsOfGame query n) _ [] (record { later = omega arith; found = refl; keyed = values_counted query game some }) (All-nil (IsOfGame query n))
 
-if_of_game : (query : QueryTree) (n : ℕ) (r : Outcome) → All (IsOfGame query n) (match_if query n r)
+if_of_game : (query : QueryTree) (n : ℕ) (r : ReadResult) → All (IsOfGame query n) (match_if query n r)
 if_of_game query n (Ok game) = one_of_game query n game (has_match query game) refl
 if_of_game query n (Err fault) = All-nil (IsOfGame query n)
 
@@ -82,7 +82,7 @@ later_too query n a is = record { later = let l = is.later in omega (arith, l); 
 all_later : (query : QueryTree) (n : ℕ) (xs : List GameAnswer) → All (IsOfGame query (n + 1)) xs → All (IsOfGame query n) xs
 all_later query n xs all = λ i d below. later_too query n (get_or xs i d) (all i d below)
 
-all_of_games : (query : QueryTree) (n : ℕ) (rs : List Outcome) → All (IsOfGame query n) (matches_from query n rs)
+all_of_games : (query : QueryTree) (n : ℕ) (rs : List ReadResult) → All (IsOfGame query n) (matches_from query n rs)
 unfolding matches_from
 all_of_games query n [] = All-nil (IsOfGame query n)
 all_of_games query n (r ∷ rs) =
@@ -99,11 +99,11 @@ before_if query n game true more all pairs =
     let here : GameAnswer = record { index = n; what = Match (export_text (marked query game)) (values_in (keys query game)) } in
     AllPairs-cons IsEarlier here more (λ i d below. earlier_than query n here (get_or more i d) refl (all i d below)) pairs
 
-one_before : (query : QueryTree) (n : ℕ) (r : Outcome) (more : List GameAnswer) → All (IsOfGame query (n + 1)) more → AllPairs IsEarlier more → AllPairs IsEarlier (match_if query n r ++ more)
+one_before : (query : QueryTree) (n : ℕ) (r : ReadResult) (more : List GameAnswer) → All (IsOfGame query (n + 1)) more → AllPairs IsEarlier more → AllPairs IsEarlier (match_if query n r ++ more)
 one_before query n (Err fault) more all pairs = pairs
 one_before query n (Ok game) more all pairs = before_if query n game (has_match query game) more all pairs
 
-in_archive_order : (query : QueryTree) (n : ℕ) (rs : List Outcome) → AllPairs IsEarlier (matches_from query n rs)
+in_archive_order : (query : QueryTree) (n : ℕ) (rs : List ReadResult) → AllPairs IsEarlier (matches_from query n rs)
 unfolding matches_from
 in_archive_order query n [] = λ i j d before below. absurd (omega (arith, below))
 in_archive_order query n (r ∷ rs) = one_before query n r (matches_from query (n + 1) rs) (all_of_games query (n + 1) rs) (in_archive_order query (n + 1) rs)
@@ -122,11 +122,11 @@ game_same : (query : QueryTree) (n : ℕ) (game : Game) (b : Bool)
 game_same query n game true = append-nil (export_text (marked query game))
 game_same query n game false = refl
 
-text_same : (query : QueryTree) (n : ℕ) (r : Outcome) → exports_of (match_if query n r) ≡ export_if query r
+text_same : (query : QueryTree) (n : ℕ) (r : ReadResult) → exports_of (match_if query n r) ≡ export_if query r
 text_same query n (Ok game) = game_same query n game (has_match query game)
 text_same query n (Err fault) = refl
 
-pub texts_same : (query : QueryTree) (n : ℕ) (rs : List Outcome) → exports_of (matches_from query n rs) ≡ flat_map (export_if query) rs
+pub texts_same : (query : QueryTree) (n : ℕ) (rs : List ReadResult) → exports_of (matches_from query n rs) ≡ flat_map (export_if query) rs
 unfolding matches_from
 texts_same query n [] = refl
 texts_same query n (r ∷ rs) =
@@ -141,14 +141,14 @@ keyless : (query : QueryTree) (a : GameAnswer) → directions query.items ≡ []
 keyless query a none is = no_keys (keys_in a.what) (is.keyed ∙ ap length none)
 
 -- without a sort item archive order is the one order
-plain_order : (query : QueryTree) (outcomes : List Outcome) → directions query.items ≡ [] → AllPairs (ComesBefore []) (matches_from query 0 outcomes)
+plain_order : (query : QueryTree) (outcomes : List ReadResult) → directions query.items ≡ [] → AllPairs (ComesBefore []) (matches_from query 0 outcomes)
 plain_order query outcomes none = λ i j d before below.
     let all = all_of_games query 0 outcomes in
     let first = keyless query (get_or (matches_from query 0 outcomes) i d) none (all i d (omega (arith, before, below))) in
     let later = keyless query (get_or (matches_from query 0 outcomes) j d) none (all j d below) in
     inr (first ∙ sym later, in_archive_order query 0 outcomes i j d before below)
 
-pub unsorted_exports : (query : QueryTree) (outcomes : List Outcome) → have_sort query.items ≡ false → AreExports query outcomes (flat_map (export_if query) outcomes)
+pub unsorted_exports : (query : QueryTree) (outcomes : List ReadResult) → have_sort query.items ≡ false → AreExports query outcomes (flat_map (export_if query) outcomes)
 unsorted_exports query outcomes none = record {
   sorted = matches_from query 0 outcomes;
   same = IsPermutation-refl (matches_from query 0 outcomes);
@@ -168,11 +168,11 @@ all_matches query (a ∷ xs) all =
 apart : (xs : List GameAnswer) → AllPairs IsEarlier xs → AreApart xs
 apart xs pairs = λ i j d before below same. let less = pairs i j d before below in omega (arith, less, same)
 
-pub sorted_same : (query : QueryTree) (outcomes : List Outcome) (ordered : List GameAnswer) → InOrder query (matches_from query 0 outcomes) ordered
+pub sorted_same : (query : QueryTree) (outcomes : List ReadResult) (ordered : List GameAnswer) → InOrder query (matches_from query 0 outcomes) ordered
     → IsPermutation (matches_from query 0 outcomes) ordered
 sorted_same query outcomes ordered order = subst (λ xs. IsPermutation xs ordered) (all_matches query (matches_from query 0 outcomes) (all_of_games query 0 outcomes)) order.same
 
-pub sorted_exports : (query : QueryTree) (outcomes : List Outcome) (ordered : List GameAnswer) → InOrder query (matches_from query 0 outcomes) ordered → AreExports query outcomes (exports_of ordered)
+pub sorted_exports : (query : QueryTree) (outcomes : List ReadResult) (ordered : List GameAnswer) → InOrder query (matches_from query 0 outcomes) ordered → AreExports query outcomes (exports_of ordered)
 sorted_exports query outcomes ordered order = record {
   sorted = ordered;
   same = sorted_same query outcomes ordered order;

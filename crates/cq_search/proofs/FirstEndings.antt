@@ -4,25 +4,25 @@ use Rattle.std.specs.List.{flat_map}
 use Rattle.std.specs.Io.KnownBytes.{Consumes}
 use Rattle.std.proofs.lemmas.List.{take-append-le}
 use Rattle.pgn_batches.specs.Filling.{most_read}
-use Rattle.pgn_batches.specs.Kept.{KeptGames, kept}
-use Rattle.pgn_batches.specs.Rounds.{AreFirst, Gives, HasRoundsCause, Reads, ReadsAll, SaysRounds, TakesWhole}
+use Rattle.pgn_batches.specs.KeptGames.{KeptGames, kept}
+use Rattle.pgn_batches.specs.Visits.{AreLeadingGames, Gives, HasVisitCause, Reads, ReadsAll, IsVisitResult, TakesWhole}
 use Rattle.pgn_batches.specs.Whole.{cut_games, whole, whole_spans}
 use Rattle.cq_outside.specs.Faults.{Rose}
 use Rattle.cq_outside.specs.Flow.{Grew}
 use Rattle.cql_syntax.specs.Trees.{QueryTree}
 use Rattle.pgn_cut.specs.Cut.{cut}
-use Rattle.cq_shards.specs.Outcomes.{Outcome, AreKeptRead}
+use Rattle.cq_shards.specs.ReadResults.{ReadResult, AreKeptRead}
 use Rattle.cq_queries.specs.declared.status.Status.{Status}
 use Rattle.cq_queries.specs.declared.status.Status.TheVariants.{Done, DoneWithRefusals, QueryRefused, WordsRefused, OpenFault, ReadFault, WriteFault, NoMemory, ArchiveTooLong}
-use Rattle.cq_search.specs.Answer.{export_if, fault_lines}
-use Rattle.cq_search.specs.ByBatches.{Laws}
-use Rattle.cq_search.specs.FirstGame.{AreFirst as AreFirstGames, first_texts, first_texts_of, some_match, up_to_first, wanted}
-use Rattle.cq_search.specs.Outcomes.{AreRead}
-use Rattle.cq_search.specs.Promise.{Answering, Finds, Suffices, AnswersAll, AnswerPromise}
+use Rattle.cq_search.specs.GameOutput.{export_if, fault_lines}
+use Rattle.cq_search.specs.Internal.ByBatches.{Laws}
+use Rattle.cq_search.specs.FirstGame.{AreFirstMatchTexts as AreFirstGames, first_texts, first_texts_of, some_match, up_to_first, expected_output}
+use Rattle.cq_search.specs.ArchiveGames.{AreRead}
+use Rattle.cq_search.specs.Promise.{SearchCall, Finds, Suffices, AnswersAll, AnswerPromise}
 use Rattle.cq_queries.specs.Views.{Sinks, SinkView, SourceView, sinks_of, Texts, Writes, WritesPrefix}
 use Rattle.cq_search.specs.Promise.{SaysOfAnswer, EndsEarly, IsOneOf, Unfinished, WritesAll, WritesPart}
-use Rattle.cq_search.specs.Takers.{FirstStopped, FirstWritten, FoundNone, FoundOne, Reading, StopsIn, refused_of}
-use Rattle.cq_search.specs.Writing.{FoundSoFar, Stand, WritesSummary, stand_of}
+use Rattle.cq_search.specs.Internal.Visits.{FirstStopped, FirstWritten, FoundNone, FoundOne, HaveReadResults, StopsIn, refused_of}
+use Rattle.cq_search.specs.Internal.Writing.{FoundSoFar, SearchState, WritesSummary, search_state}
 use Rattle.cq_search.proofs.FirstGames.{all_up, are_first, first_is, some_grows, texts_same, no_first}
 use Rattle.cq_search.proofs.FirstTexts.{not_enough, Before, first_prefix, first_written, no_more, written_more}
 use Rattle.cq_search.proofs.Known.{AllRead, Known, ReadOn, all_read, cut_begins, first_spans, known_of, read_on, takes_some, whole_begins, with_none}
@@ -37,13 +37,13 @@ use Rattle.cq_common.specs.declared.faults.Refusal.{Refusal}
 use Rattle.cq_common.specs.declared.faults.Refusal.TheVariants.{Fault, NoMemory as IsNoMemory}
 use Rattle.cq_search.specs.AllGames.{texts_so_far}
 use Rattle.cq_search.specs.Sorts.{have_sort}
-use Rattle.cq_search.specs.Refused.{status_after}
-use Rattle.cq_search.proofs.AnswerPromise.{answer_call, asked_of, none_answered as all_unanswered}
+use Rattle.cq_search.specs.Internal.BatchRefusal.{status_after}
+use Rattle.cq_search.proofs.AnswerPromise.{answer_call, full_output_of, none_answered as all_unanswered}
 use Rattle.cq_search.proofs.GameByGame.{as_prefix, none_found, tally_with}
 
 -- ---- all was read
 
-all_taken : (query : QueryTree) (rs : List Outcome) (sinks : Sinks) (AreRefused : ℕ → Type 0) → AreRefused (refused_of query rs) → Writes sinks (first_texts_of query rs)
+all_taken : (query : QueryTree) (rs : List ReadResult) (sinks : Sinks) (AreRefused : ℕ → Type 0) → AreRefused (refused_of query rs) → Writes sinks (first_texts_of query rs)
     → WritesAll (AreFirstGames query rs) AreRefused sinks
 all_taken query rs sinks AreRefused refused writes = record {
   refused = refused_of query rs;
@@ -51,16 +51,16 @@ all_taken query rs sinks AreRefused refused writes = record {
   writes = record { texts = first_texts_of query rs; are = are_first query rs; writes = writes };
 }
 
-part_taken : (query : QueryTree) (rs : List Outcome) (sinks : Sinks) → WritesPrefix sinks (first_texts_of query rs) → WritesPart (Unfinished (first_texts query) rs) sinks
+part_taken : (query : QueryTree) (rs : List ReadResult) (sinks : Sinks) → WritesPrefix sinks (first_texts_of query rs) → WritesPart (Unfinished (first_texts query) rs) sinks
 part_taken query rs sinks writes = record { texts = first_texts_of query rs; are = inr (refused_of query rs, are_first query rs); writes = writes }
 
-promised : Laws → (status : Status) (query : QueryTree) (call : Answering) (archive : List ℕ) (rs : List Outcome) → AllRead call archive rs
+promised : Laws → (status : Status) (query : QueryTree) (call : SearchCall) (archive : List ℕ) (rs : List ReadResult) → AllRead call archive rs
     → Before query call → SaysOfAnswer status (first_texts query) call
     → (AnswersAll (first_texts query) call → IsOneOf status (Done ∷ DoneWithRefusals ∷ NoMemory ∷ [])) → AnswerPromise (first_texts query) status call
 promised laws status query call archive rs all before says complete =
     ends status (first_texts query) call archive rs all (no_more laws query call before) says complete
 
-first_read : Laws → (status : Status) (query : QueryTree) (call : Answering) (archive : List ℕ) (rs : List Outcome) → AllRead call archive rs
+first_read : Laws → (status : Status) (query : QueryTree) (call : SearchCall) (archive : List ℕ) (rs : List ReadResult) → AllRead call archive rs
     → Before query call → FirstWritten (refused_of query rs) (first_texts_of query rs) call.sinks status → AnswerPromise (first_texts query) status call
 first_read laws Done query call archive rs all before writes =
     promised laws Done query call archive rs all before (
@@ -93,7 +93,7 @@ first_read laws ArchiveTooLong query call archive rs all before writes = absurd 
 -- ---- before all was read
 
 -- what was written, whatever games follow
-ever : (query : QueryTree) (call : Answering) (rs : List Outcome) → ((more : List Outcome) → WritesPrefix call.sinks (first_texts_of query (rs ++ more)))
+ever : (query : QueryTree) (call : SearchCall) (rs : List ReadResult) → ((more : List ReadResult) → WritesPrefix call.sinks (first_texts_of query (rs ++ more)))
     → WritesEver (first_texts query) call rs
 ever query call rs writes = λ more. record {
   texts = first_texts_of query (rs ++ more);
@@ -102,14 +102,14 @@ ever query call rs writes = λ more. record {
 }
 
 -- the whole batches of the bytes taken have the first match
-record HasFirst (query : QueryTree) (call : Answering) : Type 0 where
+record HasFirst (query : QueryTree) (call : SearchCall) : Type 0 where
   pub front : List ℕ
-  pub outcomes : List Outcome
+  pub outcomes : List ReadResult
   pub reads : Reads call.limit call.source.left call.source_after.left front
   pub are_read : AreRead front (whole_spans front) outcomes
   pub some : some_match query outcomes ≡ true
 
-early_found : (query : QueryTree) (call : Answering) (AreRefused : ℕ → Type 0) → (has : HasFirst query call) → AreRefused (refused_of query has.outcomes)
+early_found : (query : QueryTree) (call : SearchCall) (AreRefused : ℕ → Type 0) → (has : HasFirst query call) → AreRefused (refused_of query has.outcomes)
     → Writes call.sinks (first_texts_of query has.outcomes)
     → Finds call whole_spans (λ front outcomes. WritesAll ((first_texts query).early outcomes) AreRefused call.sinks)
 early_found query call AreRefused has refused writes = record {
@@ -125,7 +125,7 @@ early_found query call AreRefused has refused writes = record {
   };
 }
 
-ends_early : (query : QueryTree) (call : Answering) → HasFirst query call → EndsEarly (first_texts query) call
+ends_early : (query : QueryTree) (call : SearchCall) → HasFirst query call → EndsEarly (first_texts query) call
 ends_early query call has = (
   has.front,
   has.reads.takes,
@@ -138,7 +138,7 @@ ends_early query call has = (
   },
 )
 
-early_promised : Laws → (status : Status) (query : QueryTree) (call : Answering) → Before query call → HasFirst query call
+early_promised : Laws → (status : Status) (query : QueryTree) (call : SearchCall) → Before query call → HasFirst query call
     → SaysOfAnswer status (first_texts query) call → IsOneOf status (Done ∷ DoneWithRefusals ∷ NoMemory ∷ []) → AnswerPromise (first_texts query) status call
 early_promised laws status query call before has says good = record {
   says = says;
@@ -149,11 +149,11 @@ early_promised laws status query call before has says good = record {
 }
 
 -- the texts of a match do not change with more games
-same_prefix : (query : QueryTree) (rs more : List Outcome) (sinks : Sinks) → some_match query rs ≡ true → WritesPrefix sinks (first_texts_of query rs)
+same_prefix : (query : QueryTree) (rs more : List ReadResult) (sinks : Sinks) → some_match query rs ≡ true → WritesPrefix sinks (first_texts_of query rs)
     → WritesPrefix sinks (first_texts_of query (rs ++ more))
 same_prefix query rs more sinks some writes = subst (λ (t : Texts). WritesPrefix sinks t) (sym (texts_same query rs more some)) writes
 
-found_open : Laws → (status : Status) (query : QueryTree) (call : Answering) (known : Known call) → Before query call → call.source_after.faults ≡ call.source.faults
+found_open : Laws → (status : Status) (query : QueryTree) (call : SearchCall) (known : Known call) → Before query call → call.source_after.faults ≡ call.source.faults
     → FoundOne query call.sinks status known.outcomes → (has : HasFirst query call)
     → FirstWritten (refused_of query has.outcomes) (first_texts_of query has.outcomes) call.sinks status → AnswerPromise (first_texts query) status call
 found_open laws Done query call known before counts one has all =
@@ -173,9 +173,9 @@ found_open laws OpenFault query call known before counts one has all = absurd al
 found_open laws ReadFault query call known before counts one has all = absurd all
 found_open laws ArchiveTooLong query call known before counts one has all = absurd all
 
-found_by : Laws → (status : Status) (query : QueryTree) (call : Answering) (known : Known call) → Before query call → call.source_after.faults ≡ call.source.faults
+found_by : Laws → (status : Status) (query : QueryTree) (call : SearchCall) (known : Known call) → Before query call → call.source_after.faults ≡ call.source.faults
     → FoundOne query call.sinks status known.outcomes
-    → AreFirst known.games (whole known.front) ⊎ (ReadsAll call.limit call.source.left call.source_after.left known.front × AreFirst known.games (cut_games known.front))
+    → AreLeadingGames known.games (whole known.front) ⊎ (ReadsAll call.limit call.source.left call.source_after.left known.front × AreLeadingGames known.games (cut_games known.front))
     → AnswerPromise (first_texts query) status call
 found_by laws status query call known before counts one (inl first) =
     let on : ReadOn known.front (whole_spans known.front) known.outcomes =
@@ -194,17 +194,17 @@ found_by laws status query call known before counts one (inr (all, first)) =
     (written_more status query known.outcomes on.more call.sinks one.some one.writes)
 
 -- a match was found in the batch
-found_one : Laws → (status : Status) (query : QueryTree) (call : Answering) (known : Known call) → Before query call → call.source_after.faults ≡ call.source.faults
+found_one : Laws → (status : Status) (query : QueryTree) (call : SearchCall) (known : Known call) → Before query call → call.source_after.faults ≡ call.source.faults
     → FoundOne query call.sinks status known.outcomes → AnswerPromise (first_texts query) status call
 found_one laws status query call known before counts one = found_by laws status query call known before counts one known.first
 
 -- ---- after a fault of reading
 
 -- the games of the whole batches of the bytes read were answered, and none matches
-abbrev WholeUnmatched : QueryTree → (call : Answering) → Stand → (AreRead : ℕ → Type 0) → Type 0
-WholeUnmatched query call stand AreRead = TakesWhole call.limit call.source.left call.source_after.left AreRead (λ games. Reading games (FoundNone query call.sinks stand))
+abbrev WholeUnmatched : QueryTree → (call : SearchCall) → SearchState → (AreRead : ℕ → Type 0) → Type 0
+WholeUnmatched query call stand AreRead = TakesWhole call.limit call.source.left call.source_after.left AreRead (λ games. HaveReadResults games (FoundNone query call.sinks stand))
 
-broken : (query : QueryTree) (call : Answering) (stand : Stand) (AreRead : ℕ → Type 0) → WholeUnmatched query call stand AreRead → Broken (first_texts query) call AreRead
+broken : (query : QueryTree) (call : SearchCall) (stand : SearchState) (AreRead : ℕ → Type 0) → WholeUnmatched query call stand AreRead → Broken (first_texts query) call AreRead
 broken query call stand AreRead at =
     let rs = at.taken.outcomes in
     let so = at.taken.holds in
@@ -223,7 +223,7 @@ broken query call stand AreRead at =
       };
     }
 
-before_break : Laws → (query : QueryTree) (call : Answering) (stand : Stand) (AreRead : ℕ → Type 0) → WholeUnmatched query call stand AreRead → Before query call
+before_break : Laws → (query : QueryTree) (call : SearchCall) (stand : SearchState) (AreRead : ℕ → Type 0) → WholeUnmatched query call stand AreRead → Before query call
 before_break laws query call stand AreRead at = record {
   front = at.front;
   games = whole at.front;
@@ -234,7 +234,7 @@ before_break laws query call stand AreRead at = record {
   needed = whole_begins laws (length at.front - most_read) at.front;
 }
 
-first_unread : Laws → (query : QueryTree) (call : Answering) (stand : Stand) → WholeUnmatched query call stand (λ n. n ≤ call.limit)
+first_unread : Laws → (query : QueryTree) (call : SearchCall) (stand : SearchState) → WholeUnmatched query call stand (λ n. n ≤ call.limit)
     → Rose call.source.faults call.source_after.faults → AnswerPromise (first_texts query) ReadFault call
 first_unread laws query call stand at rose =
     unread laws (first_texts query) call (broken query call stand (λ n. n ≤ call.limit) at)
@@ -245,7 +245,7 @@ first_bytes : (archive front : List ℕ) (after : Option (List ℕ)) (limit : �
 first_bytes archive front None limit takes long = absurd takes
 first_bytes archive front (Some rest) limit takes long = ap (take limit) takes ∙ take-append-le limit front rest (omega (arith, long))
 
-first_too_long : Laws → (query : QueryTree) (call : Answering) (stand : Stand) → WholeUnmatched query call stand (λ n. call.limit < n)
+first_too_long : Laws → (query : QueryTree) (call : SearchCall) (stand : SearchState) → WholeUnmatched query call stand (λ n. call.limit < n)
     → call.source_after.faults ≡ call.source.faults → AnswerPromise (first_texts query) ArchiveTooLong call
 first_too_long laws query call stand at counts =
     too_long laws (first_texts query) call (broken query call stand (λ n. call.limit < n) at)
@@ -258,7 +258,7 @@ first_too_long laws query call stand at counts =
 
 -- ---- how a call ends
 
-before_of : (query : QueryTree) (call : Answering) (games batch : KeptGames) (rs : List Outcome) → Gives call.limit call.source.left call.source_after.left games batch
+before_of : (query : QueryTree) (call : SearchCall) (games batch : KeptGames) (rs : List ReadResult) → Gives call.limit call.source.left call.source_after.left games batch
     → AreKeptRead games rs → some_match query rs ≡ false → Before query call
 before_of query call games batch rs gives read none = record {
   front = gives.front;
@@ -270,7 +270,7 @@ before_of query call games batch rs gives read none = record {
   needed = gives.needed;
 }
 
-stopped_or_found : Laws → (status : Status) (query : QueryTree) (call : Answering) (known : Known call) → Before query call → call.source_after.faults ≡ call.source.faults
+stopped_or_found : Laws → (status : Status) (query : QueryTree) (call : SearchCall) (known : Known call) → Before query call → call.source_after.faults ≡ call.source.faults
     → StopsIn (texts_so_far false query (up_to_first query known.outcomes)) call.sinks status ⊎ FoundOne query call.sinks status known.outcomes
     → AnswerPromise (first_texts query) status call
 stopped_or_found laws status query call known before counts (inl stops) =
@@ -279,7 +279,7 @@ stopped_or_found laws status query call known before counts (inl stops) =
 stopped_or_found laws status query call known before counts (inr one) = found_one laws status query call known before counts one
 
 -- it was stopped at a batch
-pub first_stopped : Laws → (status : Status) (query : QueryTree) (call : Answering) (games batch : KeptGames)
+pub first_stopped : Laws → (status : Status) (query : QueryTree) (call : SearchCall) (games batch : KeptGames)
     → Gives call.limit call.source.left call.source_after.left games batch → call.source_after.faults ≡ call.source.faults
     → FirstStopped query call.sinks status games batch → AnswerPromise (first_texts query) status call
 first_stopped laws status query call games batch gives counts at =
@@ -287,15 +287,15 @@ first_stopped laws status query call games batch gives counts at =
     (before_of query call games batch at.before.outcomes gives at.before.are_read at.before.holds) counts at.after.holds
 
 -- what was written of games without a match
-so_far_prefix : (query : QueryTree) (rs : List Outcome) (sinks : Sinks) (stand : Stand) → FoundNone query sinks stand rs
+so_far_prefix : (query : QueryTree) (rs : List ReadResult) (sinks : Sinks) (stand : SearchState) → FoundNone query sinks stand rs
     → WritesPrefix sinks (texts_so_far false query (up_to_first query rs))
 so_far_prefix query rs sinks stand so =
     as_prefix sinks (texts_so_far false query (up_to_first query rs))
     (subst (λ l. Writes sinks (texts_so_far false query l)) (sym (all_up query rs so.none)) so.found.writes)
 
 -- no memory for the next batch
-first_starves : Laws → (query : QueryTree) (call : Answering) (stand : Stand) (games : KeptGames) → Gives call.limit call.source.left call.source_after.left games []
-    → call.source_after.faults ≡ call.source.faults → Reading games (FoundNone query call.sinks stand) → AnswerPromise (first_texts query) NoMemory call
+first_starves : Laws → (query : QueryTree) (call : SearchCall) (stand : SearchState) (games : KeptGames) → Gives call.limit call.source.left call.source_after.left games []
+    → call.source_after.faults ≡ call.source.faults → HaveReadResults games (FoundNone query call.sinks stand) → AnswerPromise (first_texts query) NoMemory call
 first_starves laws query call stand games gives counts at =
     first_stopped laws NoMemory query call games [] gives counts (record {
       before = record { outcomes = at.outcomes; are_read = at.are_read; holds = at.holds.none };
@@ -307,9 +307,9 @@ first_starves laws query call stand games gives counts at =
     })
 
 -- there are no more batches, and the last line is written
-pub first_ended : Laws → (status : Status) (query : QueryTree) (call : Answering) (sinks : Sinks) (stand : Stand) (archive : List ℕ)
+pub first_ended : Laws → (status : Status) (query : QueryTree) (call : SearchCall) (sinks : Sinks) (stand : SearchState) (archive : List ℕ)
     → call.sinks ≡ with_err sinks call.sinks.err_after → ReadsAll call.limit call.source.left call.source_after.left archive → call.source_after.faults ≡ call.source.faults
-    → Reading (cut_games archive) (FoundNone query sinks stand) → WritesSummary stand.tally sinks.err_after call.sinks.err_after status
+    → HaveReadResults (cut_games archive) (FoundNone query sinks stand) → WritesSummary stand.tally sinks.err_after call.sinks.err_after status
     → AnswerPromise (first_texts query) status call
 first_ended laws status query call sinks stand archive same reads counts at writes =
     let rs = at.outcomes in
@@ -328,18 +328,18 @@ first_ended laws status query call sinks stand archive same reads counts at writ
     (subst (λ l. FoundSoFar false query l sinks stand) (sym (all_up query rs at.holds.none)) at.holds.found) writes))
 
 -- each refusal ends the call with its own status
-pub first_refused : Laws → {X : Type 0} (refusal : Refusal BatchFault) (query : QueryTree) (call : Answering) (stand : Stand) (Taken : KeptGames → Type 0)
-    (Stopped : KeptGames → KeptGames → X → Type 0) → ((games : KeptGames) → Taken games → Reading games (FoundNone query call.sinks stand))
-    → SaysRounds call.limit call.source.left call.source_after.left Taken Stopped (Err refusal)
-    → HasRoundsCause {X = X} call.source.faults call.source_after.faults (Err refusal) → AnswerPromise (first_texts query) (status_after refusal) call
-first_refused laws (Fault TheReadFault) query call stand Taken Stopped none at rose =
+pub first_refused : Laws → {X : Type 0} (refusal : Refusal BatchFault) (query : QueryTree) (call : SearchCall) (stand : SearchState) (HasVisited : KeptGames → Type 0)
+    (Stopped : KeptGames → KeptGames → X → Type 0) → ((games : KeptGames) → HasVisited games → HaveReadResults games (FoundNone query call.sinks stand))
+    → IsVisitResult call.limit call.source.left call.source_after.left HasVisited Stopped (Err refusal)
+    → HasVisitCause {X = X} call.source.faults call.source_after.faults (Err refusal) → AnswerPromise (first_texts query) (status_after refusal) call
+first_refused laws (Fault TheReadFault) query call stand HasVisited Stopped none at rose =
     first_unread laws query call stand (record { front = at.front; reads = at.reads; count = at.count; taken = none (whole at.front) at.taken }) rose
-first_refused laws (Fault TheArchiveTooLong) query call stand Taken Stopped none at counts =
+first_refused laws (Fault TheArchiveTooLong) query call stand HasVisited Stopped none at counts =
     first_too_long laws query call stand (record { front = at.front; reads = at.reads; count = at.count; taken = none (whole at.front) at.taken }) counts
-first_refused laws IsNoMemory query call stand Taken Stopped none at counts = first_starves laws query call stand at.0 at.1 counts (none at.0 at.2)
+first_refused laws IsNoMemory query call stand HasVisited Stopped none at counts = first_starves laws query call stand at.0 at.1 counts (none at.0 at.2)
 
 -- before the first batch
-pub first_begins : (query : QueryTree) (out err : SinkView) → Reading [] (FoundNone query (sinks_of out out err err) (stand_of (tally_with 0 0 0) []))
+pub first_begins : (query : QueryTree) (out err : SinkView) → HaveReadResults [] (FoundNone query (sinks_of out out err err) (search_state (tally_with 0 0 0) []))
 first_begins query out err = record { outcomes = []; are_read = tt; holds = record { none = refl; found = none_found false query out err } }
 
 -- ---- no memory before anything was read
@@ -349,17 +349,17 @@ no_games [] none = refl
 no_games (g ∷ gs) none = absurd (omega (arith, none))
 
 -- nothing was read, and no batch is full
-no_batches : Laws → (k : ℕ) → AreFirst (whole (take k [])) []
+no_batches : Laws → (k : ℕ) → AreLeadingGames (whole (take k [])) []
 no_batches laws k =
     let count = count_within 0 0 (cut []) (laws.batches.order []) (omega arith) in
     let same = length-map (cut []) (kept []) in
-    subst (λ gs. AreFirst (whole (take k [])) gs) (no_games (cut_games []) (omega (arith, count, same))) (cut_begins laws k [])
+    subst (λ gs. AreLeadingGames (whole (take k [])) gs) (no_games (cut_games []) (omega (arith, count, same))) (cut_begins laws k [])
 
 none_answered : Laws → (query : QueryTree) (limit : ℕ) (source : SourceView) (out err : SinkView)
     → AnswerPromise (first_texts query) NoMemory (answer_call limit source source (sinks_of out out err err))
 none_answered laws query limit source out err =
     let call = answer_call limit source source (sinks_of out out err err) in
-    first_starves laws query call (stand_of (tally_with 0 0 0) []) [] (record {
+    first_starves laws query call (search_state (tally_with 0 0 0) []) [] (record {
       front = [];
       reads = record { takes = consumes_none source.left; few = omega arith };
       first = inl (whole [], refl);
@@ -368,6 +368,6 @@ none_answered laws query limit source out err =
 
 -- in either run
 pub unanswered : Laws → (first : Bool) (query : QueryTree) (limit : ℕ) (source : SourceView) (out err : SinkView)
-    → AnswerPromise (wanted first query) NoMemory (answer_call limit source source (sinks_of out out err err))
+    → AnswerPromise (expected_output first query) NoMemory (answer_call limit source source (sinks_of out out err err))
 unanswered laws true query limit source out err = none_answered laws query limit source out err
-unanswered laws false query limit source out err = all_unanswered laws.have (asked_of (have_sort query.items) query refl) limit source out err
+unanswered laws false query limit source out err = all_unanswered laws.have (full_output_of (have_sort query.items) query refl) limit source out err

@@ -4,24 +4,24 @@ use Rattle.std.specs.List.{flat_map}
 use Rattle.std.specs.Io.KnownBytes.{Consumes}
 use Rattle.std.proofs.lemmas.Grind.{flat_map-append}
 use Rattle.pgn_batches.specs.Filling.{most_read}
-use Rattle.pgn_batches.specs.Kept.{KeptGames}
-use Rattle.pgn_batches.specs.Rounds.{AreFirst}
+use Rattle.pgn_batches.specs.KeptGames.{KeptGames}
+use Rattle.pgn_batches.specs.Visits.{AreLeadingGames}
 use Rattle.pgn_batches.specs.Whole.{whole, whole_spans}
 use Rattle.cq_outside.specs.Flow.{Grew}
 use Rattle.cql_syntax.specs.Trees.{QueryTree}
-use Rattle.pgn_cut.specs.Joined.{game_bytes}
+use Rattle.pgn_cut.specs.GameTokens.{game_bytes}
 use Rattle.pgn_cut.specs.declared.span.Span.{Span}
-use Rattle.cq_shards.specs.Outcomes.{Outcome, AreKeptRead}
+use Rattle.cq_shards.specs.ReadResults.{ReadResult, AreKeptRead}
 use Rattle.cq_shards.specs.declared.answers.GameAnswer.{GameAnswer}
-use Rattle.cq_search.specs.Answer.{export_if, fault_lines, summary_of, tally_of}
+use Rattle.cq_search.specs.GameOutput.{export_if, fault_lines, summary_of, tally_of}
 use Rattle.cq_search.specs.AllGames.{texts_so_far}
-use Rattle.cq_search.specs.ByBatches.{HaveOneOutcome, Laws}
+use Rattle.cq_search.specs.Internal.ByBatches.{HaveOneOutcome, Laws}
 use Rattle.cq_search.specs.FirstGame.{first_export, first_texts, first_texts_of, some_match, up_to_first}
-use Rattle.cq_search.specs.Outcomes.{AreRead}
-use Rattle.cq_search.specs.Promise.{Answering, Suffices, ReadsNoMore}
+use Rattle.cq_search.specs.ArchiveGames.{AreRead}
+use Rattle.cq_search.specs.Promise.{SearchCall, Suffices, ReadsNoMore}
 use Rattle.cq_queries.specs.Views.{SinkView, Sinks, Texts, Writes, WritesPrefix}
-use Rattle.cq_search.specs.Takers.{FirstWritten, refused_of}
-use Rattle.cq_search.specs.Writing.{FoundSoFar, Stand, WritesSummary, stand_of}
+use Rattle.cq_search.specs.Internal.Visits.{FirstWritten, refused_of}
+use Rattle.cq_search.specs.Internal.Writing.{FoundSoFar, SearchState, WritesSummary, search_state}
 use Rattle.cq_queries.specs.declared.status.Status.{Status}
 use Rattle.cq_queries.specs.declared.status.Status.TheVariants.{Done, DoneWithRefusals, QueryRefused, WordsRefused, OpenFault, ReadFault, WriteFault, NoMemory, ArchiveTooLong}
 use Rattle.cq_search.specs.declared.tally.Tally.{Tally}
@@ -33,13 +33,13 @@ use Rattle.cq_queries.proofs.Sinks.{Took, with_err, then_err, fails_after, grew_
 -- ---- no game of the batches before was a match
 
 -- what is read of some games is what is read of the first ones, and of the others
-pub record KeptSplit (gs : KeptGames) (rs : List Outcome) : Type 0 where
-  pub front : List Outcome
-  pub back : List Outcome
+pub record KeptSplit (gs : KeptGames) (rs : List ReadResult) : Type 0 where
+  pub front : List ReadResult
+  pub back : List ReadResult
   pub is : rs ≡ front ++ back
   pub read : AreKeptRead gs front
 
-pub kept_split : (gs hs : KeptGames) (rs : List Outcome) → AreKeptRead (gs ++ hs) rs → KeptSplit gs rs
+pub kept_split : (gs hs : KeptGames) (rs : List ReadResult) → AreKeptRead (gs ++ hs) rs → KeptSplit gs rs
 kept_split [] hs rs read = record { front = []; back = rs; is = refl; read = tt }
 kept_split (g ∷ gs) hs [] read = absurd read
 kept_split (g ∷ gs) hs (r ∷ rs) read =
@@ -47,7 +47,7 @@ kept_split (g ∷ gs) hs (r ∷ rs) read =
     record { front = r ∷ rest.front; back = rest.back; is = ap (λ l. r ∷ l) rest.is; read = (read.0, rest.read) }
 
 -- games are read in one way
-pub one_read : HaveOneOutcome → (archive : List ℕ) (spans : List Span) (xs ys : List Outcome) → AreRead archive spans xs → AreRead archive spans ys → xs ≡ ys
+pub one_read : HaveOneOutcome → (archive : List ℕ) (spans : List Span) (xs ys : List ReadResult) → AreRead archive spans xs → AreRead archive spans ys → xs ≡ ys
 one_read one archive [] [] [] x y = refl
 one_read one archive [] [] (r ∷ rs) x y = absurd y
 one_read one archive [] (r ∷ rs) ys x y = absurd x
@@ -56,10 +56,10 @@ one_read one archive (s ∷ ss) (r ∷ rs) [] x y = absurd y
 one_read one archive (s ∷ ss) (q ∷ qs) (r ∷ rs) x y =
     ap₂ (λ o os. o ∷ os) (one s.start s.first (game_bytes archive s) q r x.0 y.0) (one_read one archive ss qs rs x.1 y.1)
 
-pub none_of_both : (query : QueryTree) (rs front back : List Outcome) → rs ≡ front ++ back → some_match query rs ≡ false → some_match query front ≡ true → ⊥
+pub none_of_both : (query : QueryTree) (rs front back : List ReadResult) → rs ≡ front ++ back → some_match query rs ≡ false → some_match query front ≡ true → ⊥
 none_of_both query rs front back is none some = let e : true ≡ false = sym (some_grows query front back some) ∙ ap (some_match query) (sym is) ∙ none in cc
 
-pub not_enough : Laws → (query : QueryTree) (front : List ℕ) (games : KeptGames) (rs : List Outcome) → AreFirst (whole front) games → AreKeptRead games rs
+pub not_enough : Laws → (query : QueryTree) (front : List ℕ) (games : KeptGames) (rs : List ReadResult) → AreLeadingGames (whole front) games → AreKeptRead games rs
     → some_match query rs ≡ false → Suffices (first_texts query) front → ⊥
 not_enough laws query front games rs (more, are) read none enough =
     let split : KeptSplit (whole front) rs = kept_split (whole front) more rs (subst (λ gs. AreKeptRead gs rs) are read) in
@@ -69,16 +69,16 @@ not_enough laws query front games rs (more, are) read none enough =
     none_of_both query rs split.front split.back split.is none (ap (some_match query) (sym same) ∙ enough.early.0)
 
 -- what is kept of the games that were answered before the last piece was read
-pub record Before (query : QueryTree) (call : Answering) : Type 0 where
+pub record Before (query : QueryTree) (call : SearchCall) : Type 0 where
   pub front : List ℕ
   pub games : KeptGames
-  pub outcomes : List Outcome
+  pub outcomes : List ReadResult
   pub takes : Consumes call.source.left call.source_after.left front
   pub are_read : AreKeptRead games outcomes
   pub none : some_match query outcomes ≡ false
-  pub needed : AreFirst (whole (take (length front - most_read) front)) games
+  pub needed : AreLeadingGames (whole (take (length front - most_read) front)) games
 
-pub no_more : Laws → (query : QueryTree) (call : Answering) → Before query call → ReadsNoMore (first_texts query) call
+pub no_more : Laws → (query : QueryTree) (call : SearchCall) → Before query call → ReadsNoMore (first_texts query) call
 no_more laws query call so = record {
   front = so.front;
   takes = so.takes;
@@ -88,7 +88,7 @@ no_more laws query call so = record {
 -- ---- texts
 
 -- a prefix of what is written of the games up to the first match is one of what is written of more games
-pub first_prefix : (query : QueryTree) (rs more : List Outcome) (sinks : Sinks) → WritesPrefix sinks (texts_so_far false query (up_to_first query rs))
+pub first_prefix : (query : QueryTree) (rs more : List ReadResult) (sinks : Sinks) → WritesPrefix sinks (texts_so_far false query (up_to_first query rs))
     → WritesPrefix sinks (first_texts_of query (rs ++ more))
 first_prefix query rs more sinks writes =
     let up = up_to_first query rs in
@@ -107,15 +107,15 @@ first_prefix query rs more sinks writes =
           (took_count sinks.err.taken sinks.err_after.taken (fault_lines 1 up) writes.err_count writes.err));
     })
 
-abbrev pub FoundFirst : QueryTree → List Outcome → Sinks → Stand → Type 0
+abbrev pub FoundFirst : QueryTree → List ReadResult → Sinks → SearchState → Type 0
 FoundFirst query rs sinks stand = FoundSoFar false query (up_to_first query rs) sinks stand
 
-pub tally_is : (query : QueryTree) (rs : List Outcome) (sinks : Sinks) (tally : Tally) (ks : List GameAnswer) → FoundFirst query rs sinks (stand_of tally ks)
+pub tally_is : (query : QueryTree) (rs : List ReadResult) (sinks : Sinks) (tally : Tally) (ks : List GameAnswer) → FoundFirst query rs sinks (search_state tally ks)
     → tally ≡ tally_of query (up_to_first query rs)
-tally_is query rs sinks tally ks found = ap (λ (t : Stand). t.tally) found.is
+tally_is query rs sinks tally ks found = ap (λ (t : SearchState). t.tally) found.is
 
-pub all_written : (query : QueryTree) (rs : List Outcome) (sinks : Sinks) (err : SinkView) (tally : Tally) (ks : List GameAnswer)
-    → FoundFirst query rs sinks (stand_of tally ks) → Grew sinks.err_after.taken err.taken (summary_of tally)
+pub all_written : (query : QueryTree) (rs : List ReadResult) (sinks : Sinks) (err : SinkView) (tally : Tally) (ks : List GameAnswer)
+    → FoundFirst query rs sinks (search_state tally ks) → Grew sinks.err_after.taken err.taken (summary_of tally)
     → Writes (with_err sinks err) (first_texts_of query rs)
 all_written query rs sinks err tally ks found grew =
     let lines = fault_lines 1 (up_to_first query rs) in
@@ -125,8 +125,8 @@ all_written query rs sinks err tally ks found grew =
           (grew_on sinks.err.taken sinks.err_after.taken err.taken lines (summary_of tally) found.writes.err grew);
     }
 
-pub part_written : (query : QueryTree) (rs : List Outcome) (sinks : Sinks) (err : SinkView) (tally : Tally) (ks : List GameAnswer) (count : ℕ)
-    → FoundFirst query rs sinks (stand_of tally ks) → Grew sinks.err_after.taken err.taken (take count (summary_of tally))
+pub part_written : (query : QueryTree) (rs : List ReadResult) (sinks : Sinks) (err : SinkView) (tally : Tally) (ks : List GameAnswer) (count : ℕ)
+    → FoundFirst query rs sinks (search_state tally ks) → Grew sinks.err_after.taken err.taken (take count (summary_of tally))
     → WritesPrefix (with_err sinks err) (first_texts_of query rs)
 part_written query rs sinks err tally ks count found grew =
     let lines = fault_lines 1 (up_to_first query rs) in
@@ -140,8 +140,8 @@ part_written query rs sinks err tally ks count found grew =
       err = part_more sinks.err.taken sinks.err_after.taken err.taken lines last count found.writes.err part;
     })
 
-pub first_written : (status : Status) (query : QueryTree) (rs : List Outcome) (sinks : Sinks) (err : SinkView) (tally : Tally) (ks : List GameAnswer)
-    → FoundFirst query rs sinks (stand_of tally ks) → WritesSummary tally sinks.err_after err status
+pub first_written : (status : Status) (query : QueryTree) (rs : List ReadResult) (sinks : Sinks) (err : SinkView) (tally : Tally) (ks : List GameAnswer)
+    → FoundFirst query rs sinks (search_state tally ks) → WritesSummary tally sinks.err_after err status
     → FirstWritten (refused_of query rs) (first_texts_of query rs) (with_err sinks err) status
 first_written Done query rs sinks err tally ks found writes = (
   subst (λ (t : Tally). t.refused ≡ 0) (tally_is query rs sinks tally ks found) writes.0,
@@ -169,7 +169,7 @@ first_written ReadFault query rs sinks err tally ks found writes = absurd writes
 first_written ArchiveTooLong query rs sinks err tally ks found writes = absurd writes
 
 -- games behind the match change nothing
-pub written_more : (status : Status) (query : QueryTree) (rs qs : List Outcome) (sinks : Sinks) → some_match query rs ≡ true
+pub written_more : (status : Status) (query : QueryTree) (rs qs : List ReadResult) (sinks : Sinks) → some_match query rs ≡ true
     → FirstWritten (refused_of query rs) (first_texts_of query rs) sinks status → FirstWritten (refused_of query (rs ++ qs)) (first_texts_of query (rs ++ qs)) sinks status
 written_more status query rs qs sinks some writes =
     subst (λ (t : Texts). FirstWritten (refused_of query (rs ++ qs)) t sinks status) (sym (texts_same query rs qs some))

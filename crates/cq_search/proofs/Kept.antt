@@ -12,11 +12,11 @@ use Rattle.cq_shards.specs.Order.{AreApart, ComesBefore, HasKeys, directions, is
 use Rattle.cq_shards.specs.declared.answers.GameAnswer.{GameAnswer}
 use Rattle.cql_syntax.specs.TreeOf.{query_tree}
 use Rattle.cql_syntax.specs.Trees.{QueryTree}
-use Rattle.cql_syntax.specs.declared.typed.TypedQuery.{TypedQuery}
+use Rattle.cql_syntax.specs.declared.typed_query.TypedQuery.{TypedQuery}
 use Rattle.cq_search.specs.Exports.{exports_of}
 use Rattle.cq_shards.specs.Answers.{text_of}
 use Rattle.cq_queries.specs.Views.{SinkView}
-use Rattle.cq_search.specs.Writing.{InOrder, WritesKept, WritesText}
+use Rattle.cq_search.specs.Internal.Writing.{InOrder, WritesKept, WritesText}
 use Rattle.cq_queries.proofs.Sinks.{grew_on, Took, took_count, took_on, prefix_of}
 
 text_in : GameAnswer → List ℕ

@@ -5,7 +5,7 @@ use Rattle.std.proofs.lemmas.List.{length-map}
 use Rattle.std.proofs.lemmas.List.Sums.{count_by-le-length}
 use Rattle.std.proofs.lemmas.Simd.{splat_is_map}
 use Rattle.pgn_batches.specs.Games.{games_of, number_of}
-use Rattle.pgn_batches.specs.Kept.{KeptGames}
+use Rattle.pgn_batches.specs.KeptGames.{KeptGames}
 use Rattle.pgn_batches.specs.declared.batch.Batch.{Batch}
 use Rattle.cq_outside.specs.Flow.{Grew}
 use Rattle.cq_common.specs.declared.faults.Failed.{Failed}
@@ -13,25 +13,25 @@ use Rattle.cq_common.specs.declared.faults.Refusal.{Refusal}
 use Rattle.cq_common.specs.declared.faults.Refusal.TheVariants.{Fault, NoMemory as IsNoMemory}
 use Rattle.cql_syntax.specs.TreeOf.{query_tree}
 use Rattle.cql_syntax.specs.Trees.{QueryTree}
-use Rattle.cql_syntax.specs.declared.typed.TypedQuery.{TypedQuery}
+use Rattle.cql_syntax.specs.declared.typed_query.TypedQuery.{TypedQuery}
 use Rattle.cql_syntax.specs.QueryTrees.{trees_of}
 use Rattle.cq_shards.specs.Answers.{answers_from}
 use Rattle.cq_shards.specs.Many.{AreManyOf}
-use Rattle.cq_shards.specs.Outcomes.{AreKeptRead, Outcome}
+use Rattle.cq_shards.specs.ReadResults.{AreKeptRead, ReadResult}
 use Rattle.cq_shards.specs.declared.answers.GameAnswer.{GameAnswer}
 use Rattle.cq_queries.specs.declared.status.Status.{Status}
 use Rattle.cq_queries.specs.declared.status.Status.TheVariants.{NoMemory}
 use Rattle.cq_search.specs.declared.tally.Tally.{Tally}
 use Rattle.cq_search.specs.AllGames.{texts_so_far}
-use Rattle.cq_search.specs.Answer.{fault_lines, is_match, is_refused, tally_of}
-use Rattle.cq_search.specs.ByBatches.{HaveOutcomes, Laws}
+use Rattle.cq_search.specs.GameOutput.{fault_lines, is_match, is_refused, tally_of}
+use Rattle.cq_search.specs.Internal.ByBatches.{HaveOutcomes, Laws}
 use Rattle.cq_search.specs.Exports.{matches_from}
 use Rattle.cq_search.specs.ManyQueries.{faults_alone, texts_of_all}
-use Rattle.cq_search.specs.ManyWriting.{AreRowsOf, FoundByAll, IsRowOrdered, KeepsRest}
+use Rattle.cq_search.specs.Internal.ManyWriting.{AreAnswerListsOf, FoundByAll, IsSortedByGame, KeepsRest}
 use Rattle.cq_queries.specs.Views.{SinkView, Sinks, Texts, Writes, WritesPrefix, NoWriteFailed, OneSinkFailed, sinks_of}
-use Rattle.cq_search.specs.Takers.{Reading, StopsIn, Taken}
-use Rattle.cq_search.specs.Writing.{AnswersSome, FoundSoFar, Stand, stand_of}
-use Rattle.cq_search.proofs.AnswerPromise.{Asked}
+use Rattle.cq_search.specs.Internal.Visits.{HaveReadResults, StopsIn, HasVisited}
+use Rattle.cq_search.specs.Internal.Writing.{AnswersSome, FoundSoFar, SearchState, search_state}
+use Rattle.cq_search.proofs.AnswerPromise.{FullOutput}
 use Rattle.cq_search.proofs.Exports.{written_none}
 use Rattle.cq_search.proofs.GameByGame.{answers_count, as_prefix, both_prefix, fault_lines_on, no_fault_lines, same_stand, tally_with, took_more}
 use Rattle.cq_search.proofs.Given.{Rest, count_read, rest_of}
@@ -42,7 +42,7 @@ use Rattle.cq_search.proofs.Sorted.{StandBeside}
 
 -- ---- what is asked for
 
-pub faults_grow : (rs qs : List Outcome) (sinks : Sinks) → WritesPrefix sinks (faults_alone rs) → WritesPrefix sinks (faults_alone (rs ++ qs))
+pub faults_grow : (rs qs : List ReadResult) (sinks : Sinks) → WritesPrefix sinks (faults_alone rs) → WritesPrefix sinks (faults_alone (rs ++ qs))
 faults_grow rs qs sinks writes =
     both_prefix sinks (faults_alone (rs ++ qs)) (record {
       out = took_count sinks.out.taken sinks.out_after.taken [] writes.out_count writes.out;
@@ -51,9 +51,9 @@ faults_grow rs qs sinks writes =
           (took_count sinks.err.taken sinks.err_after.taken (fault_lines 1 rs) writes.err_count writes.err));
     })
 
-abbrev pub asked_of_all : List QueryTree → Asked
-asked_of_all queries = record {
-  wanted = texts_of_all queries;
+abbrev pub full_output_of_all : List QueryTree → FullOutput
+full_output_of_all queries = record {
+  expected_output = texts_of_all queries;
   so_far = faults_alone;
   reading = λ rs. refl;
   faulted = λ rs. refl;
@@ -69,11 +69,11 @@ texts_with out err = record { out = out; err = err }
 one_text : (out out' err : List ℕ) → out ≡ out' → texts_with out err ≡ texts_with out' err
 one_text out out' err e = ap (λ t. texts_with t err) e
 
-faults_same : (query : QueryTree) (rs : List Outcome) → texts_so_far true query rs ≡ faults_alone rs
+faults_same : (query : QueryTree) (rs : List ReadResult) → texts_so_far true query rs ≡ faults_alone rs
 faults_same query rs = one_text _ _ (fault_lines 1 rs) (written_none query rs)
 
-found_first : (query : QueryTree) (queries : List QueryTree) (rs : List Outcome) (sinks : Sinks) (tally : Tally) (kept : List (List GameAnswer))
-    → FoundByAll (query ∷ queries) rs sinks tally kept → FoundSoFar true query rs sinks (stand_of tally (get_or kept 0 []))
+found_first : (query : QueryTree) (queries : List QueryTree) (rs : List ReadResult) (sinks : Sinks) (tally : Tally) (kept : List (List GameAnswer))
+    → FoundByAll (query ∷ queries) rs sinks tally kept → FoundSoFar true query rs sinks (search_state tally (get_or kept 0 []))
 found_first query queries rs sinks tally kept found = record {
   is = same_stand _ _ _ _ (found.first query queries refl) (ap (λ l. get_or l 0 []) found.kept_);
   writes = subst (Writes sinks) (sym (faults_same query rs)) found.writes;
@@ -82,8 +82,8 @@ found_first query queries rs sinks tally kept found = record {
 
 -- the answers of a batch to the first query, in order, around the call that writes and keeps them: the sinks, the tally and what is kept
 pub record FirstCall : Type 0 where
-  pub before : List Outcome
-  pub outcomes : List Outcome
+  pub before : List ReadResult
+  pub outcomes : List ReadResult
   pub rows : List (List GameAnswer)
   pub ordered : List GameAnswer
   pub old : Sinks
@@ -95,17 +95,17 @@ pub record FirstCall : Type 0 where
 
 pub record FirstDone (f : FirstCall) (queries : List QueryTree) (result : Result (Unit {0}) (Refusal Failed)) : Type 0 where
   pub some : 1 ≤ length f.kept
-  pub are : AreRowsOf queries (length f.before) f.outcomes f.rows
-  pub sorts : IsRowOrdered (get_or f.rows 0 []) f.ordered
+  pub are : AreAnswerListsOf queries (length f.before) f.outcomes f.rows
+  pub sorts : IsSortedByGame (get_or f.rows 0 []) f.ordered
   pub found : FoundByAll queries f.before f.old f.was f.kept
-  pub does : (query : QueryTree) → f.ordered ≡ answers_from query (length f.before) f.outcomes → FoundSoFar true query f.before f.old (stand_of f.was (get_or f.kept 0 []))
-      → AnswersSome true query (f.before ++ f.outcomes) f.new (stand_of f.now f.first) result
+  pub does : (query : QueryTree) → f.ordered ≡ answers_from query (length f.before) f.outcomes → FoundSoFar true query f.before f.old (search_state f.was (get_or f.kept 0 []))
+      → AnswersSome true query (f.before ++ f.outcomes) f.new (search_state f.now f.first) result
 
 none_kept_for : (f : FirstCall) (result : Result (Unit {0}) (Refusal Failed)) → FirstDone f [] result → ⊥
 none_kept_for f result done = let some = done.some in let none : length f.kept ≡ 0 = ap length done.found.kept_ in omega (arith, some, none)
 
 first_does : (f : FirstCall) (query : QueryTree) (queries : List QueryTree) (result : Result (Unit {0}) (Refusal Failed)) → FirstDone f (query ∷ queries) result
-    → AnswersSome true query (f.before ++ f.outcomes) f.new (stand_of f.now f.first) result
+    → AnswersSome true query (f.before ++ f.outcomes) f.new (search_state f.now f.first) result
 first_does f query queries result done =
     done.does query (row_at (query ∷ queries) (length f.before) f.outcomes f.rows 0 query done.are (omega arith) f.ordered done.sorts)
     (found_first query queries f.before f.old f.was f.kept done.found)
@@ -129,7 +129,7 @@ pub rest_starved : (f : FirstCall) (queries : List QueryTree) → FirstDone f qu
     → WritesPrefix f.new (faults_alone (f.before ++ f.outcomes)) × NoWriteFailed f.new
 rest_starved f [] done = absurd (none_kept_for f _ done)
 rest_starved f (q ∷ qs) done =
-    let did : FoundSoFar true q (f.before ++ f.outcomes) f.new (stand_of f.now f.first) = first_does f q qs (Ok tt) done in
+    let did : FoundSoFar true q (f.before ++ f.outcomes) f.new (search_state f.now f.first) = first_does f q qs (Ok tt) done in
     (as_prefix f.new (faults_alone (f.before ++ f.outcomes)) (subst (Writes f.new) (faults_same q (f.before ++ f.outcomes)) did.writes), did.unfailed)
 
 first_of_all : (q p : QueryTree) (qs ps : List QueryTree) → q ∷ qs ≡ p ∷ ps → q ≡ p
@@ -139,17 +139,17 @@ pub rest_kept : (f : FirstCall) (queries : List QueryTree) (new : List (List Gam
     → FoundByAll queries (f.before ++ f.outcomes) f.new f.now new
 rest_kept f [] new done keeps = absurd (none_kept_for f _ done)
 rest_kept f (q ∷ qs) new done keeps =
-    let did : FoundSoFar true q (f.before ++ f.outcomes) f.new (stand_of f.now f.first) = first_does f q qs (Ok tt) done in
+    let did : FoundSoFar true q (f.before ++ f.outcomes) f.new (search_state f.now f.first) = first_does f q qs (Ok tt) done in
     let k : Keeping = record { before = f.before; outcomes = f.outcomes; rows = f.rows; old = f.kept; first = f.first; new = new } in
     record {
-      first = λ p ps e. subst (λ r. f.now ≡ tally_of r (f.before ++ f.outcomes)) (first_of_all q p qs ps e) (ap (λ (s : Stand). s.tally) did.is);
-      kept_ = all_kept q qs k (record { are = done.are; old = done.found.kept_; first = ap (λ (s : Stand). s.kept) did.is; keeps = keeps });
+      first = λ p ps e. subst (λ r. f.now ≡ tally_of r (f.before ++ f.outcomes)) (first_of_all q p qs ps e) (ap (λ (s : SearchState). s.tally) did.is);
+      kept_ = all_kept q qs k (record { are = done.are; old = done.found.kept_; first = ap (λ (s : SearchState). s.kept) did.is; keeps = keeps });
       writes = subst (Writes f.new) (faults_same q (f.before ++ f.outcomes)) did.writes;
       unfailed = did.unfailed;
     }
 
 -- no memory before any is written
-pub none_kept_yet : (queries : List QueryTree) (before outcomes : List Outcome) (sinks : Sinks) (tally : Tally) (kept : List (List GameAnswer))
+pub none_kept_yet : (queries : List QueryTree) (before outcomes : List ReadResult) (sinks : Sinks) (tally : Tally) (kept : List (List GameAnswer))
     → FoundByAll queries before sinks tally kept → WritesPrefix sinks (faults_alone (before ++ outcomes)) × NoWriteFailed sinks
 none_kept_yet queries before outcomes sinks tally kept found =
     (faults_grow before outcomes sinks (as_prefix sinks (faults_alone before) found.writes), found.unfailed)
@@ -164,7 +164,7 @@ few_trees queries trees is some few =
     (omega (arith, long, some), omega (arith, long, few))
 
 -- the tally counts no more than the games
-pub tally_few : (queries : List QueryTree) (rs : List Outcome) (sinks : Sinks) (tally : Tally) (kept : List (List GameAnswer)) → 1 ≤ length queries
+pub tally_few : (queries : List QueryTree) (rs : List ReadResult) (sinks : Sinks) (tally : Tally) (kept : List (List GameAnswer)) → 1 ≤ length queries
     → FoundByAll queries rs sinks tally kept → (tally.games ≡ length rs) × (tally.matched ≤ tally.games) × (tally.refused ≤ tally.games)
 tally_few [] rs sinks tally kept some found = absurd (omega (arith, some))
 tally_few (q ∷ qs) rs sinks tally kept some found =
@@ -176,9 +176,9 @@ tally_few (q ∷ qs) rs sinks tally kept some found =
 
 -- the batch was answered: how its games are read
 pub record Answered (queries : List QueryTree) (batch : Batch) (rows : List (List GameAnswer)) : Type 0 where
-  pub outcomes : List Outcome
+  pub outcomes : List ReadResult
   pub are_read : AreKeptRead (games_of batch) outcomes
-  pub are : AreRowsOf queries (number_of batch) outcomes rows
+  pub are : AreAnswerListsOf queries (number_of batch) outcomes rows
 
 pub answered : Laws → StandBeside → (queries : List QueryTree) (batch : Batch) (rows : List (List GameAnswer)) → AreManyOf queries batch rows → Answered queries batch rows
 answered laws beside queries batch rows are =
@@ -187,15 +187,15 @@ answered laws beside queries batch rows are =
 
 -- what was found of the games that were taken
 abbrev pub FoundInAll : List QueryTree → Sinks → Tally → List (List GameAnswer) → KeptGames → Type 0
-FoundInAll queries sinks tally kept games = Reading games (λ outcomes. FoundByAll queries outcomes sinks tally kept)
+FoundInAll queries sinks tally kept games = HaveReadResults games (λ outcomes. FoundByAll queries outcomes sinks tally kept)
 
 -- at some games it was stopped
 abbrev pub StoppedInAll : Sinks → Status → KeptGames → Type 0
-StoppedInAll sinks status games = Reading games (λ outcomes. StopsIn (faults_alone outcomes) sinks status)
+StoppedInAll sinks status games = HaveReadResults games (λ outcomes. StopsIn (faults_alone outcomes) sinks status)
 
 -- by what is asked now, which is what was asked
 pub found_now_by_all : (was now : List QueryTree) (sinks : Sinks) (tally : Tally) (kept : List (List GameAnswer)) (games : KeptGames)
-    → Taken was now games (λ outcomes. FoundByAll was outcomes sinks tally kept) → FoundInAll now sinks tally kept games
+    → HasVisited was now games (λ outcomes. FoundByAll was outcomes sinks tally kept) → FoundInAll now sinks tally kept games
 found_now_by_all was now sinks tally kept games taken = subst (λ qs. FoundInAll qs sinks tally kept games) (sym taken.same) taken.reading
 
 -- a batch is answered, and what was found of the games before it is known
@@ -212,16 +212,16 @@ pub record NextBatch : Type 0 where
   pub answered : Answered queries batch rows
 
 -- with the number of the batch's first game as the count of those before
-pub follows : (next : NextBatch) → AreRowsOf next.queries (length next.at.outcomes) next.answered.outcomes next.rows
-follows next = subst (λ n. AreRowsOf next.queries n next.answered.outcomes next.rows) (next.index ∙ count_read next.games next.at.outcomes next.at.are_read) next.answered.are
+pub follows : (next : NextBatch) → AreAnswerListsOf next.queries (length next.at.outcomes) next.answered.outcomes next.rows
+follows next = subst (λ n. AreAnswerListsOf next.queries n next.answered.outcomes next.rows) (next.index ∙ count_read next.games next.at.outcomes next.at.are_read) next.answered.are
 
-first_long : (queries : List QueryTree) (n : ℕ) (outcomes : List Outcome) (rows : List (List GameAnswer)) (ordered : List GameAnswer) → 1 ≤ length queries
-    → AreRowsOf queries n outcomes rows → IsRowOrdered (get_or rows 0 []) ordered → length ordered ≡ length outcomes
+first_long : (queries : List QueryTree) (n : ℕ) (outcomes : List ReadResult) (rows : List (List GameAnswer)) (ordered : List GameAnswer) → 1 ≤ length queries
+    → AreAnswerListsOf queries n outcomes rows → IsSortedByGame (get_or rows 0 []) ordered → length ordered ≡ length outcomes
 first_long [] n outcomes rows ordered some are sorts = absurd (omega (arith, some))
 first_long (q ∷ qs) n outcomes rows ordered some are sorts =
     ap length (row_at (q ∷ qs) n outcomes rows 0 q are (omega arith) ordered sorts) ∙ answers_count q n outcomes
 
-pub many_few : (next : NextBatch) → 1 ≤ length next.queries → (ordered : List GameAnswer) → IsRowOrdered (get_or next.rows 0 []) ordered
+pub many_few : (next : NextBatch) → 1 ≤ length next.queries → (ordered : List GameAnswer) → IsSortedByGame (get_or next.rows 0 []) ordered
     → next.tally.games + length ordered < 2 ^ 62
 many_few next some ordered sorts =
     let at = next.at in

@@ -16,22 +16,22 @@ use Rattle.cq_common.specs.declared.faults.Refusal.{Refusal}
 use Rattle.cq_common.specs.declared.faults.Refusal.TheVariants.{Fault, NoMemory as IsNoMemory}
 use Rattle.cql_syntax.specs.TreeOf.{query_tree}
 use Rattle.cql_syntax.specs.Trees.{QueryTree}
-use Rattle.cql_syntax.specs.declared.typed.TypedQuery.{TypedQuery}
+use Rattle.cql_syntax.specs.declared.typed_query.TypedQuery.{TypedQuery}
 use Rattle.cql_syntax.specs.QueryTrees.{trees_of}
 use Rattle.cq_report.specs.Games.{summary_line}
 use Rattle.cq_shards.specs.Order.{AreApart, ComesBefore, HasKeys, directions, is_match as is_match_kept}
-use Rattle.cq_shards.specs.Outcomes.{Outcome}
+use Rattle.cq_shards.specs.ReadResults.{ReadResult}
 use Rattle.cq_shards.specs.declared.answers.GameAnswer.{GameAnswer}
 use Rattle.cq_queries.specs.declared.status.Status.{Status}
 use Rattle.cq_queries.specs.declared.status.Status.TheVariants.{NoMemory, WriteFault}
 use Rattle.cq_search.specs.declared.tally.Tally.{Tally}
-use Rattle.cq_search.specs.Answer.{fault_lines, is_match, is_refused}
+use Rattle.cq_search.specs.GameOutput.{fault_lines, is_match, is_refused}
 use Rattle.cq_search.specs.Exports.{exports_of}
 use Rattle.cq_search.specs.ManyQueries.{AreAllAnswers, HaveExports, faults_alone, output_of, outputs_from, summaries, texts_of_all}
-use Rattle.cq_search.specs.ManyWriting.{AreInOrder, FoundByAll, WritesOut}
+use Rattle.cq_search.specs.Internal.ManyWriting.{AreInOrder, FoundByAll, WritesOut}
 use Rattle.cq_queries.specs.Views.{SinkView, Sinks, Texts}
 use Rattle.cq_search.specs.Promise.{Unfinished, WritesPart}
-use Rattle.cq_search.specs.Writing.{InOrder, WritesAnswer, WritesLast, WritesText}
+use Rattle.cq_search.specs.Internal.Writing.{InOrder, WritesAnswer, WritesLast, WritesText}
 use Rattle.cq_search.proofs.Exports.{sorted_exports, sorted_same}
 use Rattle.cq_search.proofs.GameByGame.{AllButLast, as_prefix, both_prefix}
 use Rattle.cq_search.proofs.Rows.{kept_of, matches_counted}
@@ -109,11 +109,11 @@ query_at queries n t q inside is =
 -- ---- all outputs and the report
 
 -- each query's games that match are in its order
-abbrev pub EachInOrder : List QueryTree → List Outcome → List (List GameAnswer) → Type 0
+abbrev pub EachInOrder : List QueryTree → List ReadResult → List (List GameAnswer) → Type 0
 EachInOrder queries outcomes ordered = (i : ℕ) (q : QueryTree) → i < length queries
     → InOrder (get_or queries i q) (kept_of outcomes (get_or queries i q)) (get_or ordered i [])
 
-have_exports : (queries : List QueryTree) (outcomes : List Outcome) (ordered : List (List GameAnswer)) → length ordered ≡ length queries
+have_exports : (queries : List QueryTree) (outcomes : List ReadResult) (ordered : List (List GameAnswer)) → length ordered ≡ length queries
     → EachInOrder queries outcomes ordered → HaveExports queries outcomes (map exports_of ordered)
 have_exports [] outcomes [] long each = tt
 have_exports [] outcomes (o ∷ os) long each = absurd (omega (arith, long))
@@ -123,7 +123,7 @@ have_exports (q ∷ qs) outcomes (o ∷ os) long each = (
   have_exports qs outcomes os (omega (arith, long)) (λ i p below. each (suc i) p (omega (arith, below))),
 )
 
-sorted_long : (query : QueryTree) (outcomes : List Outcome) (ordered : List GameAnswer) → InOrder query (kept_of outcomes query) ordered
+sorted_long : (query : QueryTree) (outcomes : List ReadResult) (ordered : List GameAnswer) → InOrder query (kept_of outcomes query) ordered
     → length ordered ≡ count_by (is_match query) outcomes
 sorted_long query outcomes ordered order =
     length_permutation (kept_of outcomes query) ordered (sorted_same query outcomes ordered order) ∙ matches_counted query outcomes
@@ -131,7 +131,7 @@ sorted_long query outcomes ordered order =
 abbrev pub lines_of : Tally → List (List GameAnswer) → List ℕ
 lines_of tally rows = flat_map (λ row. summary_line tally.games (length row) tally.refused) rows
 
-lines_are : (queries : List QueryTree) (outcomes : List Outcome) (ordered : List (List GameAnswer)) → length ordered ≡ length queries
+lines_are : (queries : List QueryTree) (outcomes : List ReadResult) (ordered : List (List GameAnswer)) → length ordered ≡ length queries
     → EachInOrder queries outcomes ordered
     → flat_map (λ row. summary_line (length outcomes) (length row) (count_by is_refused outcomes)) ordered ≡ summaries queries outcomes
 lines_are [] outcomes [] long each = refl
@@ -142,27 +142,27 @@ lines_are (q ∷ qs) outcomes (o ∷ os) long each =
     (lines_are qs outcomes os (omega (arith, long)) (λ i p below. each (suc i) p (omega (arith, below))))
 
 -- the queries, what was found of all games, and the matches of each query in its order
-pub record Ends (queries : List QueryTree) (outcomes : List Outcome) (sinks : Sinks) (tally : Tally) (ordered : List (List GameAnswer)) : Type 0 where
+pub record Ends (queries : List QueryTree) (outcomes : List ReadResult) (sinks : Sinks) (tally : Tally) (ordered : List (List GameAnswer)) : Type 0 where
   pub some : 1 ≤ length queries
   pub kept : List (List GameAnswer)
   pub found : FoundByAll queries outcomes sinks tally kept
   pub sorts : AreInOrder queries kept ordered
 
-pub kept_long : (queries : List QueryTree) (outcomes : List Outcome) (kept : List (List GameAnswer)) → kept ≡ map (kept_of outcomes) queries → length kept ≡ length queries
+pub kept_long : (queries : List QueryTree) (outcomes : List ReadResult) (kept : List (List GameAnswer)) → kept ≡ map (kept_of outcomes) queries → length kept ≡ length queries
 kept_long queries outcomes kept is = ap length is ∙ length-map queries (kept_of outcomes)
 
-sorted_each : (queries : List QueryTree) (outcomes : List Outcome) (sinks : Sinks) (tally : Tally) (ordered : List (List GameAnswer))
+sorted_each : (queries : List QueryTree) (outcomes : List ReadResult) (sinks : Sinks) (tally : Tally) (ordered : List (List GameAnswer))
     → Ends queries outcomes sinks tally ordered → EachInOrder queries outcomes ordered
 sorted_each queries outcomes sinks tally ordered ends = λ i q below.
     let long = kept_long queries outcomes ends.kept ends.found.kept_ in
     subst (λ ks. InOrder (get_or queries i q) ks (get_or ordered i []))
     (ap (λ l. get_or l i []) ends.found.kept_ ∙ get_or-map (kept_of outcomes) queries i q [] below) (ends.sorts.each i q (omega (arith, below, long)))
 
-sorted_count : (queries : List QueryTree) (outcomes : List Outcome) (sinks : Sinks) (tally : Tally) (ordered : List (List GameAnswer))
+sorted_count : (queries : List QueryTree) (outcomes : List ReadResult) (sinks : Sinks) (tally : Tally) (ordered : List (List GameAnswer))
     → Ends queries outcomes sinks tally ordered → length ordered ≡ length queries
 sorted_count queries outcomes sinks tally ordered ends = ends.sorts.count ∙ kept_long queries outcomes ends.kept ends.found.kept_
 
-tally_is : (queries : List QueryTree) (outcomes : List Outcome) (sinks : Sinks) (tally : Tally) (ordered : List (List GameAnswer))
+tally_is : (queries : List QueryTree) (outcomes : List ReadResult) (sinks : Sinks) (tally : Tally) (ordered : List (List GameAnswer))
     → Ends queries outcomes sinks tally ordered → (tally.games ≡ length outcomes) × (tally.refused ≡ count_by is_refused outcomes)
 tally_is [] outcomes sinks tally ordered ends = let some = ends.some in absurd (omega (arith, some))
 tally_is (q ∷ qs) outcomes sinks tally ordered ends =
@@ -171,7 +171,7 @@ tally_is (q ∷ qs) outcomes sinks tally ordered ends =
 abbrev pub outputs_in : List (List GameAnswer) → List ℕ
 outputs_in ordered = outputs_from 1 (map exports_of ordered)
 
-all_answers : (queries : List QueryTree) (outcomes : List Outcome) (sinks : Sinks) (tally : Tally) (ordered : List (List GameAnswer))
+all_answers : (queries : List QueryTree) (outcomes : List ReadResult) (sinks : Sinks) (tally : Tally) (ordered : List (List GameAnswer))
     → Ends queries outcomes sinks tally ordered
     → AreAllAnswers queries outcomes tally.refused (record { out = outputs_in ordered; err = fault_lines 1 outcomes ++ lines_of tally ordered })
 all_answers queries outcomes sinks tally ordered ends =
@@ -188,7 +188,7 @@ all_answers queries outcomes sinks tally ordered ends =
     }
 
 -- all outputs were written
-pub outputs_written : (queries : List QueryTree) (outcomes : List Outcome) (sinks : Sinks) (out : SinkView) (tally : Tally) (ordered : List (List GameAnswer))
+pub outputs_written : (queries : List QueryTree) (outcomes : List ReadResult) (sinks : Sinks) (out : SinkView) (tally : Tally) (ordered : List (List GameAnswer))
     → Ends queries outcomes sinks tally ordered → WritesOut (outputs_in ordered) sinks.out_after out (Ok tt)
     → AllButLast (texts_of_all queries) outcomes (with_out sinks out) tally.refused (lines_of tally ordered)
 outputs_written queries outcomes sinks out tally ordered ends writes = record {
@@ -201,7 +201,7 @@ outputs_written queries outcomes sinks out tally ordered ends writes = record {
 }
 
 -- a part of them was
-outputs_part : (queries : List QueryTree) (outcomes : List Outcome) (sinks : Sinks) (out : SinkView) (tally : Tally) (ordered : List (List GameAnswer))
+outputs_part : (queries : List QueryTree) (outcomes : List ReadResult) (sinks : Sinks) (out : SinkView) (tally : Tally) (ordered : List (List GameAnswer))
     → Ends queries outcomes sinks tally ordered → (count : ℕ) × Grew sinks.out_after.taken out.taken (take count (outputs_in ordered))
     → WritesPart (Unfinished (texts_of_all queries) outcomes) (with_out sinks out)
 outputs_part queries outcomes sinks out tally ordered ends part =
@@ -217,13 +217,13 @@ outputs_part queries outcomes sinks out tally ordered ends part =
       });
     }
 
-pub outputs_failed : (queries : List QueryTree) (outcomes : List Outcome) (sinks : Sinks) (out : SinkView) (tally : Tally) (ordered : List (List GameAnswer)) (failed : Failed)
+pub outputs_failed : (queries : List QueryTree) (outcomes : List ReadResult) (sinks : Sinks) (out : SinkView) (tally : Tally) (ordered : List (List GameAnswer)) (failed : Failed)
     → Ends queries outcomes sinks tally ordered → WritesOut (outputs_in ordered) sinks.out_after out (Err (Fault failed))
     → WritesAnswer (texts_of_all queries) outcomes (with_out sinks out) WriteFault
 outputs_failed queries outcomes sinks out tally ordered failed ends writes =
     (outputs_part queries outcomes sinks out tally ordered ends writes.0, fails_after (then_out sinks out) ends.found.unfailed (inl (writes.1, refl)))
 
-pub outputs_starved : (queries : List QueryTree) (outcomes : List Outcome) (sinks : Sinks) (out : SinkView) (tally : Tally) (ordered : List (List GameAnswer))
+pub outputs_starved : (queries : List QueryTree) (outcomes : List ReadResult) (sinks : Sinks) (out : SinkView) (tally : Tally) (ordered : List (List GameAnswer))
     → Ends queries outcomes sinks tally ordered → WritesOut (outputs_in ordered) sinks.out_after out (Err IsNoMemory)
     → WritesAnswer (texts_of_all queries) outcomes (with_out sinks out) NoMemory
 outputs_starved queries outcomes sinks out tally ordered ends writes = (
@@ -232,7 +232,7 @@ outputs_starved queries outcomes sinks out tally ordered ends writes = (
 )
 
 -- no memory to put the matches in order
-pub unordered_all : (queries : List QueryTree) (outcomes : List Outcome) (sinks : Sinks) (tally : Tally) (kept : List (List GameAnswer))
+pub unordered_all : (queries : List QueryTree) (outcomes : List ReadResult) (sinks : Sinks) (tally : Tally) (kept : List (List GameAnswer))
     → FoundByAll queries outcomes sinks tally kept → WritesAnswer (texts_of_all queries) outcomes sinks NoMemory
 unordered_all queries outcomes sinks tally kept found =
     (record { texts = faults_alone outcomes; are = inl refl; writes = as_prefix sinks (faults_alone outcomes) found.writes }, found.unfailed)
@@ -321,7 +321,7 @@ rows_told items tally rows given before after status is writes =
     subst (λ t. WritesLast t tally.refused before after status) (lines_of_rows items tally rows)
     (subst (λ xs. WritesLast (flat_map (λ row. summary_line tally.games (length (items row)) tally.refused) xs) tally.refused before after status) is writes)
 
-pub ends_of : (typed : List TypedQuery) (outcomes : List Outcome) (sinks : Sinks) (tally : Tally) (kept ordered : List (List GameAnswer)) → 1 ≤ length typed
+pub ends_of : (typed : List TypedQuery) (outcomes : List ReadResult) (sinks : Sinks) (tally : Tally) (kept ordered : List (List GameAnswer)) → 1 ≤ length typed
     → FoundByAll (trees_of typed) outcomes sinks tally kept → AreInOrder (trees_of typed) kept ordered → Ends (trees_of typed) outcomes sinks tally ordered
 ends_of typed outcomes sinks tally kept ordered some found sorts =
     let long = length-map typed (λ (q : TypedQuery). query_tree q.query) in

@@ -6,7 +6,7 @@ use Rattle.std.proofs.lemmas.List.{ext_get_or, get_or-map, get_or-set_same, get_
 use Rattle.std.proofs.lemmas.List.Elements.{filter-append}
 use Rattle.std.proofs.lemmas.List.Sums.{length-filter}
 use Rattle.pgn_batches.specs.Games.{games_of, number_of}
-use Rattle.pgn_batches.specs.Kept.{KeptGames}
+use Rattle.pgn_batches.specs.KeptGames.{KeptGames}
 use Rattle.pgn_batches.specs.declared.batch.Batch.{Batch}
 use Rattle.cq_position.specs.Games.{Game}
 use Rattle.cql_syntax.specs.Hits.{marked, keys}
@@ -15,18 +15,18 @@ use Rattle.pgn_export.specs.Export.{export_text}
 use Rattle.cq_shards.specs.Answers.{AreAnswersOf, answer_of, answers_from, has_match}
 use Rattle.cq_shards.specs.Many.{AreManyOf}
 use Rattle.cq_shards.specs.Order.{is_match as is_match_kept, values_in}
-use Rattle.cq_shards.specs.Outcomes.{AreKeptRead, Outcome}
+use Rattle.cq_shards.specs.ReadResults.{AreKeptRead, ReadResult}
 use Rattle.cq_shards.specs.declared.answers.Answer.TheVariants.{Match, Miss}
 use Rattle.cq_shards.specs.declared.answers.GameAnswer.{GameAnswer}
-use Rattle.cq_search.specs.Answer.{is_match}
-use Rattle.cq_search.specs.ByBatches.{HaveOneOutcome, Laws}
+use Rattle.cq_search.specs.GameOutput.{is_match}
+use Rattle.cq_search.specs.Internal.ByBatches.{HaveOneOutcome, Laws}
 use Rattle.cq_search.specs.Exports.{match_if, matches_from}
-use Rattle.cq_search.specs.ManyWriting.{AddsMatches, AreRowsOf, IsRowOf, KeepsRest}
+use Rattle.cq_search.specs.Internal.ManyWriting.{AddsMatches, AreAnswerListsOf, IsAnswerListOf, KeepsRest}
 use Rattle.cq_search.proofs.Sorted.{StandBeside}
 
 -- ---- rows of answers
 
-one_reading : HaveOneOutcome → (games : KeptGames) (rs qs : List Outcome) → AreKeptRead games rs → AreKeptRead games qs → rs ≡ qs
+one_reading : HaveOneOutcome → (games : KeptGames) (rs qs : List ReadResult) → AreKeptRead games rs → AreKeptRead games qs → rs ≡ qs
 one_reading one [] [] [] f g = refl
 one_reading one [] [] (q ∷ qs) f g = absurd g
 one_reading one [] (r ∷ rs) qs f g = absurd f
@@ -34,15 +34,15 @@ one_reading one (k ∷ ks) [] qs f g = absurd f
 one_reading one (k ∷ ks) (r ∷ rs) [] f g = absurd g
 one_reading one (k ∷ ks) (r ∷ rs) (q ∷ qs) f g = ap₂ (λ x xs. x ∷ xs) (one k.start k.first k.bytes r q f.0 g.0) (one_reading one ks rs qs f.1 g.1)
 
-row_is : Laws → StandBeside → (query : QueryTree) (batch : Batch) (outcomes : List Outcome) (row : List GameAnswer) → AreKeptRead (games_of batch) outcomes
-    → AreAnswersOf query batch row → IsRowOf query (number_of batch) outcomes row
+row_is : Laws → StandBeside → (query : QueryTree) (batch : Batch) (outcomes : List ReadResult) (row : List GameAnswer) → AreKeptRead (games_of batch) outcomes
+    → AreAnswersOf query batch row → IsAnswerListOf query (number_of batch) outcomes row
 row_is laws beside query batch outcomes row read are = λ ordered sorts.
     let found = beside query batch row ordered are sorts.0 sorts.1 in
     found.are ∙ ap (answers_from query (number_of batch)) (one_reading laws.one (games_of batch) found.outcomes outcomes found.are_read read)
 
 -- whatever the games of the batch are read as
-pub rows_are : Laws → StandBeside → (queries : List QueryTree) (batch : Batch) (outcomes : List Outcome) (rows : List (List GameAnswer))
-    → AreKeptRead (games_of batch) outcomes → AreManyOf queries batch rows → AreRowsOf queries (number_of batch) outcomes rows
+pub rows_are : Laws → StandBeside → (queries : List QueryTree) (batch : Batch) (outcomes : List ReadResult) (rows : List (List GameAnswer))
+    → AreKeptRead (games_of batch) outcomes → AreManyOf queries batch rows → AreAnswerListsOf queries (number_of batch) outcomes rows
 rows_are laws beside [] batch outcomes [] read are = tt
 rows_are laws beside [] batch outcomes (row ∷ rows) read are = absurd are
 rows_are laws beside (q ∷ qs) batch outcomes [] read are = absurd are
@@ -55,8 +55,8 @@ many_counted [] batch (row ∷ rows) are = absurd are
 many_counted (q ∷ qs) batch [] are = absurd are
 many_counted (q ∷ qs) batch (row ∷ rows) are = let e = many_counted qs batch rows are.1 in omega (arith, e)
 
-pub row_at : (queries : List QueryTree) (n : ℕ) (outcomes : List Outcome) (rows : List (List GameAnswer)) (i : ℕ) (q : QueryTree) → AreRowsOf queries n outcomes rows
-    → i < length queries → IsRowOf (get_or queries i q) n outcomes (get_or rows i [])
+pub row_at : (queries : List QueryTree) (n : ℕ) (outcomes : List ReadResult) (rows : List (List GameAnswer)) (i : ℕ) (q : QueryTree) → AreAnswerListsOf queries n outcomes rows
+    → i < length queries → IsAnswerListOf (get_or queries i q) n outcomes (get_or rows i [])
 row_at [] n outcomes rows i q are inside = absurd (omega (arith, inside))
 row_at (p ∷ ps) n outcomes [] i q are inside = absurd are
 row_at (p ∷ ps) n outcomes (row ∷ rows) zero q are inside = are.0
@@ -73,20 +73,20 @@ one_kept : (query : QueryTree) (n : ℕ) (game : Game) (b : Bool) (xs ys : List 
 one_kept query n game true xs ys e = ap (λ l. match_at query n game ∷ l) e
 one_kept query n game false xs ys e = e
 
-kept_if_match : (query : QueryTree) (n : ℕ) (r : Outcome) (xs ys : List GameAnswer) → xs ≡ ys
+kept_if_match : (query : QueryTree) (n : ℕ) (r : ReadResult) (xs ys : List GameAnswer) → xs ≡ ys
     → filter is_match_kept (answer_of query n r ∷ []) ++ xs ≡ match_if query n r ++ ys
 kept_if_match query n (Ok game) xs ys e = one_kept query n game (has_match query game) xs ys e
 kept_if_match query n (Err fault) xs ys e = e
 
 -- the matches among answers
-pub matches_are : (query : QueryTree) (n : ℕ) (rs : List Outcome) → filter is_match_kept (answers_from query n rs) ≡ matches_from query n rs
+pub matches_are : (query : QueryTree) (n : ℕ) (rs : List ReadResult) → filter is_match_kept (answers_from query n rs) ≡ matches_from query n rs
 unfolding answers_from matches_from
 matches_are query n [] = refl
 matches_are query n (r ∷ rs) =
     filter-append is_match_kept (answer_of query n r ∷ []) (answers_from query (n + 1) rs)
     ∙ kept_if_match query n r (filter is_match_kept (answers_from query (n + 1) rs)) (matches_from query (n + 1) rs) (matches_are query (n + 1) rs)
 
-pub matches_on : (query : QueryTree) (n : ℕ) (rs qs : List Outcome) → matches_from query n (rs ++ qs) ≡ matches_from query n rs ++ matches_from query (n + length rs) qs
+pub matches_on : (query : QueryTree) (n : ℕ) (rs qs : List ReadResult) → matches_from query n (rs ++ qs) ≡ matches_from query n rs ++ matches_from query (n + length rs) qs
 unfolding matches_from
 matches_on query n [] qs = ap (λ k. matches_from query k qs) (let e : n ≡ n + 0 = omega arith in e)
 matches_on query n (r ∷ rs) qs =
@@ -94,42 +94,42 @@ matches_on query n (r ∷ rs) qs =
     (matches_on query (n + 1) rs qs ∙ ap (λ k. matches_from query (n + 1) rs ++ matches_from query k qs) (let e : (n + 1) + length rs ≡ n + length (r ∷ rs) = omega arith in e))
     ∙ sym (append_assoc (match_if query n r) (matches_from query (n + 1) rs) (matches_from query (n + length (r ∷ rs)) qs))
 
-long_if : (query : QueryTree) (n : ℕ) (game : Game) (b : Bool) (ms : List GameAnswer) (r : Outcome) (rs : List Outcome) → length ms ≡ length rs
+long_if : (query : QueryTree) (n : ℕ) (game : Game) (b : Bool) (ms : List GameAnswer) (r : ReadResult) (rs : List ReadResult) → length ms ≡ length rs
     → length (cond b (match_at query n game ∷ []) [] ++ ms) ≡ length (cond b (r ∷ rs) rs)
 long_if query n game true ms r rs e = omega (arith, e)
 long_if query n game false ms r rs e = e
 
-long_of : (query : QueryTree) (n : ℕ) (r : Outcome) (ms : List GameAnswer) (rs : List Outcome) → length ms ≡ length rs
+long_of : (query : QueryTree) (n : ℕ) (r : ReadResult) (ms : List GameAnswer) (rs : List ReadResult) → length ms ≡ length rs
     → length (match_if query n r ++ ms) ≡ length (cond (is_match query r) (r ∷ rs) rs)
 long_of query n (Ok game) ms rs e = long_if query n game (has_match query game) ms (Ok game) rs e
 long_of query n (Err fault) ms rs e = e
 
-filtered : (query : QueryTree) (n : ℕ) (rs : List Outcome) → length (matches_from query n rs) ≡ length (filter (is_match query) rs)
+filtered : (query : QueryTree) (n : ℕ) (rs : List ReadResult) → length (matches_from query n rs) ≡ length (filter (is_match query) rs)
 unfolding matches_from
 filtered query n [] = refl
 filtered query n (r ∷ rs) = long_of query n r (matches_from query (n + 1) rs) (filter (is_match query) rs) (filtered query (n + 1) rs)
 
 -- there are as many as games that match
-pub matches_counted : (query : QueryTree) (rs : List Outcome) → length (matches_from query 0 rs) ≡ count_by (is_match query) rs
+pub matches_counted : (query : QueryTree) (rs : List ReadResult) → length (matches_from query 0 rs) ≡ count_by (is_match query) rs
 matches_counted query rs = filtered query 0 rs ∙ length-filter (is_match query) rs
 
 -- ---- the matches of a batch are kept
 
 -- the matches that are kept for each query, of games with these outcomes
-abbrev pub kept_of : List Outcome → QueryTree → List GameAnswer
+abbrev pub kept_of : List ReadResult → QueryTree → List GameAnswer
 kept_of outcomes query = matches_from query 0 outcomes
 
 -- what is kept before and after a batch, and once the first query's matches of it are
 pub record Keeping : Type 0 where
-  pub before : List Outcome
-  pub outcomes : List Outcome
+  pub before : List ReadResult
+  pub outcomes : List ReadResult
   pub rows : List (List GameAnswer)
   pub old : List (List GameAnswer)
   pub first : List GameAnswer
   pub new : List (List GameAnswer)
 
 pub record Keeps (query : QueryTree) (queries : List QueryTree) (k : Keeping) : Type 0 where
-  pub are : AreRowsOf (query ∷ queries) (length k.before) k.outcomes k.rows
+  pub are : AreAnswerListsOf (query ∷ queries) (length k.before) k.outcomes k.rows
   pub old : k.old ≡ map (kept_of k.before) (query ∷ queries)
   pub first : k.first ≡ kept_of (k.before ++ k.outcomes) query
   pub keeps : KeepsRest k.rows (set k.old 0 k.first) k.new
@@ -140,7 +140,7 @@ old_at query queries k i keeps inside =
     ap (λ l. get_or l i []) keeps.old ∙ get_or-map (kept_of k.before) (query ∷ queries) i query [] inside
 
 -- by the row of a query
-row_kept : (query : QueryTree) (before outcomes : List Outcome) (row old new : List GameAnswer) → IsRowOf query (length before) outcomes row
+row_kept : (query : QueryTree) (before outcomes : List ReadResult) (row old new : List GameAnswer) → IsAnswerListOf query (length before) outcomes row
     → old ≡ kept_of before query → AddsMatches row old new → new ≡ kept_of (before ++ outcomes) query
 row_kept query before outcomes row old new is was adds =
     adds.2 ∙ ap₂ (λ xs ys. xs ++ filter is_match_kept ys) was (is adds.0 adds.1)

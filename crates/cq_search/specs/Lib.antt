@@ -1,14 +1,10 @@
-pub mod Refused
-pub mod Outcomes
-pub mod Answer
+pub mod ArchiveGames
+pub mod GameOutput
 pub mod Sorts
 pub mod Exports
-pub mod ByBatches
 pub mod Promise
 pub mod AllGames
 pub mod FirstGame
 pub mod ManyQueries
-pub mod Writing
-pub mod ManyWriting
-pub mod Takers
 pub mod SelfRun
+pub mod Internal

@@ -6,16 +6,16 @@ use Rattle.cql_syntax.specs.Trees.{QueryTree}
 use Rattle.cq_queries.specs.declared.status.Status.{Status}
 use Rattle.cq_queries.specs.declared.status.Status.TheVariants.{Done, DoneWithRefusals, WriteFault, NoMemory}
 use Rattle.cq_search.specs.declared.totals.Totals.{Totals}
-use Rattle.cq_search.specs.Answer.{export_if, tally_of}
+use Rattle.cq_search.specs.GameOutput.{export_if, tally_of}
 use Rattle.cq_search.specs.Exports.{AreExports}
-use Rattle.cq_shards.specs.Outcomes.{Outcome}
-use Rattle.cq_search.specs.Outcomes.{HasGames}
+use Rattle.cq_shards.specs.ReadResults.{ReadResult}
+use Rattle.cq_search.specs.ArchiveGames.{HasGames}
 use Rattle.cq_queries.specs.Views.{Sinks, Texts, Writes, WritesPrefix, IsUnwritten, NoWriteFailed, OutFailed}
 
 -- Of the games of an archive: how many there are, match and are refused, and how long their exports are together. In any order they are
 -- as long, so this is the length of what `run` and `eval` write.
 pub record AreTotals (query : QueryTree) (archive : List ℕ) (totals : Totals) : Type 0 where
-  pub outcomes : List Outcome
+  pub outcomes : List ReadResult
   pub holds : HasGames archive outcomes
   pub bytes : totals.bytes ≡ length archive
   pub tally : totals.tally ≡ tally_of query outcomes
@@ -23,7 +23,7 @@ pub record AreTotals (query : QueryTree) (archive : List ℕ) (totals : Totals) 
   pub as_run : (exports : List ℕ) → AreExports query outcomes exports → totals.written ≡ length exports
 
 -- the totals of an archive of so many bytes, of whose games these are read
-abbrev pub totals_of : QueryTree → ℕ → List Outcome → Totals
+abbrev pub totals_of : QueryTree → ℕ → List ReadResult → Totals
 totals_of query bytes outcomes = record {
   bytes = bytes;
   tally = tally_of query outcomes;

@@ -8,13 +8,13 @@ ghost use Rattle.cq_shards.specs.PlanQuery.{query_in};
 ghost use Rattle.cq_search.specs.AllGames.{texts_of, texts_so_far};
 ghost use Rattle.cq_search.specs.Promise.{AnswerPromise};
 ghost use Rattle.cq_queries.specs.Views.{source_view, sink_view, sinks_of};
-ghost use Rattle.cq_search.specs.Takers.{Reading, StopsIn, Taken, task_of};
-ghost use Rattle.cq_search.specs.Writing.{FoundSoFar, stand_of};
+ghost use Rattle.cq_search.specs.Internal.Visits.{HaveReadResults, StopsIn, HasVisited, task_of};
+ghost use Rattle.cq_search.specs.Internal.Writing.{FoundSoFar, search_state};
 
-use crate::crew::Crew;
+use crate::run_context::RunContext;
 use crate::laws::archives_come_in_batches;
 use crate::output::{has_sort_item, write_answers, write_rest};
-use crate::refused::status_of;
+use crate::batch_refusal::status_of;
 use crate::tally::Tally;
 use cq_common::{NoMemory, Refusal};
 use cq_outside::{Gate, Sink, Source};
@@ -22,7 +22,7 @@ use cq_queries::Status;
 use cq_shards::laws::ordered_answers_stand_beside_their_games;
 use cq_shards::{GameAnswer, in_order, run_batch};
 use cql_plan::Plan;
-use pgn_batches::{Batch, Ended, Taker, take_batches};
+use pgn_batches::{Batch, VisitEnd, BatchVisitor, visit_batches};
 use std::alloc::Global;
 use std::thread::Threads;
 
@@ -39,19 +39,19 @@ struct AllGames<'a, F> {
     kept: Vec<GameAnswer>,
 }
 
-impl<'a, F: Fn(&Batch) -> Result<Vec<GameAnswer>, NoMemory>, O: Sink, E: Sink> Taker<O, E>
+impl<'a, F: Fn(&Batch) -> Result<Vec<GameAnswer>, NoMemory>, O: Sink, E: Sink> BatchVisitor<O, E>
     for AllGames<'a, F> {
     type Stop = Status;
 
     ghost has_taken = { λ was now games. (F.IsAlwaysCallable now.taker.answer
         × ((batch : Batch) (r : _) → FnReturnsAt F.Fn now.taker.answer batch r
-        → IfOk r (λ answers. AnswersBatch (query_in now.taker.plan.now) batch answers.items))) × Taken
+        → IfOk r (λ answers. AnswersBatch (query_in now.taker.plan.now) batch answers.items))) × HasVisited
         (task_of (query_in was.taker.plan.now) was.taker.sorted) (task_of (query_in now.taker.plan.now) now.taker.sorted) games
         (λ outcomes. FoundSoFar was.taker.sorted (query_in was.taker.plan.now) outcomes
         (sinks_of (sink_view O.taken O.faults was.out) (sink_view O.taken O.faults now.out)
-        (sink_view E.taken E.faults was.err) (sink_view E.taken E.faults now.err)) (stand_of now.taker.tally now.taker.kept.items)) };
+        (sink_view E.taken E.faults was.err) (sink_view E.taken E.faults now.err)) (search_state now.taker.tally now.taker.kept.items)) };
 
-    ghost has_stopped = { λ was now games batch status. Reading (games ++ batch) (λ outcomes.
+    ghost has_stopped = { λ was now games batch status. HaveReadResults (games ++ batch) (λ outcomes.
         StopsIn (texts_so_far was.taker.sorted (query_in was.taker.plan.now) outcomes)
         (sinks_of (sink_view O.taken O.faults was.out) (sink_view O.taken O.faults now.out)
         (sink_view E.taken E.faults was.err) (sink_view E.taken E.faults now.err)) status) };
@@ -72,15 +72,15 @@ impl<'a, F: Fn(&Batch) -> Result<Vec<GameAnswer>, NoMemory>, O: Sink, E: Sink> T
 
 /// Answers the query of a plan over the archive that `source` has left: the games of one batch after the other, what is to be
 /// written of them before the next batch is asked for.
-pub fn answer_all<R: Threads + Sync, S: Source, O: Sink, E: Sink, G: Gate + Sync>(
-    crew: &Crew<'_, R, G>,
+pub fn search_all_games<R: Threads + Sync, S: Source, O: Sink, E: Sink, G: Gate + Sync>(
+    context: &RunContext<'_, R, G>,
     plan: &Plan,
     source: &mut S,
     out: &mut O,
     err: &mut E,
 ) -> Status
     ensures answers { AnswerPromise (texts_of (query_in plan.now)) result (record {
-      limit = crew.now.settings.limit;
+      limit = context.now.settings.limit;
       source = source_view S.left S.faults source.old;
       source_after = source_view S.left S.faults source.new;
       sinks = sinks_of (sink_view O.taken O.faults out.old) (sink_view O.taken O.faults out.new)
@@ -91,44 +91,44 @@ pub fn answer_all<R: Threads + Sync, S: Source, O: Sink, E: Sink, G: Gate + Sync
     archives_come_in_batches();
     let sorted = has_sort_item(plan);
     let mut taker = AllGames {
-        alloc: crew.alloc,
+        alloc: context.alloc,
         plan,
         answer: |batch: &Batch| -> Result<Vec<GameAnswer>, NoMemory>
             requires { IsSync R.row × IsSync G.row }
             ensures { IfOk result (λ answers. AnswersBatch (query_in plan.entry.now) batch.now answers.items) }
-        { batch_answers(crew, plan, batch) },
+        { batch_answers(context, plan, batch) },
         sorted,
         tally: Tally {
             games: 0,
             matched: 0,
             refused: 0,
         },
-        kept: Vec::new(crew.alloc),
+        kept: Vec::new(context.alloc),
     };
-    match take_batches(
-        crew.alloc,
-        crew.settings.limit,
+    match visit_batches(
+        context.alloc,
+        context.settings.limit,
         source,
         &mut taker,
         out,
         err,
     ) {
-        Ok(Ended::All(_)) => write_rest(crew.alloc, plan, taker.tally, taker.kept, out, err),
-        Ok(Ended::Early(status)) => status,
+        Ok(VisitEnd::All(_)) => write_rest(context.alloc, plan, taker.tally, taker.kept, out, err),
+        Ok(VisitEnd::Early(status)) => status,
         Err(refusal) => status_of(refusal),
     }
 }
 
 /// The answers of the games of a batch, in the order of the games.
 pub fn batch_answers<R: Threads + Sync, G: Gate + Sync>(
-    crew: &Crew<'_, R, G>,
+    context: &RunContext<'_, R, G>,
     plan: &Plan,
     batch: &Batch,
 ) -> Result<Vec<GameAnswer>, NoMemory>
     ensures { IfOk result (λ answers. AnswersBatch (query_in plan.now) batch.now answers.items) }
 {
     ordered_answers_stand_beside_their_games();
-    let workers = crew.settings.workers;
-    let answers = run_batch(crew.rt, crew.alloc, plan, batch, workers, crew.gate)?;
-    in_order(crew.alloc, answers)
+    let workers = context.settings.workers;
+    let answers = run_batch(context.rt, context.alloc, plan, batch, workers, context.gate)?;
+    in_order(context.alloc, answers)
 }

@@ -7,16 +7,16 @@ ghost use Rattle.cql_syntax.specs.QueryTrees.{trees_of};
 ghost use Rattle.cq_shared.specs.Plans.{queries_of};
 ghost use Rattle.cq_shards.specs.Many.{AreManyOf, answers_in};
 ghost use Rattle.cq_search.specs.ManyQueries.{faults_alone, texts_of_all};
-ghost use Rattle.cq_search.specs.ManyWriting.{FoundByAll};
+ghost use Rattle.cq_search.specs.Internal.ManyWriting.{FoundByAll};
 ghost use Rattle.cq_search.specs.Promise.{AnswerPromise};
 ghost use Rattle.cq_queries.specs.Views.{source_view, sink_view, sinks_of};
-ghost use Rattle.cq_search.specs.Takers.{Reading, StopsIn, Taken};
+ghost use Rattle.cq_search.specs.Internal.Visits.{HaveReadResults, StopsIn, HasVisited};
 
-use crate::crew::Crew;
+use crate::run_context::RunContext;
 use crate::keeping::{keep_batch, none_kept};
 use crate::laws::archives_come_in_batches;
 use crate::outputs::write_outputs;
-use crate::refused::status_of;
+use crate::batch_refusal::status_of;
 use crate::tally::Tally;
 use cq_common::{NoMemory, Refusal};
 use cq_outside::{Gate, Sink, Source};
@@ -26,7 +26,7 @@ use cq_shards::{GameAnswer, ManyAnswers, run_many};
 use cq_shared::SharedPlan;
 use cq_words::Settings;
 use cql_syntax::TypedQuery;
-use pgn_batches::{Batch, Ended, Taker, take_batches};
+use pgn_batches::{Batch, VisitEnd, BatchVisitor, visit_batches};
 use std::alloc::Global;
 use std::thread::Threads;
 
@@ -42,20 +42,20 @@ struct AllQueries<'a, F> {
     ghost few: { (1 ≤ length (trees_of (queries_of plan.now))) × (length (trees_of (queries_of plan.now)) ≤ 16) },
 }
 
-impl<'a, F: Fn(&Batch) -> Result<ManyAnswers, NoMemory>, O: Sink, E: Sink> Taker<O, E>
+impl<'a, F: Fn(&Batch) -> Result<ManyAnswers, NoMemory>, O: Sink, E: Sink> BatchVisitor<O, E>
     for AllQueries<'a, F> {
     type Stop = Status;
 
     ghost has_taken = { λ was now games. (F.IsAlwaysCallable now.taker.answer
         × ((batch : Batch) (r : _) → FnReturnsAt F.Fn now.taker.answer batch r
-        → IfOk r (λ many. AreManyOf (trees_of (queries_of now.taker.plan.now)) batch (answers_in many)))) × Taken
+        → IfOk r (λ many. AreManyOf (trees_of (queries_of now.taker.plan.now)) batch (answers_in many)))) × HasVisited
         (trees_of (queries_of was.taker.plan.now)) (trees_of (queries_of now.taker.plan.now)) games
         (λ outcomes. FoundByAll (trees_of (queries_of was.taker.plan.now)) outcomes
         (sinks_of (sink_view O.taken O.faults was.out) (sink_view O.taken O.faults now.out)
         (sink_view E.taken E.faults was.err) (sink_view E.taken E.faults now.err))
         now.taker.tally (map (λ row. row.items) now.taker.kept.items)) };
 
-    ghost has_stopped = { λ was now games batch status. Reading (games ++ batch) (λ outcomes. StopsIn (faults_alone outcomes)
+    ghost has_stopped = { λ was now games batch status. HaveReadResults (games ++ batch) (λ outcomes. StopsIn (faults_alone outcomes)
         (sinks_of (sink_view O.taken O.faults was.out) (sink_view O.taken O.faults now.out)
         (sink_view E.taken E.faults was.err) (sink_view E.taken E.faults now.err)) status) };
 
@@ -120,14 +120,14 @@ pub fn answer_many<R: Threads + Sync, S: Source, O: Sink, E: Sink, G: Gate + Syn
     }) }
     ensures next { S.follows source.old source.new }
 {
-    let crew = Crew::new(rt, alloc, settings, gate);
-    answer_many_with(&crew, queries, source, out, err)
+    let context = RunContext::new(rt, alloc, settings, gate);
+    search_archive_many(&context, queries, source, out, err)
 }
 
-/// Answers several queries, from 1 to 16, as `answer_many` does, and with the same statuses, by the workers and limit of a crew. All games
+/// Answers several queries, from 1 to 16, as `answer_many` does, and with the same statuses, by the workers and limit of a context. All games
 /// are answered, also where its settings ask for the first match alone.
-pub fn answer_many_with<R: Threads + Sync, S: Source, O: Sink, E: Sink, G: Gate + Sync>(
-    crew: &Crew<'_, R, G>,
+pub fn search_archive_many<R: Threads + Sync, S: Source, O: Sink, E: Sink, G: Gate + Sync>(
+    context: &RunContext<'_, R, G>,
     queries: &[TypedQuery],
     source: &mut S,
     out: &mut O,
@@ -135,7 +135,7 @@ pub fn answer_many_with<R: Threads + Sync, S: Source, O: Sink, E: Sink, G: Gate 
 ) -> Status
     requires { (1 ≤ length queries.now) × (length queries.now ≤ 16) }
     ensures answers { AnswerPromise (texts_of_all (trees_of queries.now)) result (record {
-      limit = crew.now.settings.limit;
+      limit = context.now.settings.limit;
       source = source_view S.left S.faults source.old;
       source_after = source_view S.left S.faults source.new;
       sinks = sinks_of (sink_view O.taken O.faults out.old) (sink_view O.taken O.faults out.new)
@@ -144,15 +144,15 @@ pub fn answer_many_with<R: Threads + Sync, S: Source, O: Sink, E: Sink, G: Gate 
     ensures next { S.follows source.old source.new }
 {
     archives_come_in_batches();
-    let Ok(plan) = SharedPlan::make(crew.alloc, queries) else {
+    let Ok(plan) = SharedPlan::make(context.alloc, queries) else {
         return Status::NoMemory;
     };
-    answer_each(crew, &plan, source, out, err)
+    search_all_queries(context, &plan, source, out, err)
 }
 
 // Answers the queries of a plan: the games of one batch after the other, what is to be written of them before the next batch is asked for.
-fn answer_each<R: Threads + Sync, S: Source, O: Sink, E: Sink, G: Gate + Sync>(
-    crew: &Crew<'_, R, G>,
+fn search_all_queries<R: Threads + Sync, S: Source, O: Sink, E: Sink, G: Gate + Sync>(
+    context: &RunContext<'_, R, G>,
     plan: &SharedPlan,
     source: &mut S,
     out: &mut O,
@@ -160,7 +160,7 @@ fn answer_each<R: Threads + Sync, S: Source, O: Sink, E: Sink, G: Gate + Sync>(
 ) -> Status
     requires { (1 ≤ length (trees_of (queries_of plan.now))) × (length (trees_of (queries_of plan.now)) ≤ 16) }
     ensures answers { AnswerPromise (texts_of_all (trees_of (queries_of plan.now))) result (record {
-      limit = crew.now.settings.limit;
+      limit = context.now.settings.limit;
       source = source_view S.left S.faults source.old;
       source_after = source_view S.left S.faults source.new;
       sinks = sinks_of (sink_view O.taken O.faults out.old) (sink_view O.taken O.faults out.new)
@@ -169,16 +169,16 @@ fn answer_each<R: Threads + Sync, S: Source, O: Sink, E: Sink, G: Gate + Sync>(
     ensures next { S.follows source.old source.new }
 {
     archives_come_in_batches();
-    let Ok(kept) = none_kept(crew.alloc, plan.len()) else {
+    let Ok(kept) = none_kept(context.alloc, plan.len()) else {
         return Status::NoMemory;
     };
     let mut taker = AllQueries {
-        alloc: crew.alloc,
+        alloc: context.alloc,
         plan,
         answer: |batch: &Batch| -> Result<ManyAnswers, NoMemory>
             requires { IsSync R.row × IsSync G.row }
             ensures { IfOk result (λ many. AreManyOf (trees_of (queries_of plan.entry.now)) batch.now (answers_in many)) }
-        { many_answers(crew, plan, batch) },
+        { many_answers(context, plan, batch) },
         tally: Tally {
             games: 0,
             matched: 0,
@@ -186,28 +186,28 @@ fn answer_each<R: Threads + Sync, S: Source, O: Sink, E: Sink, G: Gate + Sync>(
         },
         kept,
     };
-    match take_batches(
-        crew.alloc,
-        crew.settings.limit,
+    match visit_batches(
+        context.alloc,
+        context.settings.limit,
         source,
         &mut taker,
         out,
         err,
     ) {
-        Ok(Ended::All(_)) => write_outputs(crew.alloc, plan, taker.tally, taker.kept, out, err),
-        Ok(Ended::Early(status)) => status,
+        Ok(VisitEnd::All(_)) => write_outputs(context.alloc, plan, taker.tally, taker.kept, out, err),
+        Ok(VisitEnd::Early(status)) => status,
         Err(refusal) => status_of(refusal),
     }
 }
 
 // For each query of a plan, the answers of the games of a batch.
 fn many_answers<R: Threads + Sync, G: Gate + Sync>(
-    crew: &Crew<'_, R, G>,
+    context: &RunContext<'_, R, G>,
     plan: &SharedPlan,
     batch: &Batch,
 ) -> Result<ManyAnswers, NoMemory>
     ensures { IfOk result (λ many. AreManyOf (trees_of (queries_of plan.now)) batch.now (answers_in many)) }
 {
-    let workers = crew.settings.workers;
-    run_many(crew.rt, crew.alloc, plan, batch, workers, crew.gate)
+    let workers = context.settings.workers;
+    run_many(context.rt, context.alloc, plan, batch, workers, context.gate)
 }

@@ -1,13 +1,13 @@
 //! Answering a query over an archive that is open.
 ghost use Rattle.std.specs.Prelude.{◌≤◌, ◌^◌};
 ghost use Rattle.cql_syntax.specs.TreeOf.{query_tree};
-ghost use Rattle.cq_search.specs.FirstGame.{wanted};
+ghost use Rattle.cq_search.specs.FirstGame.{expected_output};
 ghost use Rattle.cq_search.specs.Promise.{AnswerPromise};
 ghost use Rattle.cq_queries.specs.Views.{source_view, sink_view, sinks_of};
 
-use crate::all_games::answer_all;
-use crate::crew::Crew;
-use crate::first_match::answer_first;
+use crate::all_games::search_all_games;
+use crate::run_context::RunContext;
+use crate::first_match::search_first_match;
 use crate::laws::archives_come_in_batches;
 use cq_outside::{Gate, Sink, Source};
 use cq_queries::Status;
@@ -46,7 +46,7 @@ pub fn answer<R: Threads + Sync, S: Source, O: Sink, E: Sink, G: Gate + Sync>(
 ) -> Status
     requires workers { (1 ≤ settings.workers) × (settings.workers ≤ 64) }
     requires limit { (1 ≤ settings.limit) × (settings.limit ≤ 2 ^ 40) }
-    ensures answers { AnswerPromise (wanted settings.first (query_tree query.now.query)) result (record {
+    ensures answers { AnswerPromise (expected_output settings.first (query_tree query.now.query)) result (record {
       limit = settings.limit;
       source = source_view S.left S.faults source.old;
       source_after = source_view S.left S.faults source.new;
@@ -55,20 +55,20 @@ pub fn answer<R: Threads + Sync, S: Source, O: Sink, E: Sink, G: Gate + Sync>(
     }) }
     ensures next { S.follows source.old source.new }
 {
-    let crew = Crew::new(rt, alloc, settings, gate);
-    answer_with(&crew, query, source, out, err)
+    let context = RunContext::new(rt, alloc, settings, gate);
+    search_archive(&context, query, source, out, err)
 }
 
-/// Answers a query as `answer` does, and with the same statuses, by the workers and settings of a crew.
-pub fn answer_with<R: Threads + Sync, S: Source, O: Sink, E: Sink, G: Gate + Sync>(
-    crew: &Crew<'_, R, G>,
+/// Answers a query as `answer` does, and with the same statuses, by the workers and settings of a context.
+pub fn search_archive<R: Threads + Sync, S: Source, O: Sink, E: Sink, G: Gate + Sync>(
+    context: &RunContext<'_, R, G>,
     query: &TypedQuery,
     source: &mut S,
     out: &mut O,
     err: &mut E,
 ) -> Status
-    ensures answers { AnswerPromise (wanted crew.now.settings.first (query_tree query.now.query)) result (record {
-      limit = crew.now.settings.limit;
+    ensures answers { AnswerPromise (expected_output context.now.settings.first (query_tree query.now.query)) result (record {
+      limit = context.now.settings.limit;
       source = source_view S.left S.faults source.old;
       source_after = source_view S.left S.faults source.new;
       sinks = sinks_of (sink_view O.taken O.faults out.old) (sink_view O.taken O.faults out.new)
@@ -77,15 +77,15 @@ pub fn answer_with<R: Threads + Sync, S: Source, O: Sink, E: Sink, G: Gate + Syn
     ensures next { S.follows source.old source.new }
 {
     archives_come_in_batches();
-    let Ok(plan) = Plan::make(crew.alloc, query) else {
+    let Ok(plan) = Plan::make(context.alloc, query) else {
         return Status::NoMemory;
     };
-    if crew.settings.first {
-        let status = answer_first(crew, &plan, source, out, err);
+    if context.settings.first {
+        let status = search_first_match(context, &plan, source, out, err);
         drop(plan);
         return status;
     }
-    let status = answer_all(crew, &plan, source, out, err);
+    let status = search_all_games(context, &plan, source, out, err);
     drop(plan);
     status
 }

@@ -8,20 +8,20 @@ ghost use Rattle.cq_shards.specs.PlanQuery.{query_in};
 ghost use Rattle.cq_search.specs.FirstGame.{first_texts};
 ghost use Rattle.cq_search.specs.Promise.{AnswerPromise};
 ghost use Rattle.cq_queries.specs.Views.{source_view, sink_view, sinks_of};
-ghost use Rattle.cq_search.specs.Takers.{FirstStopped, FoundNone, Taken};
-ghost use Rattle.cq_search.specs.Writing.{stand_of};
+ghost use Rattle.cq_search.specs.Internal.Visits.{FirstStopped, FoundNone, HasVisited};
+ghost use Rattle.cq_search.specs.Internal.Writing.{search_state};
 
-use crate::crew::Crew;
+use crate::run_context::RunContext;
 use crate::laws::archives_come_in_batches;
 use crate::output::{write_answers, write_summary};
-use crate::refused::status_of;
+use crate::batch_refusal::status_of;
 use crate::tally::Tally;
 use cq_common::{NoMemory, Refusal};
 use cq_outside::{Gate, Sink, Source};
 use cq_queries::Status;
 use cq_shards::{GameAnswer, run_first};
 use cql_plan::Plan;
-use pgn_batches::{Batch, Ended, Taker, take_batches};
+use pgn_batches::{Batch, VisitEnd, BatchVisitor, visit_batches};
 use std::alloc::Global;
 use std::thread::Threads;
 
@@ -36,17 +36,17 @@ struct UpToFirst<'a, F> {
     kept: Vec<GameAnswer>,
 }
 
-impl<'a, F: Fn(&Batch) -> Result<Vec<GameAnswer>, NoMemory>, O: Sink, E: Sink> Taker<O, E>
+impl<'a, F: Fn(&Batch) -> Result<Vec<GameAnswer>, NoMemory>, O: Sink, E: Sink> BatchVisitor<O, E>
     for UpToFirst<'a, F> {
     type Stop = Status;
 
     ghost has_taken = { λ was now games. (F.IsAlwaysCallable now.taker.answer
         × ((batch : Batch) (r : _) → FnReturnsAt F.Fn now.taker.answer batch r
         → IfOk r (λ answers. AnswersUpToFirst (query_in now.taker.plan.now) batch answers.items)))
-        × Taken (query_in was.taker.plan.now) (query_in now.taker.plan.now) games
+        × HasVisited (query_in was.taker.plan.now) (query_in now.taker.plan.now) games
         (FoundNone (query_in was.taker.plan.now)
         (sinks_of (sink_view O.taken O.faults was.out) (sink_view O.taken O.faults now.out)
-        (sink_view E.taken E.faults was.err) (sink_view E.taken E.faults now.err)) (stand_of now.taker.tally now.taker.kept.items)) };
+        (sink_view E.taken E.faults was.err) (sink_view E.taken E.faults now.err)) (search_state now.taker.tally now.taker.kept.items)) };
 
     ghost has_stopped = { λ was now games batch status. FirstStopped (query_in was.taker.plan.now)
         (sinks_of (sink_view O.taken O.faults was.out) (sink_view O.taken O.faults now.out)
@@ -72,15 +72,15 @@ impl<'a, F: Fn(&Batch) -> Result<Vec<GameAnswer>, NoMemory>, O: Sink, E: Sink> T
 
 /// Answers the query of a plan over the archive that `source` has left up to the first game that matches: the games of one batch after
 /// the other, what is to be written of them before the next batch is asked for, and none after the batch of that game.
-pub fn answer_first<R: Threads + Sync, S: Source, O: Sink, E: Sink, G: Gate + Sync>(
-    crew: &Crew<'_, R, G>,
+pub fn search_first_match<R: Threads + Sync, S: Source, O: Sink, E: Sink, G: Gate + Sync>(
+    context: &RunContext<'_, R, G>,
     plan: &Plan,
     source: &mut S,
     out: &mut O,
     err: &mut E,
 ) -> Status
     ensures answers { AnswerPromise (first_texts (query_in plan.now)) result (record {
-      limit = crew.now.settings.limit;
+      limit = context.now.settings.limit;
       source = source_view S.left S.faults source.old;
       source_after = source_view S.left S.faults source.new;
       sinks = sinks_of (sink_view O.taken O.faults out.old) (sink_view O.taken O.faults out.new)
@@ -90,41 +90,41 @@ pub fn answer_first<R: Threads + Sync, S: Source, O: Sink, E: Sink, G: Gate + Sy
 {
     archives_come_in_batches();
     let mut taker = UpToFirst {
-        alloc: crew.alloc,
+        alloc: context.alloc,
         plan,
         answer: |batch: &Batch| -> Result<Vec<GameAnswer>, NoMemory>
             requires { IsSync R.row × IsSync G.row }
             ensures { IfOk result (λ answers. AnswersUpToFirst (query_in plan.entry.now) batch.now answers.items) }
-        { first_answers(crew, plan, batch) },
+        { first_answers(context, plan, batch) },
         tally: Tally {
             games: 0,
             matched: 0,
             refused: 0,
         },
-        kept: Vec::new(crew.alloc),
+        kept: Vec::new(context.alloc),
     };
-    match take_batches(
-        crew.alloc,
-        crew.settings.limit,
+    match visit_batches(
+        context.alloc,
+        context.settings.limit,
         source,
         &mut taker,
         out,
         err,
     ) {
-        Ok(Ended::All(_)) => write_summary(crew.alloc, taker.tally, err),
-        Ok(Ended::Early(status)) => status,
+        Ok(VisitEnd::All(_)) => write_summary(context.alloc, taker.tally, err),
+        Ok(VisitEnd::Early(status)) => status,
         Err(refusal) => status_of(refusal),
     }
 }
 
 // The answers of the games of a batch up to the first that matches, in the order of the games.
 fn first_answers<R: Threads + Sync, G: Gate + Sync>(
-    crew: &Crew<'_, R, G>,
+    context: &RunContext<'_, R, G>,
     plan: &Plan,
     batch: &Batch,
 ) -> Result<Vec<GameAnswer>, NoMemory>
     ensures { IfOk result (λ answers. AnswersUpToFirst (query_in plan.now) batch.now answers.items) }
 {
-    let workers = crew.settings.workers;
-    run_first(crew.rt, crew.alloc, plan, batch, workers, crew.gate)
+    let workers = context.settings.workers;
+    run_first(context.rt, context.alloc, plan, batch, workers, context.gate)
 }

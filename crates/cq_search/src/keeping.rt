@@ -4,9 +4,9 @@ ghost use Rattle.std.specs.Prelude.{◌≡◌, ◌+◌, ◌++◌, ◌<◌, ◌�
 ghost use Rattle.cql_syntax.specs.Trees.{QueryTree};
 ghost use Rattle.cq_shards.specs.Many.{answers_in};
 ghost use Rattle.cq_shards.specs.Order.{is_match as is_matching};
-ghost use Rattle.cq_shards.specs.Outcomes.{Outcome};
+ghost use Rattle.cq_shards.specs.ReadResults.{ReadResult};
 ghost use Rattle.cq_shards.specs.declared.answers.GameAnswer.{GameAnswer};
-ghost use Rattle.cq_search.specs.ManyWriting.{AddsMatches, AreRowsOf, FoundByAll, IsRowOrdered, KeepsRest, KeepsSome};
+ghost use Rattle.cq_search.specs.Internal.ManyWriting.{AddsMatches, AreAnswerListsOf, FoundByAll, IsSortedByGame, KeepsRest, KeepsSome};
 ghost use Rattle.cq_queries.specs.Views.{SinkView, sink_view, sinks_of};
 
 use crate::output::write_answers;
@@ -38,12 +38,12 @@ pub fn keep_batch<O: Sink, E: Sink>(
 ) -> Result<(), Refusal<Failed>>
     requires queries { (1 ≤ length kept.old.items) × (length kept.old.items ≤ 16) }
     requires rows { length (answers_in answers) ≡ length kept.old.items }
-    requires games { (ordered : List GameAnswer) → IsRowOrdered (get_or (answers_in answers) 0 []) ordered
+    requires games { (ordered : List GameAnswer) → IsSortedByGame (get_or (answers_in answers) 0 []) ordered
         → tally.old.games + length ordered < 2 ^ 63 }
     requires matched { tally.old.matched ≤ tally.old.games }
     requires refused { tally.old.refused ≤ tally.old.games }
-    ensures { (queries : List QueryTree) (before : List Outcome) (outcomes : List Outcome) (first : SinkView) (second : SinkView)
-        → AreRowsOf queries (length before) outcomes (answers_in answers)
+    ensures { (queries : List QueryTree) (before : List ReadResult) (outcomes : List ReadResult) (first : SinkView) (second : SinkView)
+        → AreAnswerListsOf queries (length before) outcomes (answers_in answers)
         → FoundByAll queries before (sinks_of first (sink_view O.taken O.faults out.old) second (sink_view E.taken E.faults err.old))
         tally.old (map (λ row. row.items) kept.old.items)
         → KeepsSome queries (before ++ outcomes)

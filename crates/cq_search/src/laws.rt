@@ -1,5 +1,5 @@
 //! What answering batch by batch rests on.
-ghost use Rattle.cq_search.specs.ByBatches.{Laws};
+ghost use Rattle.cq_search.specs.Internal.ByBatches.{Laws};
 
 use pgn_reader::{first_bytes_decide, games_have_one_outcome, games_have_outcomes};
 

@@ -4,21 +4,21 @@
 mod all_games;
 mod all_queries;
 mod archives;
-mod crew;
+mod run_context;
 mod first_match;
 mod keeping;
 mod laws;
 mod output;
 mod outputs;
-mod refused;
+mod batch_refusal;
 mod selfrun;
 mod sorts;
 mod tally;
 mod totals;
 
-pub use all_queries::{answer_many, answer_many_with};
-pub use archives::{answer, answer_with};
-pub use crew::Crew;
-pub use selfrun::{MADE_LIMIT, answer_made};
+pub use all_queries::{answer_many, search_archive_many};
+pub use archives::{answer, search_archive};
+pub use run_context::RunContext;
+pub use selfrun::{MADE_LIMIT, search_made_archive};
 pub use tally::Tally;
 pub use totals::Totals;

@@ -4,13 +4,13 @@ ghost use Rattle.std.specs.Prelude.{◌≡◌, ◌+◌, ◌++◌, ◌<◌, ◌�
 ghost use Rattle.cql_syntax.specs.Trees.{QueryTree};
 ghost use Rattle.cq_shards.specs.Answers.{answer_of, answers_from};
 ghost use Rattle.cq_shards.specs.PlanQuery.{query_in};
-ghost use Rattle.cq_shards.specs.Outcomes.{Outcome};
+ghost use Rattle.cq_shards.specs.ReadResults.{ReadResult};
 ghost use Rattle.cq_search.specs.Sorts.{have_sort as some_sort};
 ghost use Rattle.cq_search.specs.AllGames.{texts_of};
 ghost use Rattle.cq_search.specs.Exports.{exports_of};
 ghost use Rattle.cq_queries.specs.Views.{SinkView, sink_view, sinks_of};
-ghost use Rattle.cq_search.specs.Writing.{AnswersGame, AnswersSome, FoundSoFar, stand_of, WritesAnswer};
-ghost use Rattle.cq_search.specs.Writing.{WritesFault, WritesKept, WritesLast, WritesSummary, WritesText};
+ghost use Rattle.cq_search.specs.Internal.Writing.{AnswersGame, AnswersSome, FoundSoFar, search_state, WritesAnswer};
+ghost use Rattle.cq_search.specs.Internal.Writing.{WritesFault, WritesKept, WritesLast, WritesSummary, WritesText};
 
 use crate::sorts::have_sort;
 use crate::tally::Tally;
@@ -32,10 +32,10 @@ pub fn write_rest<O: Sink, E: Sink>(
     out: &mut O,
     err: &mut E,
 ) -> Status
-    ensures { (outcomes : List Outcome) (sorted : Bool) (first : SinkView) (second : SinkView)
+    ensures { (outcomes : List ReadResult) (sorted : Bool) (first : SinkView) (second : SinkView)
         → some_sort (query_in plan.now).items ≡ sorted
         → FoundSoFar sorted (query_in plan.now) outcomes
-        (sinks_of first (sink_view O.taken O.faults out.old) second (sink_view E.taken E.faults err.old)) (stand_of tally kept.items)
+        (sinks_of first (sink_view O.taken O.faults out.old) second (sink_view E.taken E.faults err.old)) (search_state tally kept.items)
         → WritesAnswer (texts_of (query_in plan.now)) outcomes
         (sinks_of first (sink_view O.taken O.faults out.new) second (sink_view E.taken E.faults err.new)) result }
 {
@@ -115,14 +115,14 @@ pub fn write_answers<O: Sink, E: Sink>(
     requires games { tally.old.games + length answers.items < 2 ^ 63 }
     requires matched { tally.old.matched ≤ tally.old.games }
     requires refused { tally.old.refused ≤ tally.old.games }
-    ensures { (query : QueryTree) (before : List Outcome) (outcomes : List Outcome) (first : SinkView) (second : SinkView)
+    ensures { (query : QueryTree) (before : List ReadResult) (outcomes : List ReadResult) (first : SinkView) (second : SinkView)
         → answers.items ≡ answers_from query (length before) outcomes
         → FoundSoFar sorted query before
         (sinks_of first (sink_view O.taken O.faults out.old) second (sink_view E.taken E.faults err.old))
-        (stand_of tally.old kept.old.items)
+        (search_state tally.old kept.old.items)
         → AnswersSome sorted query (before ++ outcomes)
         (sinks_of first (sink_view O.taken O.faults out.new) second (sink_view E.taken E.faults err.new))
-        (stand_of tally.new kept.new.items) result }
+        (search_state tally.new kept.new.items) result }
 {
     for answer in answers {
         match write_answer(alloc, sorted, answer, tally, kept, out, err) {
@@ -147,8 +147,8 @@ fn write_answer<O: Sink, E: Sink>(
     requires games { tally.old.games < 2 ^ 63 }
     requires matched { tally.old.matched ≤ tally.old.games }
     requires refused { tally.old.refused ≤ tally.old.games }
-    ensures answers { (query : QueryTree) (outcome : Outcome) → answer ≡ answer_of query tally.old.games outcome
-        → AnswersGame sorted query outcome (stand_of tally.old kept.old.items) (stand_of tally.new kept.new.items)
+    ensures answers { (query : QueryTree) (outcome : ReadResult) → answer ≡ answer_of query tally.old.games outcome
+        → AnswersGame sorted query outcome (search_state tally.old kept.old.items) (search_state tally.new kept.new.items)
         (sinks_of (sink_view O.taken O.faults out.old) (sink_view O.taken O.faults out.new)
         (sink_view E.taken E.faults err.old) (sink_view E.taken E.faults err.new)) result }
     ensures games { tally.new.games ≡ tally.old.games + 1 }

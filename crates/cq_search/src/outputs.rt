@@ -4,12 +4,12 @@ ghost use Rattle.std.specs.List.{flat_map};
 ghost use Rattle.cq_report.specs.Games.{summary_line as line_of};
 ghost use Rattle.cql_syntax.specs.QueryTrees.{trees_of};
 ghost use Rattle.cq_shared.specs.Plans.{queries_of};
-ghost use Rattle.cq_shards.specs.Outcomes.{Outcome};
+ghost use Rattle.cq_shards.specs.ReadResults.{ReadResult};
 ghost use Rattle.cq_search.specs.Exports.{exports_of};
 ghost use Rattle.cq_search.specs.ManyQueries.{output_of, outputs_from, texts_of_all};
-ghost use Rattle.cq_search.specs.ManyWriting.{AreInOrder, FoundByAll, WritesOut};
+ghost use Rattle.cq_search.specs.Internal.ManyWriting.{AreInOrder, FoundByAll, WritesOut};
 ghost use Rattle.cq_queries.specs.Views.{SinkView, sink_view, sinks_of};
-ghost use Rattle.cq_search.specs.Writing.{WritesAnswer, WritesLast};
+ghost use Rattle.cq_search.specs.Internal.Writing.{WritesAnswer, WritesLast};
 
 use crate::output::{write_last, write_texts, write_to};
 use crate::tally::Tally;
@@ -32,7 +32,7 @@ pub fn write_outputs<O: Sink, E: Sink>(
 ) -> Status
     requires some { 1 ≤ length (queries_of plan.now) }
     requires kept { length kept.items ≡ length (queries_of plan.now) }
-    ensures { (outcomes : List Outcome) (first : SinkView) (second : SinkView)
+    ensures { (outcomes : List ReadResult) (first : SinkView) (second : SinkView)
         → FoundByAll (trees_of (queries_of plan.now)) outcomes
         (sinks_of first (sink_view O.taken O.faults out.old) second (sink_view E.taken E.faults err.old))
         tally (map (λ row. row.items) kept.items)

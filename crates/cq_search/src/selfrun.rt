@@ -5,17 +5,17 @@ ghost use Rattle.std.specs.Thread.{IsSync};
 ghost use Rattle.pgn_batches.specs.declared.batch.Batch.{Batch};
 ghost use Rattle.cql_syntax.specs.TreeOf.{query_tree};
 ghost use Rattle.cql_syntax.specs.Trees.{QueryTree};
-ghost use Rattle.cq_maker.specs.Made.{made};
+ghost use Rattle.cq_maker.specs.GeneratedArchive.{generated_archive};
 ghost use Rattle.cq_shards.specs.Answers.{AnswersBatch, answer_of, answers_from};
 ghost use Rattle.cq_shards.specs.PlanQuery.{query_in};
-ghost use Rattle.cq_shards.specs.Outcomes.{Outcome};
+ghost use Rattle.cq_shards.specs.ReadResults.{ReadResult};
 ghost use Rattle.cq_queries.specs.Views.{SinkView, sink_view, sinks_of};
 ghost use Rattle.cq_search.specs.SelfRun.{AreTotals, WritesMade, WritesTotals, totals_of};
-ghost use Rattle.cq_search.specs.Takers.{Taken};
-ghost use Rattle.cq_search.specs.Writing.{counted};
+ghost use Rattle.cq_search.specs.Internal.Visits.{HasVisited};
+ghost use Rattle.cq_search.specs.Internal.Writing.{counted};
 
 use crate::all_games::batch_answers;
-use crate::crew::Crew;
+use crate::run_context::RunContext;
 use crate::laws::archives_come_in_batches;
 use crate::tally::Tally;
 use crate::totals::Totals;
@@ -28,7 +28,7 @@ use cq_report::made_line;
 use cq_shards::{Answer, GameAnswer};
 use cql_plan::Plan;
 use cql_syntax::TypedQuery;
-use pgn_batches::{Batch, Ended, Taker, take_batches};
+use pgn_batches::{Batch, VisitEnd, BatchVisitor, visit_batches};
 use std::alloc::Global;
 use std::thread::Threads;
 
@@ -41,37 +41,37 @@ pub const MADE_LIMIT: u64 = 1 << 40;
 /// - `Done` or `DoneWithRefusals`: the line was taken, and no game is faulty, or some.
 /// - `WriteFault`: a write failed, and the count of `out` rose. A prefix of the line was taken.
 /// - `NoMemory`: no memory was found, for the archive, for what a game asks or for the line; nothing is written.
-pub fn answer_made<R: Threads + Sync, O: Sink, G: Gate + Sync>(
-    crew: &Crew<'_, R, G>,
+pub fn search_made_archive<R: Threads + Sync, O: Sink, G: Gate + Sync>(
+    context: &RunContext<'_, R, G>,
     query: &TypedQuery,
     seed: u32,
     games: u32,
     out: &mut O,
 ) -> Status
     requires { games ≤ 100000 }
-    ensures { (err : SinkView) → WritesMade (made seed games) (query_tree query.now.query) result
+    ensures { (err : SinkView) → WritesMade (generated_archive seed games) (query_tree query.now.query) result
         (sinks_of (sink_view O.taken O.faults out.old) (sink_view O.taken O.faults out.new) err err) }
 {
-    match made_totals(crew, query, seed, games) {
-        Ok(totals) => write_totals(crew.alloc, totals, out),
+    match made_totals(context, query, seed, games) {
+        Ok(totals) => write_totals(context.alloc, totals, out),
         Err(_) => Status::NoMemory,
     }
 }
 
 // What a query finds in the archive of so many games that a seed gives.
 fn made_totals<R: Threads + Sync, G: Gate + Sync>(
-    crew: &Crew<'_, R, G>,
+    context: &RunContext<'_, R, G>,
     query: &TypedQuery,
     seed: u32,
     games: u32,
 ) -> Result<Totals, NoMemory>
     requires { games ≤ 100000 }
-    ensures { IfOk result (AreTotals (query_tree query.now.query) (made seed games)) }
+    ensures { IfOk result (AreTotals (query_tree query.now.query) (generated_archive seed games)) }
 {
     archives_are_short();
-    let plan = Plan::make(crew.alloc, query)?;
-    let archive = make_archive(crew.alloc, seed, games)?;
-    let totals = count_archive(crew, &plan, archive);
+    let plan = Plan::make(context.alloc, query)?;
+    let archive = make_archive(context.alloc, seed, games)?;
+    let totals = count_archive(context, &plan, archive);
     drop(plan);
     totals
 }
@@ -84,14 +84,14 @@ struct Counter<'a, F> {
     totals: Totals,
 }
 
-impl<'a, F: Fn(&Batch) -> Result<Vec<GameAnswer>, NoMemory>> Taker<(), ()> for Counter<'a, F> {
+impl<'a, F: Fn(&Batch) -> Result<Vec<GameAnswer>, NoMemory>> BatchVisitor<(), ()> for Counter<'a, F> {
     type Stop = NoMemory;
 
     ghost has_taken = { λ was now games. ((F.IsAlwaysCallable now.taker.answer
         × ((batch : Batch) (r : _) → FnReturnsAt F.Fn now.taker.answer batch r
         → IfOk r (λ answers. AnswersBatch (query_in now.taker.plan.now) batch answers.items)))
         × (now.taker.totals.written ≤ 2 ^ 64 * now.taker.totals.tally.games))
-        × Taken (query_in was.taker.plan.now) (query_in now.taker.plan.now) games
+        × HasVisited (query_in was.taker.plan.now) (query_in now.taker.plan.now) games
         (λ outcomes. now.taker.totals ≡ totals_of (query_in was.taker.plan.now) was.taker.totals.bytes outcomes) };
 
     ghost has_stopped = { λ was now games batch stop. Unit {0} };
@@ -107,7 +107,7 @@ impl<'a, F: Fn(&Batch) -> Result<Vec<GameAnswer>, NoMemory>> Taker<(), ()> for C
 
 // What the query of a plan finds in an archive within the limit, batch by batch.
 fn count_archive<R: Threads + Sync, G: Gate + Sync>(
-    crew: &Crew<'_, R, G>,
+    context: &RunContext<'_, R, G>,
     plan: &Plan,
     archive: Bytes,
 ) -> Result<Totals, NoMemory>
@@ -120,21 +120,21 @@ fn count_archive<R: Threads + Sync, G: Gate + Sync>(
         answer: |batch: &Batch| -> Result<Vec<GameAnswer>, NoMemory>
             requires { IsSync R.row × IsSync G.row }
             ensures { IfOk result (λ answers. AnswersBatch (query_in plan.entry.now) batch.now answers.items) }
-        { batch_answers(crew, plan, batch) },
+        { batch_answers(context, plan, batch) },
         totals: no_totals(archive.len() as u64),
     };
     let mut source = SureSource::new(archive);
     let (mut out, mut err) = ((), ());
-    match take_batches(
-        crew.alloc,
+    match visit_batches(
+        context.alloc,
         MADE_LIMIT,
         &mut source,
         &mut taker,
         &mut out,
         &mut err,
     ) {
-        Ok(Ended::All(_)) => Ok(taker.totals),
-        Ok(Ended::Early(NoMemory)) => Err(NoMemory),
+        Ok(VisitEnd::All(_)) => Ok(taker.totals),
+        Ok(VisitEnd::Early(NoMemory)) => Err(NoMemory),
         Err(Refusal::Fault(_)) => unreachable!(),
         Err(Refusal::NoMemory) => Err(NoMemory),
     }
@@ -161,7 +161,7 @@ fn count_answers(before: Totals, answers: Vec<GameAnswer>) -> Totals
     requires matched { before.tally.matched ≤ before.tally.games }
     requires refused { before.tally.refused ≤ before.tally.games }
     requires written { before.written ≤ 2 ^ 64 * before.tally.games }
-    ensures counts { (query : QueryTree) (bytes : ℕ) (rs qs : List Outcome) → answers.items ≡ answers_from query (length rs) qs
+    ensures counts { (query : QueryTree) (bytes : ℕ) (rs qs : List ReadResult) → answers.items ≡ answers_from query (length rs) qs
         → before ≡ totals_of query bytes rs → result ≡ totals_of query bytes (rs ++ qs) }
     ensures written { result.written ≤ 2 ^ 64 * result.tally.games }
 {
@@ -179,7 +179,7 @@ fn count_answer(before: Totals, answer: &GameAnswer) -> Totals
     requires matched { before.tally.matched ≤ before.tally.games }
     requires refused { before.tally.refused ≤ before.tally.games }
     requires written { before.written ≤ 2 ^ 64 * before.tally.games }
-    ensures counts { (query : QueryTree) (outcome : Outcome) (n : ℕ) → answer.now ≡ answer_of query n outcome
+    ensures counts { (query : QueryTree) (outcome : ReadResult) (n : ℕ) → answer.now ≡ answer_of query n outcome
         → result ≡ counted query before outcome }
     ensures games { result.tally.games ≡ before.tally.games + 1 }
     ensures matched { result.tally.matched ≤ result.tally.games }

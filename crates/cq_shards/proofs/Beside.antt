@@ -8,8 +8,8 @@ use Rattle.std.proofs.lemmas.List.Sorted.{All-permutation, sum_by-IsPermutation}
 use Rattle.std.proofs.lemmas.List.Sums.{sum_by-append}
 use Rattle.std.proofs.lemmas.Option.{slice_get_within}
 use Rattle.pgn_batches.specs.declared.batch.Batch.{Batch}
-use Rattle.pgn_batches.specs.declared.kept.KeptGame.{KeptGame}
-use Rattle.pgn_batches.specs.Kept.{KeptGames}
+use Rattle.pgn_batches.specs.declared.kept_game.KeptGame.{KeptGame}
+use Rattle.pgn_batches.specs.KeptGames.{KeptGames}
 use Rattle.pgn_batches.specs.Games.{games_of, number_of}
 use Rattle.cql_syntax.specs.Trees.{QueryTree}
 use Rattle.pgn_reader.specs.Verdict.{IsRead}

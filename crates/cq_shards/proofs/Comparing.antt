@@ -8,7 +8,7 @@ use Rattle.std.specs.declared.cmp.Ordering.{Ordering}
 use Rattle.std.specs.declared.cmp.Ordering.TheVariants.{Less, Equal, Greater}
 use Rattle.std.specs.Ordering.{is_ne, ordering_then, ordering_reverse}
 use Rattle.std.specs.Prelude.{slice_get}
-use Rattle.cq_shards.specs.Comparing.{answer_cmp, keys_cmp, value_cmp}
+use Rattle.cq_shards.specs.Internal.Comparing.{answer_cmp, keys_cmp, value_cmp}
 use Rattle.cq_shards.specs.Order.{keys_in}
 
 pub decided : (o rest : Ordering) → is_ne o ≡ true → ordering_then o rest ≡ o

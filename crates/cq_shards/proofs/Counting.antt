@@ -8,7 +8,7 @@ use Rattle.cq_board.proofs.Increasing.{one_if}
 use Rattle.cq_workers.proofs.Counting.{not_same, times_more}
 use Rattle.cq_shards.specs.declared.answers.GameAnswer.{GameAnswer}
 use Rattle.cq_shards.specs.Answers.{answers_at}
-use Rattle.cq_shards.specs.Finders.{adding, matches_at}
+use Rattle.cq_shards.specs.Internal.Finders.{adding, matches_at}
 use Rattle.cq_shards.specs.Order.{is_match}
 
 and_true : (p : Bool) → (p && true) ≡ p

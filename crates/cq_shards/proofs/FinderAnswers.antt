@@ -8,25 +8,25 @@ use Rattle.pgn_batches.specs.declared.batch.Batch.{Batch}
 use Rattle.pgn_batches.specs.Games.{number_of}
 use Rattle.cq_board.proofs.Increasing.{one_if}
 use Rattle.cq_board.specs.Draws.{times, times_in}
-use Rattle.cq_workers.specs.Made.{AddsOne, AreMadeOf, Share}
+use Rattle.cq_workers.specs.Outputs.{AddsOne, AreMadeOf, Share}
 use Rattle.cq_workers.proofs.Counting.{same_bool, times_more}
 use Rattle.cq_first.specs.declared.seat.FirstBoard.{FirstBoard}
 use Rattle.cq_first.specs.declared.seat.FirstSeat.{FirstSeat}
-use Rattle.cq_first.specs.Seats.{IsFirst}
+use Rattle.cq_first.specs.Seats.{IsLeastFound}
 use Rattle.cql_syntax.specs.Trees.{QueryTree}
 use Rattle.cq_shards.specs.declared.answers.GameAnswer.{GameAnswer}
 use Rattle.cq_shards.specs.Answers.{answers_at}
-use Rattle.cq_shards.specs.Finders.{AreFound, HasSearched, IsAnswerIn, IsMarkOf, IsUnusedMark, TookOne, found, marks_below, matches_at, skipped}
+use Rattle.cq_shards.specs.Internal.Finders.{AreFound, HasSearched, IsAnswerIn, IsSeatAt, IsUnusedSeat, HasProcessedGame, found, board_games, matches_at, skipped}
 use Rattle.cq_shards.specs.Order.{is_match}
-use Rattle.cq_shards.specs.Work.{size}
+use Rattle.cq_shards.specs.Internal.WorkerAnswers.{size}
 use Rattle.cq_shards.proofs.Counting.{answers_both, answers_more, matches_both, matches_more, times_added}
 
 -- ---- by one worker
 
-pub begins : (first : FirstBoard) (query : QueryTree) (batch : Batch) (mark : FirstSeat) → marks_below first ≡ size batch → IsUnusedMark first mark → HasSearched first query batch mark [] []
-begins first query batch mark below unused = record {
+pub begins : (first : FirstBoard) (query : QueryTree) (batch : Batch) (seat : FirstSeat) → board_games first ≡ size batch → IsUnusedSeat first seat → HasSearched first query batch seat [] []
+begins first query batch seat below unused = record {
   board = below;
-  mark_ = unused.0;
+  seat_ = unused.0;
   has_found = record {
     each = All-nil (IsAnswerIn query batch);
     drawn_ = λ x less. ap (λ (n : ℕ). 0 + n) (ap (times x) unused.1.skipped);
@@ -34,23 +34,23 @@ begins first query batch mark below unused = record {
   };
 }
 
-pub adds_found : (first : FirstBoard) (query : QueryTree) (batch : Batch) (number : ℕ) (mark now : FirstSeat) (one : Option GameAnswer)
-    → TookOne first query batch number mark now one → AddsOne (HasSearched first query batch) number mark now one
-adds_found first query batch number mark now None took = λ numbers answers was. record {
+pub adds_found : (first : FirstBoard) (query : QueryTree) (batch : Batch) (number : ℕ) (seat now : FirstSeat) (one : Option GameAnswer)
+    → HasProcessedGame first query batch number seat now one → AddsOne (HasSearched first query batch) number seat now one
+adds_found first query batch number seat now None took = λ numbers answers was. record {
   board = was.board;
-  mark_ = took.mark;
+  seat_ = took.seat;
   has_found = record {
     each = subst (All (IsAnswerIn query batch)) (sym (append-nil answers)) was.has_found.each;
     drawn_ = λ x less.
         let a = ap (answers_at (number_of batch + x)) (append-nil answers) in let b = was.has_found.drawn_ x less in
         let t = times_more x numbers (numbers ++ number ∷ []) number refl in
-        let s = times_more x (skipped mark) (skipped now) number took.took.1 in omega (arith, a, b, t, s);
+        let s = times_more x (skipped seat) (skipped now) number took.took.1 in omega (arith, a, b, t, s);
     found_ = λ x less. ap (matches_at (number_of batch + x)) (append-nil answers) ∙ (was.has_found.found_ x less ∙ sym (ap (times x) took.took.0));
   };
 }
-adds_found first query batch number mark now (Some answer) took = λ numbers answers was. record {
+adds_found first query batch number seat now (Some answer) took = λ numbers answers was. record {
   board = was.board;
-  mark_ = took.mark;
+  seat_ = took.seat;
   has_found = record {
     each = All-push (IsAnswerIn query batch) answers answer was.has_found.each (number, took.took.0);
     drawn_ = λ x less.
@@ -62,19 +62,19 @@ adds_found first query batch number mark now (Some answer) took = λ numbers ans
         let a = matches_more (number_of batch + x) answers (answers ++ answer ∷ []) answer refl in
         let e = ap (λ p. one_if (p && is_match answer)) (same_bool (number_of batch) number x answer.index (ap (λ (b : GameAnswer). b.index) took.took.0.is)) in
         let b = was.has_found.found_ x less in
-        let t = times_added (is_match answer) x number (found mark) (found now) took.took.1 in omega (arith, a, e, b, t);
+        let t = times_added (is_match answer) x number (found seat) (found now) took.took.1 in omega (arith, a, e, b, t);
   };
 }
 
 -- ---- by all workers
 
-pub marks_are : (first : FirstBoard) (query : QueryTree) (batch : Batch) (n : ℕ) (marks : List FirstSeat) (answers : List GameAnswer)
-    → AreMadeOf (HasSearched first query batch) n marks answers → All (IsMarkOf first) marks
-marks_are first query batch n marks answers are =
-    subst (All (IsMarkOf first)) (sym are.kept_)
-    (All-map (IsMarkOf first) (λ (s : Share FirstSeat GameAnswer). s.kept) are.shares
-    (All-weaker (λ (s : Share FirstSeat GameAnswer). HasSearched first query batch s.kept s.numbers s.made) (λ (s : Share FirstSeat GameAnswer). IsMarkOf first s.kept)
-    (λ s is. is.mark_) are.shares are.each))
+pub seats_are : (first : FirstBoard) (query : QueryTree) (batch : Batch) (n : ℕ) (seats : List FirstSeat) (answers : List GameAnswer)
+    → AreMadeOf (HasSearched first query batch) n seats answers → All (IsSeatAt first) seats
+seats_are first query batch n seats answers are =
+    subst (All (IsSeatAt first)) (sym are.kept_)
+    (All-map (IsSeatAt first) (λ (s : Share FirstSeat GameAnswer). s.kept) are.shares
+    (All-weaker (λ (s : Share FirstSeat GameAnswer). HasSearched first query batch s.kept s.numbers s.made) (λ (s : Share FirstSeat GameAnswer). IsSeatAt first s.kept)
+    (λ s is. is.seat_) are.shares are.each))
 
 module _ (first : FirstBoard) (query : QueryTree) (batch : Batch) where
   abbrev IsSearched : Share FirstSeat GameAnswer → Type 0
@@ -83,8 +83,8 @@ module _ (first : FirstBoard) (query : QueryTree) (batch : Batch) where
   abbrev answers_of : List (Share FirstSeat GameAnswer) → List GameAnswer
   answers_of shares = flat_map (λ s. s.made) shares
 
-  abbrev marks_of : List (Share FirstSeat GameAnswer) → List FirstSeat
-  marks_of shares = map (λ s. s.kept) shares
+  abbrev seats_of : List (Share FirstSeat GameAnswer) → List FirstSeat
+  seats_of shares = map (λ s. s.kept) shares
 
   each_joined : (shares : List (Share FirstSeat GameAnswer)) → All IsSearched shares → All (IsAnswerIn query batch) (answers_of shares)
   each_joined [] all = All-nil (IsAnswerIn query batch)
@@ -93,7 +93,7 @@ module _ (first : FirstBoard) (query : QueryTree) (batch : Batch) where
       All-append (IsAnswerIn query batch) s.made (answers_of ss) one.has_found.each (each_joined ss (All-tail IsSearched s ss all))
 
   drawn_joined : (shares : List (Share FirstSeat GameAnswer)) → All IsSearched shares → (x : ℕ) → x < size batch
-      → answers_at (number_of batch + x) (answers_of shares) + times_in x (map skipped (marks_of shares)) ≡ times_in x (map (λ s. s.numbers) shares)
+      → answers_at (number_of batch + x) (answers_of shares) + times_in x (map skipped (seats_of shares)) ≡ times_in x (map (λ s. s.numbers) shares)
   drawn_joined [] all x less = refl
   drawn_joined (s ∷ ss) all x less =
       let one : IsSearched s = All-head IsSearched s ss all in
@@ -101,13 +101,13 @@ module _ (first : FirstBoard) (query : QueryTree) (batch : Batch) where
       let r = drawn_joined ss (All-tail IsSearched s ss all) x less in
       let a : answers_at (number_of batch + x) (answers_of (s ∷ ss)) ≡ answers_at (number_of batch + x) s.made + answers_at (number_of batch + x) (answers_of ss) =
       answers_both (number_of batch + x) s.made (answers_of ss) (answers_of (s ∷ ss)) refl in
-      let k : times_in x (map skipped (marks_of (s ∷ ss))) ≡ times x (skipped s.kept) + times_in x (map skipped (marks_of ss)) =
-      sum_by-cons (times x) (skipped s.kept) (map skipped (marks_of ss)) in
+      let k : times_in x (map skipped (seats_of (s ∷ ss))) ≡ times x (skipped s.kept) + times_in x (map skipped (seats_of ss)) =
+      sum_by-cons (times x) (skipped s.kept) (map skipped (seats_of ss)) in
       let n : times_in x (map (λ (t : Share FirstSeat GameAnswer). t.numbers) (s ∷ ss)) ≡ times x s.numbers + times_in x (map (λ (t : Share FirstSeat GameAnswer). t.numbers) ss) =
       sum_by-cons (times x) s.numbers (map (λ (t : Share FirstSeat GameAnswer). t.numbers) ss) in omega (arith, d, r, a, k, n)
 
   found_joined : (shares : List (Share FirstSeat GameAnswer)) → All IsSearched shares → (x : ℕ) → x < size batch
-      → matches_at (number_of batch + x) (answers_of shares) ≡ times_in x (map found (marks_of shares))
+      → matches_at (number_of batch + x) (answers_of shares) ≡ times_in x (map found (seats_of shares))
   found_joined [] all x less = refl
   found_joined (s ∷ ss) all x less =
       let one : IsSearched s = All-head IsSearched s ss all in
@@ -115,32 +115,32 @@ module _ (first : FirstBoard) (query : QueryTree) (batch : Batch) where
       let r = found_joined ss (All-tail IsSearched s ss all) x less in
       let a : matches_at (number_of batch + x) (answers_of (s ∷ ss)) ≡ matches_at (number_of batch + x) s.made + matches_at (number_of batch + x) (answers_of ss) =
       matches_both (number_of batch + x) s.made (answers_of ss) (answers_of (s ∷ ss)) refl in
-      let k : times_in x (map found (marks_of (s ∷ ss))) ≡ times x (found s.kept) + times_in x (map found (marks_of ss)) =
-      sum_by-cons (times x) (found s.kept) (map found (marks_of ss)) in omega (arith, d, r, a, k)
+      let k : times_in x (map found (seats_of (s ∷ ss))) ≡ times x (found s.kept) + times_in x (map found (seats_of ss)) =
+      sum_by-cons (times x) (found s.kept) (map found (seats_of ss)) in omega (arith, d, r, a, k)
 
 none_or_some : (n : ℕ) → (n ≡ 0) ⊎ (0 < n)
 none_or_some zero = inl refl
 none_or_some (suc n) = inr (omega arith)
 
-pub are_found : (first : FirstBoard) (query : QueryTree) (batch : Batch) (word : ℕ) (marks : List FirstSeat) (answers : List GameAnswer)
-    → AreMadeOf (HasSearched first query batch) (size batch) marks answers → IsFirst (size batch) word (map found marks) (map skipped marks)
+pub are_found : (first : FirstBoard) (query : QueryTree) (batch : Batch) (word : ℕ) (seats : List FirstSeat) (answers : List GameAnswer)
+    → AreMadeOf (HasSearched first query batch) (size batch) seats answers → IsLeastFound (size batch) word (map found seats) (map skipped seats)
     → AreFound query batch word answers
-are_found first query batch word marks answers are is = record {
+are_found first query batch word seats answers are is = record {
   high = is.high;
   each = subst (All (IsAnswerIn query batch)) (sym are.made_) (each_joined first query batch are.shares are.each);
   once = λ x less. let d = taken x less in omega (arith, d);
   there = λ x less le. let d = taken x less in
-      ⊎_elim (λ z. omega arith) (λ s. let f = is.each_skipped x s in absurd (omega arith)) (none_or_some (times_in x (map skipped marks)));
+      ⊎_elim (λ z. omega arith) (λ s. let f = is.each_skipped x s in absurd (omega arith)) (none_or_some (times_in x (map skipped seats)));
   before = λ x less lt. let d = matched x less in
-      ⊎_elim (λ z. d ∙ z) (λ s. let f = is.each_found x s in absurd (omega arith)) (none_or_some (times_in x (map found marks)));
+      ⊎_elim (λ z. d ∙ z) (λ s. let f = is.each_found x s in absurd (omega arith)) (none_or_some (times_in x (map found seats)));
   at_word = λ less. let d = matched word less in ⊎_elim (λ e. absurd (omega arith)) (λ s. omega arith) is.least;
 }
   where
-    taken : (x : ℕ) → x < size batch → answers_at (number_of batch + x) answers + times_in x (map skipped marks) ≡ 1
+    taken : (x : ℕ) → x < size batch → answers_at (number_of batch + x) answers + times_in x (map skipped seats) ≡ 1
     taken x less =
         let a = ap (answers_at (number_of batch + x)) are.made_ in let k = ap (λ ms. times_in x (map skipped ms)) are.kept_ in
         let j = drawn_joined first query batch are.shares are.each x less in let o = are.once x less in omega (arith, a, k, j, o)
 
-    matched : (x : ℕ) → x < size batch → matches_at (number_of batch + x) answers ≡ times_in x (map found marks)
+    matched : (x : ℕ) → x < size batch → matches_at (number_of batch + x) answers ≡ times_in x (map found seats)
     matched x less =
         ap (matches_at (number_of batch + x)) are.made_ ∙ (found_joined first query batch are.shares are.each x less ∙ sym (ap (λ ms. times_in x (map found ms)) are.kept_))

@@ -2,15 +2,15 @@
 use Rattle.std.proofs.Common.{List, ap}
 use Rattle.pgn_batches.specs.Games.{number_of}
 use Rattle.pgn_batches.specs.declared.batch.Batch.{Batch}
-use Rattle.cq_workers.specs.Made.{AreMadeOf}
-use Rattle.cq_workers.specs.Numbered.{IsNumbered}
+use Rattle.cq_workers.specs.Outputs.{AreMadeOf}
+use Rattle.cq_workers.specs.NumberedOutputs.{IsNumbered}
 use Rattle.cq_workers.proofs.Makings.{are_made}
 use Rattle.cql_syntax.specs.Trees.{QueryTree}
 use Rattle.cq_shards.specs.declared.answers.GameAnswer.{GameAnswer}
 use Rattle.cq_shards.specs.Answers.{AreAnswersOf}
-use Rattle.cq_shards.specs.Work.{HasAnswered, IsAnswerFor, index_of, size}
-use Rattle.cq_shards.specs.declared.rows.GameRow.{GameRow}
-use Rattle.cq_shards.specs.Rows.{AreRowsOf, HasMadeRows, IsRowFor, row_index}
+use Rattle.cq_shards.specs.Internal.WorkerAnswers.{HasAnswered, IsAnswerFor, index_of, size}
+use Rattle.cq_shards.specs.declared.game_rows.GameRow.{GameRow}
+use Rattle.cq_shards.specs.Internal.GameRows.{AreRowsOf, HasMadeRows, IsRowFor, row_index}
 
 pub numbered_answers : (query : QueryTree) (batch : Batch) → IsNumbered (IsAnswerFor query batch) index_of (number_of batch)
 numbered_answers query batch = λ number a is. ap (λ (b : GameAnswer). b.index) is.is

@@ -14,7 +14,7 @@ use Rattle.std.specs.List.Sorted.{IsNonDecreasingBy, IsPermutation, IsSortedBy}
 use Rattle.std.specs.Ordering.{is_gt, is_lt, nat_cmp, ordering_then}
 use Rattle.std.specs.Prelude.{slice_get}
 use Rattle.cq_shards.specs.declared.answers.GameAnswer.{GameAnswer}
-use Rattle.cq_shards.specs.Comparing.{answer_cmp, keys_cmp, value_cmp}
+use Rattle.cq_shards.specs.Internal.Comparing.{answer_cmp, keys_cmp, value_cmp}
 use Rattle.cq_shards.specs.Order.{AreApart, ComesBefore, ComesFirst, HasKeys, IsEarlier, Precede, is_match, key_at, keys_in}
 use Rattle.cq_shards.proofs.Comparing.{answer_total, by_item, keys_turned, no_item}
 

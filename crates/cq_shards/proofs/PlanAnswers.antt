@@ -5,11 +5,11 @@ use Rattle.cq_position.specs.Games.{Game}
 use Rattle.cql_syntax.specs.Hits.{hits, keys}
 use Rattle.cql_syntax.specs.TreeOf.{query_tree}
 use Rattle.cql_syntax.specs.Trees.{QueryTree}
-use Rattle.cql_syntax.specs.declared.typed.TypedQuery.{TypedQuery}
+use Rattle.cql_syntax.specs.declared.typed_query.TypedQuery.{TypedQuery}
 use Rattle.cql_syntax.specs.QueryTrees.{trees_of}
 use Rattle.cq_shared.specs.Verdicts.{HaveKeys, IsKeyed}
-use Rattle.cq_shards.specs.Outcomes.{Outcome}
-use Rattle.cq_shards.specs.Rows.{answers_back}
+use Rattle.cq_shards.specs.ReadResults.{ReadResult}
+use Rattle.cq_shards.specs.Internal.GameRows.{answers_back}
 use Rattle.cq_shards.specs.declared.answers.GameAnswer.{GameAnswer}
 
 pub tree_at : (queries : List TypedQuery) (k : ℕ) (q : TypedQuery) → k < length queries → q ≡ get_or queries k q → query_tree q.query ≡ get_or (trees_of queries) k (query_tree q.query)
@@ -22,7 +22,7 @@ pub found_count : (queries : List TypedQuery) (game : Game) (found : List (List 
 found_count queries game found are = ap length are ∙ length-map (trees_of queries) (λ q. hits q game) ∙ tree_count queries
 
 -- the queries from the first one on are all
-pub from_first : (queries : List QueryTree) (n index : ℕ) (r : Outcome) (answers : List GameAnswer) → n ≤ 0 → answers ≡ answers_back (drop n queries) index r
+pub from_first : (queries : List QueryTree) (n index : ℕ) (r : ReadResult) (answers : List GameAnswer) → n ≤ 0 → answers ≡ answers_back (drop n queries) index r
     → answers ≡ answers_back queries index r
 from_first queries n index r answers none are = are ∙ ap (λ k. answers_back (drop k queries) index r) (let e : n ≡ 0 = omega (arith, none) in e)
 

@@ -10,12 +10,12 @@ use Rattle.cq_workers.proofs.Counting.{made_more}
 use Rattle.cql_syntax.specs.Trees.{QueryTree}
 use Rattle.cq_shards.specs.declared.answers.GameAnswer.{GameAnswer}
 use Rattle.cq_shards.specs.Answers.{AreAnswersOf, IsAnswerAmong, answer_of, answers_at}
-use Rattle.cq_shards.specs.Work.{size}
+use Rattle.cq_shards.specs.Internal.WorkerAnswers.{size}
 use Rattle.cq_shards.proofs.Counting.{answers_more}
-use Rattle.cq_shards.specs.declared.many.AnswerList.{AnswerList}
-use Rattle.cq_shards.specs.declared.rows.GameRow.{GameRow}
+use Rattle.cq_shards.specs.declared.search_many.AnswerList.{AnswerList}
+use Rattle.cq_shards.specs.declared.game_rows.GameRow.{GameRow}
 use Rattle.cq_shards.specs.Many.{AreManyOf}
-use Rattle.cq_shards.specs.Rows.{AreRowsOf, AreTakenOff, IsRowIn, answers_back, rows_at}
+use Rattle.cq_shards.specs.Internal.GameRows.{AreRowsOf, AreSplitOff, IsRowIn, answers_back, rows_at}
 
 -- lists with one last element more are the same where the lists and the elements are
 snoc_same : {X : Type 0} (xs ys : List X) (a b : X) → xs ++ a ∷ [] ≡ ys ++ b ∷ [] → (xs ≡ ys) × (a ≡ b)
@@ -106,7 +106,7 @@ takes_one queries batch was rows now left left' answers answers' before took =
     }
 
 pub taken : (queries : List QueryTree) (batch : Batch) (rows left : List GameRow) (answers : List GameAnswer) → IsTaking queries batch rows left answers → rows ≡ []
-    → AreTakenOff queries batch left answers
+    → AreSplitOff queries batch left answers
 taken queries batch rows left answers was none = record {
   first = was.first;
   later = was.later;
@@ -144,7 +144,7 @@ pub hands : (queries : List QueryTree) (batch : Batch) (rows : List GameRow) (li
 hands queries batch rows lists are none = record { rows_ = are; lists_ = subst (λ ls. AllZip (AreAnswersIn batch) [] (lists_in ls)) (sym none) tt }
 
 pub hands_one : (queries : List QueryTree) (k : ℕ) (batch : Batch) (was rows : List GameRow) (lists lists' : List AnswerList) (l : AnswerList) → k < length queries
-    → IsHanding queries k batch was lists → AreTakenOff (drop k queries) batch rows l.answers.items → lists' ≡ lists ++ l ∷ [] → IsHanding queries (k + 1) batch rows lists'
+    → IsHanding queries k batch was lists → AreSplitOff (drop k queries) batch rows l.answers.items → lists' ≡ lists ++ l ∷ [] → IsHanding queries (k + 1) batch rows lists'
 hands_one queries k batch was rows lists lists' l inside before off more =
     let e = sym off.are ∙ drop_more queries k off.first inside in
     let first : off.first ≡ get_or queries k off.first = ap (λ qs. get_or qs 0 off.first) e in

@@ -7,15 +7,15 @@ use Rattle.std.proofs.lemmas.List.Elements.{All-head, All-tail, All-weaker}
 use Rattle.std.proofs.lemmas.List.Sorted.{All-permutation, sum_by-IsPermutation}
 use Rattle.std.proofs.lemmas.Option.{slice_get_within}
 use Rattle.pgn_batches.specs.Games.{games_of, number_of}
-use Rattle.pgn_batches.specs.Kept.{KeptGames}
+use Rattle.pgn_batches.specs.KeptGames.{KeptGames}
 use Rattle.pgn_batches.specs.declared.batch.Batch.{Batch}
-use Rattle.pgn_batches.specs.declared.kept.KeptGame.{KeptGame}
+use Rattle.pgn_batches.specs.declared.kept_game.KeptGame.{KeptGame}
 use Rattle.cq_board.proofs.Increasing.{one_if}
 use Rattle.cq_workers.proofs.Counting.{not_same}
 use Rattle.cql_syntax.specs.Trees.{QueryTree}
 use Rattle.pgn_reader.specs.Verdict.{IsRead}
 use Rattle.cq_shards.specs.Answers.{IsAnswerAmong, IsAnswerOf, answer_of, answers_at}
-use Rattle.cq_shards.specs.Finders.{AreFound, IsAnswerIn, matches_at}
+use Rattle.cq_shards.specs.Internal.Finders.{AreFound, IsAnswerIn, matches_at}
 use Rattle.cq_shards.specs.FirstMatch.{AnswersUpToFirst, AreUpToFirst}
 use Rattle.cq_shards.specs.Order.{AreApart, IsEarlier, is_match}
 use Rattle.cq_shards.specs.declared.answers.GameAnswer.{GameAnswer}

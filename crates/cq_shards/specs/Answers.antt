@@ -1,16 +1,16 @@
 -- The answers of the games of a batch.
 use Rattle.std.specs.Prelude.{◌≡◌, ℕ, ◌+◌, ◌<◌, Bool, not, List, [], ◌∷◌, All, Some, Ok, Err, ◌==◌, count_by, length, slice_get, if◌then◌else◌}
 use Rattle.pgn_batches.specs.Games.{games_of, number_of}
-use Rattle.pgn_batches.specs.Kept.{KeptGames}
+use Rattle.pgn_batches.specs.KeptGames.{KeptGames}
 use Rattle.pgn_batches.specs.declared.batch.Batch.{Batch}
-use Rattle.pgn_batches.specs.declared.kept.KeptGame.{KeptGame}
+use Rattle.pgn_batches.specs.declared.kept_game.KeptGame.{KeptGame}
 use Rattle.cq_position.specs.Games.{Game}
 use Rattle.pgn_export.specs.Export.{export_text}
 use Rattle.pgn_reader.specs.Verdict.{IsRead}
 use Rattle.cql_syntax.specs.Hits.{hits, keys, marked}
 use Rattle.cql_syntax.specs.Trees.{QueryTree}
 use Rattle.cq_shards.specs.Order.{values_in}
-use Rattle.cq_shards.specs.Outcomes.{AreKeptRead, Outcome}
+use Rattle.cq_shards.specs.ReadResults.{AreKeptRead, ReadResult}
 use Rattle.cq_shards.specs.declared.answers.Answer.{Answer}
 use Rattle.cq_shards.specs.declared.answers.Answer.TheVariants.{Refused, Miss, Match}
 use Rattle.cq_shards.specs.declared.answers.GameAnswer.{GameAnswer}
@@ -20,17 +20,17 @@ abbrev pub has_match : QueryTree → Game → Bool
 has_match query game = not (length (hits query game) == 0)
 
 -- what a query finds in a game that is read so
-abbrev pub found_in : QueryTree → Outcome → Answer
+abbrev pub found_in : QueryTree → ReadResult → Answer
 found_in query (Ok game) =
     if has_match query game then Match (export_text (marked query game)) (values_in (keys query game)) else Miss
 found_in query (Err fault) = Refused fault
 
 -- the answer of a game that has this number and is read so
-abbrev pub answer_of : QueryTree → ℕ → Outcome → GameAnswer
+abbrev pub answer_of : QueryTree → ℕ → ReadResult → GameAnswer
 answer_of query number outcome = record { index = number; what = found_in query outcome }
 
 -- the answers of some games, the first having this number
-unfoldable pub answers_from : QueryTree → ℕ → List Outcome → List GameAnswer
+unfoldable pub answers_from : QueryTree → ℕ → List ReadResult → List GameAnswer
 answers_from query number [] = []
 answers_from query number (r ∷ rs) = answer_of query number r ∷ answers_from query (number + 1) rs
 
@@ -45,12 +45,12 @@ text_of (Match text keys) = text
 -- the answer of a game
 abbrev pub IsAnswerOf : QueryTree → (index : ℕ) → KeptGame → GameAnswer → Type 0
 IsAnswerOf query index game a =
-    (outcome : Outcome) × IsRead game.start game.first game.bytes outcome × (a ≡ answer_of query index outcome)
+    (outcome : ReadResult) × IsRead game.start game.first game.bytes outcome × (a ≡ answer_of query index outcome)
 
 -- the answer of the game that has this number among some games, of which the first has the number `n` in the archive
 pub record IsAnswerAt (query : QueryTree) (n : ℕ) (games : KeptGames) (number : ℕ) (a : GameAnswer) : Type 0 where
   pub game : KeptGame
-  pub outcome : Outcome
+  pub outcome : ReadResult
   pub at : slice_get games number ≡ Some game
   pub read : IsRead game.start game.first game.bytes outcome
   pub is : a ≡ answer_of query (n + number) outcome
@@ -70,7 +70,7 @@ pub record AreAnswersOf (query : QueryTree) (batch : Batch) (answers : List Game
 
 -- the answers of some games, in the order of the games
 pub record AreInGameOrder (query : QueryTree) (n : ℕ) (games : KeptGames) (answers : List GameAnswer) : Type 0 where
-  pub outcomes : List Outcome
+  pub outcomes : List ReadResult
   pub are_read : AreKeptRead games outcomes
   pub are : answers ≡ answers_from query n outcomes
 

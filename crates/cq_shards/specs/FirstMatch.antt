@@ -1,7 +1,7 @@
 -- The answers of the games of a batch up to and with the first match.
 use Rattle.std.specs.Prelude.{◌≡◌, ◌⊎◌, ℕ, ◌+◌, true, false, List, [], ◌∷◌}
 use Rattle.pgn_batches.specs.Games.{games_of, number_of}
-use Rattle.pgn_batches.specs.Kept.{KeptGames}
+use Rattle.pgn_batches.specs.KeptGames.{KeptGames}
 use Rattle.pgn_batches.specs.declared.batch.Batch.{Batch}
 use Rattle.cql_syntax.specs.Trees.{QueryTree}
 use Rattle.cq_shards.specs.Answers.{IsAnswerOf}

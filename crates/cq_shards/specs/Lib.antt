@@ -1,11 +1,8 @@
 pub mod PlanQuery
-pub mod Outcomes
+pub mod ReadResults
 pub mod Order
-pub mod Comparing
 pub mod OrderRows
 pub mod Answers
-pub mod Work
-pub mod Rows
 pub mod Many
 pub mod FirstMatch
-pub mod Finders
+pub mod Internal

@@ -5,7 +5,7 @@ use Rattle.pgn_batches.specs.declared.batch.Batch.{Batch}
 use Rattle.cql_syntax.specs.Trees.{QueryTree}
 use Rattle.cq_shards.specs.Answers.{AreAnswersOf}
 use Rattle.cq_shards.specs.declared.answers.GameAnswer.{GameAnswer}
-use Rattle.cq_shards.specs.declared.many.ManyAnswers.{ManyAnswers}
+use Rattle.cq_shards.specs.declared.search_many.ManyAnswers.{ManyAnswers}
 
 -- the answers of each query, in the order of the queries
 abbrev pub answers_in : ManyAnswers → List (List GameAnswer)

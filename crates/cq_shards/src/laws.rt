@@ -7,7 +7,7 @@ ghost use Rattle.cql_syntax.specs.Hits.{hits, keys};
 ghost use Rattle.cql_syntax.specs.Trees.{QueryTree};
 ghost use Rattle.cq_shards.specs.declared.answers.GameAnswer.{GameAnswer};
 ghost use Rattle.cq_shards.specs.Answers.{AnswersBatch, AreAnswersOf};
-ghost use Rattle.cq_shards.specs.Finders.{AreFound};
+ghost use Rattle.cq_shards.specs.Internal.Finders.{AreFound};
 ghost use Rattle.cq_shards.specs.FirstMatch.{AnswersUpToFirst};
 ghost use Rattle.cq_shards.specs.Order.{AreApart, ComesBefore, IsEarlier, directions, values_in};
 ghost use Rattle.cq_shards.specs.OrderRows.{OrderRows};

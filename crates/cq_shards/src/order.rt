@@ -4,7 +4,7 @@ ghost use Rattle.std.specs.List.Sorted.{IsPermutation};
 ghost use Rattle.cql_syntax.specs.TreeOf.{filter_tree, filter_trees, query_tree};
 ghost use Rattle.cq_shards.specs.Order.{AreApart, ComesBefore, HasKeys, IsEarlier, directions, filter_directions};
 ghost use Rattle.cq_shards.specs.Order.{is_match as is_matching, keys_in};
-ghost use Rattle.cq_shards.specs.Comparing.{answer_cmp, keys_cmp, value_cmp};
+ghost use Rattle.cq_shards.specs.Internal.Comparing.{answer_cmp, keys_cmp, value_cmp};
 
 use crate::answers::{Answer, GameAnswer};
 use cq_common::NoMemory;

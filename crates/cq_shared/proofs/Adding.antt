@@ -6,11 +6,11 @@ use Rattle.std.proofs.lemmas.Bool.{and_parts}
 use Rattle.std.proofs.lemmas.List.{take_more, drop_all}
 use Rattle.cql_syntax.specs.TreeOf.{filter_tree}
 use Rattle.cql_syntax.specs.declared.tree.Filter.{Filter}
-use Rattle.cq_shared.specs.Alone.{stands_alone}
-use Rattle.cq_shared.specs.Known.{with_part, with_parts}
+use Rattle.cq_shared.specs.StandaloneFilters.{stands_alone}
+use Rattle.cq_shared.specs.Interning.{with_part, with_parts}
 use Rattle.cq_shared.specs.Parts.{PartTree, parts_with, is_at, are_at, Keeps}
 use Rattle.cq_shared.specs.Singles.{part_tree}
-use Rattle.cq_shared.specs.Places.{is_among}
+use Rattle.cq_shared.specs.PartTables.{is_among}
 use Rattle.cq_shared.proofs.Gaining.{asked_more}
 use Rattle.cq_shared.proofs.Seeking.{all_more, keeps_with}
 
@@ -71,8 +71,8 @@ none_asked asked this k ks none = sym (ap (λ js. asked || (is_among k js && thi
 pub keeps_more : (ps now : List PartTree) (r : PartTree) → now ≡ with_part ps r → Keeps ps now
 keeps_more ps now r more = subst (Keeps ps) (sym more) (keeps_with ps r)
 
-pub asked_push : (first second third : ℕ → ℕ → Bool) (ks later : List ℕ) (n asker : ℕ) → later ≡ ks ++ n ∷ []
-    → ((k q : ℕ) → second k q ≡ (first k q || (is_among k ks && (asker == q)))) → ((k q : ℕ) → third k q ≡ (second k q || ((n == k) && (asker == q))))
-    → (k q : ℕ) → third k q ≡ (first k q || (is_among k later && (asker == q)))
-asked_push first second third ks later n asker is so_far more k q =
-    asked_more first second third ks n asker so_far more k q ∙ ap (λ js. first k q || (is_among k js && (asker == q))) (sym is)
+pub asked_push : (first second third : ℕ → ℕ → Bool) (ks later : List ℕ) (n owner : ℕ) → later ≡ ks ++ n ∷ []
+    → ((k q : ℕ) → second k q ≡ (first k q || (is_among k ks && (owner == q)))) → ((k q : ℕ) → third k q ≡ (second k q || ((n == k) && (owner == q))))
+    → (k q : ℕ) → third k q ≡ (first k q || (is_among k later && (owner == q)))
+asked_push first second third ks later n owner is so_far more k q =
+    asked_more first second third ks n owner so_far more k q ∙ ap (λ js. first k q || (is_among k js && (owner == q))) (sym is)

@@ -7,12 +7,12 @@ use Rattle.std.proofs.lemmas.List.{take_more, take_all}
 use Rattle.std.proofs.lemmas.List.Sums.{sum_by-cons}
 use Rattle.cq_position.specs.Games.{Game}
 use Rattle.cq_shared.specs.declared.part.Part.{Part}
-use Rattle.cq_shared.specs.declared.nodes.Nodes.{Nodes}
-use Rattle.cq_shared.specs.Known.{all_shown}
+use Rattle.cq_shared.specs.declared.nodes.NodeSet.{NodeSet}
+use Rattle.cq_shared.specs.Interning.{all_shown}
 use Rattle.cq_shared.specs.Matching.{is_left, meets, meets_if, is_class, is_before, cost_if, costs_if, part_cost, plan_cost, cost_at, AreLeft, AreReady, IsReady, CoversWanted, IsRowAt, IsNarrowedBy, IsNarrowedIf, HasRow, sort_class}
 use Rattle.cq_shared.specs.Parts.{PartTree}
 use Rattle.cq_shared.specs.Singles.{shown}
-use Rattle.cq_shared.specs.Wanted.{both, Admits, TakesAtMost}
+use Rattle.cq_shared.specs.StepBounds.{both, Admits, TakesAtMost}
 
 and_true : (p : Bool) → (p && true) ≡ p
 and_true true = refl
@@ -32,13 +32,13 @@ all_push h (y ∷ ys) x = ap (λ b. h y && b) (all_push h ys x) ∙ sym (and_ass
 
 -- one part
 
-pub narrowed_taken : (taken : Part → Bool) (game : Game) (p : Part) (left later : List Nodes) → taken p ≡ true → IsNarrowedBy game p left later → IsNarrowedIf taken game p left later
+pub narrowed_taken : (taken : Part → Bool) (game : Game) (p : Part) (left later : List NodeSet) → taken p ≡ true → IsNarrowedBy game p left later → IsNarrowedIf taken game p left later
 narrowed_taken taken game p left later is by = record {
   count = by.count;
   each = λ q n. by.each q n ∙ ap (λ b. is_left left q n && (not b || meets game q n p)) (sym is);
 }
 
-pub narrowed_not : (taken : Part → Bool) (game : Game) (p : Part) (left : List Nodes) → taken p ≡ false → IsNarrowedIf taken game p left left
+pub narrowed_not : (taken : Part → Bool) (game : Game) (p : Part) (left : List NodeSet) → taken p ≡ false → IsNarrowedIf taken game p left left
 narrowed_not taken game p left is = record {
   count = refl;
   each = λ q n. sym (and_true (is_left left q n)) ∙ ap (λ b. is_left left q n && (not b || meets game q n p)) (sym is);
@@ -46,35 +46,35 @@ narrowed_not taken game p left is = record {
 
 -- part by part
 
-pub left_none : (taken : Part → Bool) (game : Game) (parts : List Part) (began : List Nodes) → AreLeft taken game (take 0 parts) began began
-left_none taken game parts began = record { count = refl; each = λ q n. sym (and_true (is_left began q n)) }
+pub left_none : (taken : Part → Bool) (game : Game) (parts : List Part) (start_nodes : List NodeSet) → AreLeft taken game (take 0 parts) start_nodes start_nodes
+left_none taken game parts start_nodes = record { count = refl; each = λ q n. sym (and_true (is_left start_nodes q n)) }
 
-pub left_more : (taken : Part → Bool) (game : Game) (parts : List Part) (k : ℕ) (p : Part) (began left later : List Nodes) → k < length parts → p ≡ get_or parts k p
-    → AreLeft taken game (take k parts) began left → IsNarrowedIf taken game p left later → AreLeft taken game (take (k + 1) parts) began later
-left_more taken game parts k p began left later inside at so_far by = record {
+pub left_more : (taken : Part → Bool) (game : Game) (parts : List Part) (k : ℕ) (p : Part) (start_nodes left later : List NodeSet) → k < length parts → p ≡ get_or parts k p
+    → AreLeft taken game (take k parts) start_nodes left → IsNarrowedIf taken game p left later → AreLeft taken game (take (k + 1) parts) start_nodes later
+left_more taken game parts k p start_nodes left later inside at so_far by = record {
   count = by.count ∙ so_far.count;
   each = λ q n.
       let h : Part → Bool = meets_if taken game q n in
-      by.each q n ∙ ap (λ b. b && h p) (so_far.each q n) ∙ and_assoc (is_left began q n) (list_all h (take k parts)) (h p)
-      ∙ ap (λ b. is_left began q n && b) (sym (ap (list_all h) (take_more parts k p inside) ∙ all_push h (take k parts) (get_or parts k p) ∙ ap (λ x. list_all h (take k parts) && h x) (sym at)));
+      by.each q n ∙ ap (λ b. b && h p) (so_far.each q n) ∙ and_assoc (is_left start_nodes q n) (list_all h (take k parts)) (h p)
+      ∙ ap (λ b. is_left start_nodes q n && b) (sym (ap (list_all h) (take_more parts k p inside) ∙ all_push h (take k parts) (get_or parts k p) ∙ ap (λ x. list_all h (take k parts) && h x) (sym at)));
 }
 
-pub left_all : (taken : Part → Bool) (game : Game) (parts : List Part) (k : ℕ) (began left : List Nodes) → length parts ≤ k → AreLeft taken game (take k parts) began left
-    → AreLeft taken game parts began left
-left_all taken game parts k began left past had = subst (λ ps. AreLeft taken game ps began left) (take_all k parts past) had
+pub left_all : (taken : Part → Bool) (game : Game) (parts : List Part) (k : ℕ) (start_nodes left : List NodeSet) → length parts ≤ k → AreLeft taken game (take k parts) start_nodes left
+    → AreLeft taken game parts start_nodes left
+left_all taken game parts k start_nodes left past had = subst (λ ps. AreLeft taken game ps start_nodes left) (take_all k parts past) had
 
 -- what is left was there
-pub fewer_left : (taken : Part → Bool) (game : Game) (parts : List Part) (began left : List Nodes) (q n : ℕ) → AreLeft taken game parts began left → is_left left q n ≡ true → is_left began q n ≡ true
-fewer_left taken game parts began left q n had there = and_first (is_left began q n) (list_all (meets_if taken game q n) parts) (sym (had.each q n) ∙ there)
+pub fewer_left : (taken : Part → Bool) (game : Game) (parts : List Part) (start_nodes left : List NodeSet) (q n : ℕ) → AreLeft taken game parts start_nodes left → is_left left q n ≡ true → is_left start_nodes q n ≡ true
+fewer_left taken game parts start_nodes left q n had there = and_first (is_left start_nodes q n) (list_all (meets_if taken game q n) parts) (sym (had.each q n) ∙ there)
 
-pub still_ready : (taken : Part → Bool) (game : Game) (parts : List Part) (p : Part) (began left : List Nodes) → IsReady game began p → AreLeft taken game parts began left → IsReady game left p
-still_ready taken game parts p began left ready so_far = record {
-  searched = λ q n has there. ready.searched q n has (fewer_left taken game parts began left q n so_far there);
-  inside = λ q n has there. ready.inside q n has (fewer_left taken game parts began left q n so_far there);
+pub still_ready : (taken : Part → Bool) (game : Game) (parts : List Part) (p : Part) (start_nodes left : List NodeSet) → IsReady game start_nodes p → AreLeft taken game parts start_nodes left → IsReady game left p
+still_ready taken game parts p start_nodes left ready so_far = record {
+  searched = λ q n has there. ready.searched q n has (fewer_left taken game parts start_nodes left q n so_far there);
+  inside = λ q n has there. ready.inside q n has (fewer_left taken game parts start_nodes left q n so_far there);
 }
 
-pub all_still_ready : (taken : Part → Bool) (game : Game) (parts : List Part) (began left : List Nodes) → AreReady game began parts → AreLeft taken game parts began left → AreReady game left parts
-all_still_ready taken game parts began left ready so_far = λ k p low at. still_ready taken game parts p began left (ready k p low at) so_far
+pub all_still_ready : (taken : Part → Bool) (game : Game) (parts : List Part) (start_nodes left : List NodeSet) → AreReady game start_nodes parts → AreLeft taken game parts start_nodes left → AreReady game left parts
+all_still_ready taken game parts start_nodes left ready so_far = λ k p low at. still_ready taken game parts p start_nodes left (ready k p low at) so_far
 
 -- class by class
 
@@ -102,10 +102,10 @@ all_both : (f g h : Part → Bool) (xs : List Part) → ((x : Part) → f x ≡ 
 all_both f g h [] both = refl
 all_both f g h (x ∷ xs) both = ap₂ (λ a b. a && b) (both x) (all_both f g h xs both) ∙ and_swap (g x) (h x) (list_all g xs) (list_all h xs)
 
-pub left_begun : (game : Game) (parts : List Part) (began : List Nodes) → AreLeft (is_before 0) game parts began began
-left_begun game parts began = record {
+pub left_begun : (game : Game) (parts : List Part) (start_nodes : List NodeSet) → AreLeft (is_before 0) game parts start_nodes start_nodes
+left_begun game parts start_nodes = record {
   count = refl;
-  each = λ q n. sym (and_true (is_left began q n)) ∙ ap (λ b. is_left began q n && b) (sym (none (meets_if (is_before 0) game q n) parts (λ p. first (meets game q n p) (below_none p.class))));
+  each = λ q n. sym (and_true (is_left start_nodes q n)) ∙ ap (λ b. is_left start_nodes q n && b) (sym (none (meets_if (is_before 0) game q n) parts (λ p. first (meets game q n p) (below_none p.class))));
 }
   where
     below_none : (x : ℕ) → nat_lt x 0 ≡ false
@@ -118,15 +118,15 @@ left_begun game parts began = record {
     none h [] all = refl
     none h (x ∷ xs) all = ap₂ (λ a b. a && b) (all x) (none h xs all)
 
-pub left_next : (c : ℕ) (game : Game) (parts : List Part) (began left later : List Nodes) → AreLeft (is_before c) game parts began left → AreLeft (is_class c) game parts left later
-    → AreLeft (is_before (c + 1)) game parts began later
-left_next c game parts began left later had asked = record {
+pub left_next : (c : ℕ) (game : Game) (parts : List Part) (start_nodes left later : List NodeSet) → AreLeft (is_before c) game parts start_nodes left → AreLeft (is_class c) game parts left later
+    → AreLeft (is_before (c + 1)) game parts start_nodes later
+left_next c game parts start_nodes left later had asked = record {
   count = asked.count ∙ had.count;
   each = λ q n.
       let before : Part → Bool = meets_if (is_before c) game q n in
       let now : Part → Bool = meets_if (is_class c) game q n in
-      asked.each q n ∙ ap (λ b. b && list_all now parts) (had.each q n) ∙ and_assoc (is_left began q n) (list_all before parts) (list_all now parts)
-      ∙ ap (λ b. is_left began q n && b) (sym (all_both (meets_if (is_before (c + 1)) game q n) before now parts
+      asked.each q n ∙ ap (λ b. b && list_all now parts) (had.each q n) ∙ and_assoc (is_left start_nodes q n) (list_all before parts) (list_all now parts)
+      ∙ ap (λ b. is_left start_nodes q n && b) (sym (all_both (meets_if (is_before (c + 1)) game q n) before now parts
       (λ p. ap (λ b. not b || meets game q n p) (below_next p.class c) ∙ meets_both (is_before c p) (is_class c p) (meets game q n p))));
 }
 
@@ -205,7 +205,7 @@ cost_some game test (p ∷ ps) = by (test p) (filter test ps) (cost_some game te
 pub cost_taken : (taken want : Part → Bool) (game : Game) (p : Part) → taken p ≡ true → cost_if (both taken want) game p ≡ cost_if (both (λ p. true) want) game p
 cost_taken taken want game p is = ap (λ b. if b && want p then part_cost game (shown p.single) else 0) is
 
-pub cost_wanted : (game : Game) (p : Part) (left : List Nodes) (live : List Bool) (before now : ℕ) → now ≤ before + cost_at live (part_cost game (shown p.single)) → CoversWanted p left live
+pub cost_wanted : (game : Game) (p : Part) (left : List NodeSet) (live : List Bool) (before now : ℕ) → now ≤ before + cost_at live (part_cost game (shown p.single)) → CoversWanted p left live
     → TakesAtMost (λ p. true) game p left before now
 cost_wanted game p left live before now cost covers = λ want admits.
     let less = at_most (list_any (λ b. b) live) (want p) (λ some. admits (covers.some some)) in
@@ -220,17 +220,17 @@ pub cost_live : (live : List Bool) (cost before now : ℕ) → list_any (λ b. b
 cost_live live cost before now some most = omega (arith, most, ap (λ b. if b then cost else 0) some)
 
 -- what some query still wants it wanted before
-pub still_admits : (taken : Part → Bool) (game : Game) (parts : List Part) (began left : List Nodes) (want : Part → Bool) (p : Part) → AreLeft taken game parts began left
-    → Admits want began p → Admits want left p
-still_admits taken game parts began left want p had admits = λ w.
-    admits (record { query = w.query; node = w.node; has = w.has; there = fewer_left taken game parts began left w.query w.node had w.there })
+pub still_admits : (taken : Part → Bool) (game : Game) (parts : List Part) (start_nodes left : List NodeSet) (want : Part → Bool) (p : Part) → AreLeft taken game parts start_nodes left
+    → Admits want start_nodes p → Admits want left p
+still_admits taken game parts start_nodes left want p had admits = λ w.
+    admits (record { query = w.query; node = w.node; has = w.has; there = fewer_left taken game parts start_nodes left w.query w.node had w.there })
 
-pub narrowed_fewer : (taken : Part → Bool) (game : Game) (p : Part) (left later : List Nodes) → IsNarrowedIf taken game p left later
+pub narrowed_fewer : (taken : Part → Bool) (game : Game) (p : Part) (left later : List NodeSet) → IsNarrowedIf taken game p left later
     → (q n : ℕ) → is_left later q n ≡ true → is_left left q n ≡ true
 narrowed_fewer taken game p left later by q n there = and_first (is_left left q n) (meets_if taken game q n p) (sym (by.each q n) ∙ there)
 
 -- the numbers of a part, where the nodes that are asked for cover those that are left
-pub narrowed_row : (game : Game) (p : Part) (left later : List Nodes) (live : List Bool) (row : List (Option ℤ)) → IsNarrowedBy game p left later → CoversWanted p left live
+pub narrowed_row : (game : Game) (p : Part) (left later : List NodeSet) (live : List Bool) (row : List (Option ℤ)) → IsNarrowedBy game p left later → CoversWanted p left live
     → (p.class ≡ sort_class → IsRowAt game p live row) → HasRow game later p row
 narrowed_row game p left later live row by covers told = record {
   each = λ class q n has there.

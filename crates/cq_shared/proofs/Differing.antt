@@ -9,7 +9,7 @@ use Rattle.cql_syntax.specs.Leaves.{same_flag}
 use Rattle.cql_syntax.specs.Same.{same_filter}
 use Rattle.cql_syntax.specs.Unplaced.{unplaced, same_unplaced}
 use Rattle.cql_syntax.proofs.SameSound.{same_law}
-use Rattle.cq_shared.specs.Known.{with_part, with_parts}
+use Rattle.cq_shared.specs.Interning.{with_part, with_parts}
 use Rattle.cq_shared.specs.Parts.{PartTree, same_part, other_than, different}
 use Rattle.cq_shared.proofs.Meeting.{flag_is}
 

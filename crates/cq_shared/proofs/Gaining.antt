@@ -3,8 +3,8 @@ use Rattle.std.proofs.Common.{◌≡◌, ℕ, zero, suc, ◌<◌, Bool, true, fa
 use Rattle.std.specs.Prelude.{◌==◌}
 use Rattle.std.proofs.lemmas.Bool.{cases_eq, eq-eqb, ne_eqb}
 use Rattle.std.proofs.lemmas.List.Folds.{list_any-append}
-use Rattle.cq_shared.specs.Known.{all_shown, is_asked}
-use Rattle.cq_shared.specs.Places.{is_among}
+use Rattle.cq_shared.specs.Interning.{all_shown, is_owned}
+use Rattle.cq_shared.specs.PartTables.{is_among}
 use Rattle.cq_shared.specs.Singles.{shown}
 use Rattle.cq_shared.specs.declared.part.Part.{Part}
 
@@ -30,19 +30,19 @@ not_this true this test e = refl
 not_this false this test e = sym (ap (λ b. b && this) e)
 
 -- a query more
-among_more : (q asker : ℕ) (qs : List ℕ) → is_among q (qs ++ asker ∷ []) ≡ (is_among q qs || (asker == q))
-among_more q asker qs = list_any-append (λ j. j == q) qs (asker ∷ []) ∙ ap (λ b. is_among q qs || b) (or_false (asker == q))
+among_more : (q owner : ℕ) (qs : List ℕ) → is_among q (qs ++ owner ∷ []) ≡ (is_among q qs || (owner == q))
+among_more q owner qs = list_any-append (λ j. j == q) qs (owner ∷ []) ∙ ap (λ b. is_among q qs || b) (or_false (owner == q))
 
 -- one part that gains a query
-pub asked_set : (parts : List Part) (n : ℕ) (p r : Part) (asker : ℕ) → n < length parts → p ≡ get_or parts n p → r.askers.items ≡ p.askers.items ++ asker ∷ []
-    → (j q : ℕ) → is_asked (set parts n r) j q ≡ (is_asked parts j q || ((n == j) && (asker == q)))
-unfolding is_asked
-asked_set [] n p r asker low reads more j q = absurd (omega (arith, low))
-asked_set (x ∷ xs) zero p r asker low reads more zero q = ap (is_among q) (more ∙ ap (λ y. y.askers.items ++ asker ∷ []) reads) ∙ among_more q asker x.askers.items
-asked_set (x ∷ xs) zero p r asker low reads more (suc j) q = not_this (is_asked xs j q) (asker == q) (0 == suc j) (zero_suc j)
-asked_set (x ∷ xs) (suc n) p r asker low reads more zero q = not_this (is_among q x.askers.items) (asker == q) (suc n == 0) (suc_zero n)
-asked_set (x ∷ xs) (suc n) p r asker low reads more (suc j) q =
-    asked_set xs n p r asker (omega (arith, low)) reads more j q ∙ ap (λ b. is_asked xs j q || (b && (asker == q))) (sym (eq_suc n j))
+pub asked_set : (parts : List Part) (n : ℕ) (p r : Part) (owner : ℕ) → n < length parts → p ≡ get_or parts n p → r.owners.items ≡ p.owners.items ++ owner ∷ []
+    → (j q : ℕ) → is_owned (set parts n r) j q ≡ (is_owned parts j q || ((n == j) && (owner == q)))
+unfolding is_owned
+asked_set [] n p r owner low reads more j q = absurd (omega (arith, low))
+asked_set (x ∷ xs) zero p r owner low reads more zero q = ap (is_among q) (more ∙ ap (λ y. y.owners.items ++ owner ∷ []) reads) ∙ among_more q owner x.owners.items
+asked_set (x ∷ xs) zero p r owner low reads more (suc j) q = not_this (is_owned xs j q) (owner == q) (0 == suc j) (zero_suc j)
+asked_set (x ∷ xs) (suc n) p r owner low reads more zero q = not_this (is_among q x.owners.items) (owner == q) (suc n == 0) (suc_zero n)
+asked_set (x ∷ xs) (suc n) p r owner low reads more (suc j) q =
+    asked_set xs n p r owner (omega (arith, low)) reads more j q ∙ ap (λ b. is_owned xs j q || (b && (owner == q))) (sym (eq_suc n j))
 
 pub shown_set : (parts : List Part) (n : ℕ) (p r : Part) → p ≡ get_or parts n p → r.single ≡ p.single → all_shown (set parts n r) ≡ all_shown parts
 shown_set [] n p r reads same = refl
@@ -50,14 +50,14 @@ shown_set (x ∷ xs) zero p r reads same = ap (λ s. shown s ∷ all_shown xs) (
 shown_set (x ∷ xs) (suc n) p r reads same = ap (λ ps. shown x.single ∷ ps) (shown_set xs n p r reads same)
 
 -- a part more, which one query has
-pub asked_new : (parts : List Part) (r : Part) (asker : ℕ) → r.askers.items ≡ asker ∷ []
-    → (j q : ℕ) → is_asked (parts ++ r ∷ []) j q ≡ (is_asked parts j q || ((length parts == j) && (asker == q)))
-unfolding is_asked
-asked_new [] r asker one zero q = ap (is_among q) one ∙ or_false (asker == q)
-asked_new [] r asker one (suc j) q = not_this false (asker == q) (0 == suc j) (zero_suc j)
-asked_new (x ∷ xs) r asker one zero q = not_this (is_among q x.askers.items) (asker == q) (suc (length xs) == 0) (suc_zero (length xs))
-asked_new (x ∷ xs) r asker one (suc j) q =
-    asked_new xs r asker one j q ∙ ap (λ b. is_asked xs j q || (b && (asker == q))) (sym (eq_suc (length xs) j))
+pub asked_new : (parts : List Part) (r : Part) (owner : ℕ) → r.owners.items ≡ owner ∷ []
+    → (j q : ℕ) → is_owned (parts ++ r ∷ []) j q ≡ (is_owned parts j q || ((length parts == j) && (owner == q)))
+unfolding is_owned
+asked_new [] r owner one zero q = ap (is_among q) one ∙ or_false (owner == q)
+asked_new [] r owner one (suc j) q = not_this false (owner == q) (0 == suc j) (zero_suc j)
+asked_new (x ∷ xs) r owner one zero q = not_this (is_among q x.owners.items) (owner == q) (suc (length xs) == 0) (suc_zero (length xs))
+asked_new (x ∷ xs) r owner one (suc j) q =
+    asked_new xs r owner one j q ∙ ap (λ b. is_owned xs j q || (b && (owner == q))) (sym (eq_suc (length xs) j))
 
 pub shown_new : (parts : List Part) (r : Part) → all_shown (parts ++ r ∷ []) ≡ all_shown parts ++ shown r.single ∷ []
 shown_new [] r = refl
@@ -73,12 +73,12 @@ shown_read (x ∷ xs) zero p reads low = ap (λ y. shown y.single) reads
 shown_read (x ∷ xs) (suc n) p reads low = shown_read xs n p reads (omega (arith, low))
 
 -- one number more of a query's parts
-pub asked_more : (first second : ℕ → ℕ → Bool) (third : ℕ → ℕ → Bool) (ks : List ℕ) (n asker : ℕ)
-    → ((k q : ℕ) → second k q ≡ (first k q || (is_among k ks && (asker == q)))) → ((k q : ℕ) → third k q ≡ (second k q || ((n == k) && (asker == q))))
-    → (k q : ℕ) → third k q ≡ (first k q || (is_among k (ks ++ n ∷ []) && (asker == q)))
-asked_more first second third ks n asker so_far more k q =
-    more k q ∙ ap (λ b. b || ((n == k) && (asker == q))) (so_far k q) ∙ by (first k q) (is_among k ks) (asker == q) (n == k)
-    ∙ ap (λ b. first k q || (b && (asker == q))) (sym (among_more k n ks))
+pub asked_more : (first second : ℕ → ℕ → Bool) (third : ℕ → ℕ → Bool) (ks : List ℕ) (n owner : ℕ)
+    → ((k q : ℕ) → second k q ≡ (first k q || (is_among k ks && (owner == q)))) → ((k q : ℕ) → third k q ≡ (second k q || ((n == k) && (owner == q))))
+    → (k q : ℕ) → third k q ≡ (first k q || (is_among k (ks ++ n ∷ []) && (owner == q)))
+asked_more first second third ks n owner so_far more k q =
+    more k q ∙ ap (λ b. b || ((n == k) && (owner == q))) (so_far k q) ∙ by (first k q) (is_among k ks) (owner == q) (n == k)
+    ∙ ap (λ b. first k q || (b && (owner == q))) (sym (among_more k n ks))
   where
     by : (a b c d : Bool) → ((a || (b && c)) || (d && c)) ≡ (a || ((b || d) && c))
     by true b c d = refl

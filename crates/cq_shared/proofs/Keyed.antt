@@ -6,7 +6,7 @@ use Rattle.std.proofs.lemmas.Bool.{and_parts, and_from}
 use Rattle.std.proofs.lemmas.List.{drop_all, append-nil, drop_more}
 use Rattle.cq_position.specs.Search.{SearchedTree}
 use Rattle.cql_pruning.specs.Classes.{form_class, filter_class}
-use Rattle.cql_plan.specs.KeyRows.{key_in}
+use Rattle.cql_plan.specs.RowKeys.{key_in}
 use Rattle.cql_syntax.specs.Hits.{all_keys, item_keys, chosen}
 use Rattle.cql_syntax.specs.Meaning.{value}
 use Rattle.cql_syntax.specs.Trees.{FilterTree, filter_at, FormTree, designator, number, name, plain, tagged, outcome, elo, unary, direction, chain, sum_of, pair, if_, square, line, played, transform, sort, comment, any, FilterTrees, no_filters, more_filters}
@@ -19,7 +19,7 @@ use Rattle.cql_syntax.proofs.SameSound.{same_law}
 use Rattle.cql_syntax.proofs.UnplacedSame.{same_value}
 use Rattle.cq_shared.specs.Matching.{sort_number}
 use Rattle.cq_shared.specs.Parts.{item_sorts, top_sorts}
-use Rattle.cq_shared.specs.Reading.{is_least}
+use Rattle.cq_shared.specs.Internal.Reading.{is_least}
 use Rattle.cq_shared.proofs.Meeting.{flag_is}
 
 -- keys one by one

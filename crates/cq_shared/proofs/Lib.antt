@@ -3,8 +3,8 @@ pub mod Sorting
 pub mod Telling
 pub mod Whole
 pub mod Adding
-pub mod AllFound
-pub mod Begun
+pub mod AllHitsAndKeys
+pub mod FirstNodes
 pub mod Differing
 pub mod Gaining
 pub mod Keyed

@@ -10,15 +10,15 @@ use Rattle.cql_syntax.specs.Same.{same_filter}
 use Rattle.cql_syntax.specs.TreeOf.{filter_tree, query_tree}
 use Rattle.cql_syntax.specs.Trees.{FilterTree, FilterTrees, QueryTree}
 use Rattle.cql_syntax.specs.declared.tree.Filter.{Filter}
-use Rattle.cql_syntax.specs.declared.typed.TypedQuery.{TypedQuery}
-use Rattle.cq_shared.specs.Askers.{asked_query, IsAsker, AreAskers}
-use Rattle.cq_shared.specs.Known.{all_shown, is_asked, with_part, with_parts}
+use Rattle.cql_syntax.specs.declared.typed_query.TypedQuery.{TypedQuery}
+use Rattle.cq_shared.specs.PartOwners.{owner_query, IsOwner, AreOwners}
+use Rattle.cq_shared.specs.Interning.{all_shown, is_owned, with_part, with_parts}
 use Rattle.cq_shared.specs.Parts.{PartTree, query_parts, top_parts, top_sorts, parts_with, parts_in, parts_in_all, are_at, different, equal_part, equal_parts, Keeps}
-use Rattle.cq_shared.specs.Places.{is_among}
+use Rattle.cq_shared.specs.PartTables.{is_among}
 use Rattle.cql_syntax.specs.QueryTrees.{trees_of}
 use Rattle.cq_shared.specs.Plans.{plan_parts}
 use Rattle.cq_shared.specs.declared.part.Part.{Part}
-use Rattle.cq_shared.specs.declared.part.Asker.{Asker}
+use Rattle.cq_shared.specs.declared.part.PartOwner.{PartOwner}
 use Rattle.cql_syntax.proofs.SameSound.{same_law}
 use Rattle.cq_shared.proofs.Differing.{all_different}
 use Rattle.cq_shared.proofs.Gaining.{shown_length}
@@ -91,20 +91,20 @@ parts_are q variations items found is searched all = ap₂ parts_with searched (
 
 -- queries that are kept while parts are added
 
-asker_kept : (parts later : List Part) (q : ℕ) (a : Asker) → Keeps (all_shown parts) (all_shown later) → ((k : ℕ) → is_asked later k q ≡ is_asked parts k q) → IsAsker parts q a
-    → IsAsker later q a
+asker_kept : (parts later : List Part) (q : ℕ) (a : PartOwner) → Keeps (all_shown parts) (all_shown later) → ((k : ℕ) → is_owned later k q ≡ is_owned parts k q) → IsOwner parts q a
+    → IsOwner later q a
 asker_kept parts later q a keeps same is = record {
-  numbers = all_kept (all_shown parts) (all_shown later) a.numbers.items (parts_in (asked_query a)) keeps is.numbers;
+  numbers = all_kept (all_shown parts) (all_shown later) a.numbers.items (parts_in (owner_query a)) keeps is.numbers;
   asked = λ k. same k ∙ is.asked k;
   sorts = is.sorts;
 }
 
-read_before : (xs : List Asker) (y : Asker) (k : ℕ) (x : Asker) → k < length xs → x ≡ get_or (xs ++ y ∷ []) k x → x ≡ get_or xs k x
+read_before : (xs : List PartOwner) (y : PartOwner) (k : ℕ) (x : PartOwner) → k < length xs → x ≡ get_or (xs ++ y ∷ []) k x → x ≡ get_or xs k x
 read_before [] y k x low reads = absurd (omega (arith, low))
 read_before (z ∷ zs) y zero x low reads = reads
 read_before (z ∷ zs) y (suc k) x low reads = read_before zs y k x (omega (arith, low)) reads
 
-read_end : (xs : List Asker) (y x : Asker) → get_or (xs ++ y ∷ []) (length xs) x ≡ y
+read_end : (xs : List PartOwner) (y x : PartOwner) → get_or (xs ++ y ∷ []) (length xs) x ≡ y
 read_end [] y x = refl
 read_end (z ∷ zs) y x = read_end zs y x
 
@@ -119,41 +119,41 @@ pub this_asked : (first second : ℕ → ℕ → Bool) (ks : List ℕ) (n : ℕ)
 this_asked first second ks n more fresh k =
     more k n ∙ ap (λ b. b || (is_among k ks && (n == n))) (fresh k) ∙ ap (λ b. is_among k ks && b) (eq-eqb n n refl) ∙ and_true (is_among k ks)
 
-pub askers_more : (parts later : List Part) (askers : List Asker) (a : Asker) (n : ℕ) → n ≡ length askers → Keeps (all_shown parts) (all_shown later)
-    → ((k q : ℕ) → is_asked later k q ≡ (is_asked parts k q || (is_among k a.numbers.items && (n == q)))) → AreAskers parts askers → IsAsker later n a
-    → AreAskers later (askers ++ a ∷ [])
-askers_more parts later askers a n last keeps more are is = record {
+pub askers_more : (parts later : List Part) (owners : List PartOwner) (a : PartOwner) (n : ℕ) → n ≡ length owners → Keeps (all_shown parts) (all_shown later)
+    → ((k q : ℕ) → is_owned later k q ≡ (is_owned parts k q || (is_among k a.numbers.items && (n == q)))) → AreOwners parts owners → IsOwner later n a
+    → AreOwners later (owners ++ a ∷ [])
+askers_more parts later owners a n last keeps more are is = record {
   each = λ q b low reads. ⊎_elim
-      (λ before. asker_kept parts later q b keeps (λ k. others_asked (is_asked parts) (is_asked later) a.numbers.items n more k q (λ e. omega (arith, e, last, before)))
-      (are.each q b before (read_before askers a q b before reads)))
-      (λ past. let e : q ≡ length askers = omega (arith, past, low, length-append askers (a ∷ [])) in
-      let here : b ≡ a = reads ∙ ap (λ j. get_or (askers ++ a ∷ []) j b) e ∙ read_end askers a b in
-      subst (λ x. IsAsker later q x) (sym here) (subst (λ m. IsAsker later m a) (last ∙ sym e) is))
-      (cases_lt q (length askers));
+      (λ before. asker_kept parts later q b keeps (λ k. others_asked (is_owned parts) (is_owned later) a.numbers.items n more k q (λ e. omega (arith, e, last, before)))
+      (are.each q b before (read_before owners a q b before reads)))
+      (λ past. let e : q ≡ length owners = omega (arith, past, low, length-append owners (a ∷ [])) in
+      let here : b ≡ a = reads ∙ ap (λ j. get_or (owners ++ a ∷ []) j b) e ∙ read_end owners a b in
+      subst (λ x. IsOwner later q x) (sym here) (subst (λ m. IsOwner later m a) (last ∙ sym e) is))
+      (cases_lt q (length owners));
   others = λ k q past.
-      let after : length askers + 1 ≤ q = omega (arith, past, length-append askers (a ∷ [])) in
-      others_asked (is_asked parts) (is_asked later) a.numbers.items n more k q (λ e. omega (arith, e, last, after)) ∙ are.others k q (omega (arith, after));
+      let after : length owners + 1 ≤ q = omega (arith, past, length-append owners (a ∷ [])) in
+      others_asked (is_owned parts) (is_owned later) a.numbers.items n more k q (λ e. omega (arith, e, last, after)) ∙ are.others k q (omega (arith, after));
 }
 
-pub trees_more : (queries : List TypedQuery) (askers : List Asker) (a : Asker) (q : ℕ) (query : TypedQuery) → q < length queries → query ≡ get_or queries q query
-    → map (λ x. asked_query x) askers ≡ trees_of (take q queries) → asked_query a ≡ query_tree query.query
-    → map (λ x. asked_query x) (askers ++ a ∷ []) ≡ trees_of (take (q + 1) queries)
-trees_more queries askers a q query low reads had is =
-    mapped_more askers ∙ ap₂ (λ qs x. qs ++ x ∷ []) had (is ∙ ap (λ x. query_tree x.query) reads) ∙ sym (trees_snoc (take q queries) (get_or queries q query))
+pub trees_more : (queries : List TypedQuery) (owners : List PartOwner) (a : PartOwner) (q : ℕ) (query : TypedQuery) → q < length queries → query ≡ get_or queries q query
+    → map (λ x. owner_query x) owners ≡ trees_of (take q queries) → owner_query a ≡ query_tree query.query
+    → map (λ x. owner_query x) (owners ++ a ∷ []) ≡ trees_of (take (q + 1) queries)
+trees_more queries owners a q query low reads had is =
+    mapped_more owners ∙ ap₂ (λ qs x. qs ++ x ∷ []) had (is ∙ ap (λ x. query_tree x.query) reads) ∙ sym (trees_snoc (take q queries) (get_or queries q query))
     ∙ sym (ap trees_of (take_more queries q query low))
   where
-    mapped_more : (xs : List Asker) → map (λ x. asked_query x) (xs ++ a ∷ []) ≡ map (λ x. asked_query x) xs ++ asked_query a ∷ []
+    mapped_more : (xs : List PartOwner) → map (λ x. owner_query x) (xs ++ a ∷ []) ≡ map (λ x. owner_query x) xs ++ owner_query a ∷ []
     mapped_more [] = refl
-    mapped_more (x ∷ xs) = ap (λ ys. asked_query x ∷ ys) (mapped_more xs)
+    mapped_more (x ∷ xs) = ap (λ ys. owner_query x ∷ ys) (mapped_more xs)
 
     trees_snoc : (xs : List TypedQuery) (y : TypedQuery) → trees_of (xs ++ y ∷ []) ≡ trees_of xs ++ query_tree y.query ∷ []
     trees_snoc [] y = refl
     trees_snoc (x ∷ xs) y = ap (λ ys. query_tree x.query ∷ ys) (trees_snoc xs y)
 
 -- the filters that were found, in two steps
-pub found_all : (items : FilterTrees) (none first all : List Filter) → none ≡ [] → map filter_tree first ≡ map filter_tree none ++ top_parts items
+pub collect_verdicts : (items : FilterTrees) (none first all : List Filter) → none ≡ [] → map filter_tree first ≡ map filter_tree none ++ top_parts items
     → map filter_tree all ≡ map filter_tree first ++ top_sorts items → map filter_tree all ≡ query_parts items
-found_all items none first all is tops sorts = sorts ∙ ap (λ ps. ps ++ top_sorts items) (tops ∙ ap (λ xs. map filter_tree xs ++ top_parts items) is)
+collect_verdicts items none first all is tops sorts = sorts ∙ ap (λ ps. ps ++ top_sorts items) (tops ∙ ap (λ xs. map filter_tree xs ++ top_parts items) is)
 
 pub first_count : (items : FilterTrees) (none first : List Filter) → none ≡ [] → map filter_tree first ≡ map filter_tree none ++ top_parts items → length first ≡ length (top_parts items)
 first_count items none first is tops = sym (mapped_length first) ∙ ap length (tops ∙ ap (λ xs. map filter_tree xs ++ top_parts items) is)
@@ -164,49 +164,49 @@ first_count items none first is tops = sym (mapped_length first) ∙ ap length (
 
 -- a plan before its first query, and as it is in the end
 
-pub trees_none : (queries : List TypedQuery) (askers : List Asker) → askers ≡ [] → map (λ a. asked_query a) askers ≡ trees_of (take 0 queries)
-trees_none queries askers none = ap (λ xs. map (λ a. asked_query a) xs) none
+pub trees_none : (queries : List TypedQuery) (owners : List PartOwner) → owners ≡ [] → map (λ a. owner_query a) owners ≡ trees_of (take 0 queries)
+trees_none queries owners none = ap (λ xs. map (λ a. owner_query a) xs) none
 
-pub parts_none : (parts : List Part) (askers : List Asker) → parts ≡ [] → askers ≡ [] → all_shown parts ≡ different (parts_in_all (map (λ a. asked_query a) askers))
+pub parts_none : (parts : List Part) (owners : List PartOwner) → parts ≡ [] → owners ≡ [] → all_shown parts ≡ different (parts_in_all (map (λ a. owner_query a) owners))
 unfolding different
-parts_none parts askers is none = ap all_shown is ∙ sym (ap (λ xs. different (parts_in_all (map (λ a. asked_query a) xs))) none)
+parts_none parts owners is none = ap all_shown is ∙ sym (ap (λ xs. different (parts_in_all (map (λ a. owner_query a) xs))) none)
 
-pub askers_none : (parts : List Part) (askers : List Asker) → parts ≡ [] → askers ≡ [] → AreAskers parts askers
-unfolding is_asked
-askers_none parts askers is none = record {
+pub askers_none : (parts : List Part) (owners : List PartOwner) → parts ≡ [] → owners ≡ [] → AreOwners parts owners
+unfolding is_owned
+askers_none parts owners is none = record {
   each = λ q a low reads. absurd (omega (arith, low, ap length none));
-  others = λ k q past. ap (λ ps. is_asked ps k q) is;
+  others = λ k q past. ap (λ ps. is_owned ps k q) is;
 }
 
-pub plan_trees : (askers : List Asker) → trees_of (map (λ a. query_of a.plan) askers) ≡ map (λ a. asked_query a) askers
+pub plan_trees : (owners : List PartOwner) → trees_of (map (λ a. query_of a.plan) owners) ≡ map (λ a. owner_query a) owners
 plan_trees [] = refl
-plan_trees (a ∷ rest) = ap (λ qs. asked_query a ∷ qs) (plan_trees rest)
+plan_trees (a ∷ rest) = ap (λ qs. owner_query a ∷ qs) (plan_trees rest)
 
-pub parts_count : (parts : List Part) (askers : List Asker) → equal_parts (all_shown parts) (different (parts_in_all (map (λ a. asked_query a) askers))) ≡ true
-    → length parts ≡ length (plan_parts (map (λ a. query_of a.plan) askers))
-parts_count parts askers same =
-    sym (shown_length parts) ∙ ap length (equal_is (all_shown parts) (different (parts_in_all (map (λ a. asked_query a) askers))) same)
-    ∙ ap (λ qs. length (different (parts_in_all qs))) (sym (plan_trees askers))
+pub parts_count : (parts : List Part) (owners : List PartOwner) → equal_parts (all_shown parts) (different (parts_in_all (map (λ a. owner_query a) owners))) ≡ true
+    → length parts ≡ length (plan_parts (map (λ a. query_of a.plan) owners))
+parts_count parts owners same =
+    sym (shown_length parts) ∙ ap length (equal_is (all_shown parts) (different (parts_in_all (map (λ a. owner_query a) owners))) same)
+    ∙ ap (λ qs. length (different (parts_in_all qs))) (sym (plan_trees owners))
 
-pub parts_later : (parts later : List Part) (askers : List Asker) (a : Asker) (q : QueryTree) → all_shown later ≡ with_parts (all_shown parts) (parts_in q) → asked_query a ≡ q
-    → all_shown parts ≡ different (parts_in_all (map (λ x. asked_query x) askers)) → all_shown later ≡ different (parts_in_all (map (λ x. asked_query x) (askers ++ a ∷ [])))
-parts_later parts later askers a q more is had =
-    more ∙ ap₂ (λ ps x. with_parts ps (parts_in x)) had (sym is) ∙ sym (different_more (map (λ x. asked_query x) askers) (asked_query a))
-    ∙ ap (λ qs. different (parts_in_all qs)) (sym (mapped askers))
+pub parts_later : (parts later : List Part) (owners : List PartOwner) (a : PartOwner) (q : QueryTree) → all_shown later ≡ with_parts (all_shown parts) (parts_in q) → owner_query a ≡ q
+    → all_shown parts ≡ different (parts_in_all (map (λ x. owner_query x) owners)) → all_shown later ≡ different (parts_in_all (map (λ x. owner_query x) (owners ++ a ∷ [])))
+parts_later parts later owners a q more is had =
+    more ∙ ap₂ (λ ps x. with_parts ps (parts_in x)) had (sym is) ∙ sym (different_more (map (λ x. owner_query x) owners) (owner_query a))
+    ∙ ap (λ qs. different (parts_in_all qs)) (sym (mapped owners))
   where
-    mapped : (xs : List Asker) → map (λ x. asked_query x) (xs ++ a ∷ []) ≡ map (λ x. asked_query x) xs ++ asked_query a ∷ []
+    mapped : (xs : List PartOwner) → map (λ x. owner_query x) (xs ++ a ∷ []) ≡ map (λ x. owner_query x) xs ++ owner_query a ∷ []
     mapped [] = refl
-    mapped (x ∷ xs) = ap (λ ys. asked_query x ∷ ys) (mapped xs)
+    mapped (x ∷ xs) = ap (λ ys. owner_query x ∷ ys) (mapped xs)
 
 -- a query that is added, by what was found of it
-pub asker_by : (old later : List Part) (a : Asker) (q : QueryTree) (n : ℕ) (found : List PartTree) → asked_query a ≡ q → found ≡ parts_in q
-    → are_at (all_shown later) a.numbers.items found ≡ true → ((k r : ℕ) → is_asked later k r ≡ (is_asked old k r || (is_among k a.numbers.items && (n == r))))
-    → ((k : ℕ) → is_asked old k n ≡ false) → a.sorts ≡ length (top_parts (flat_query q).items) → IsAsker later n a
+pub asker_by : (old later : List Part) (a : PartOwner) (q : QueryTree) (n : ℕ) (found : List PartTree) → owner_query a ≡ q → found ≡ parts_in q
+    → are_at (all_shown later) a.numbers.items found ≡ true → ((k r : ℕ) → is_owned later k r ≡ (is_owned old k r || (is_among k a.numbers.items && (n == r))))
+    → ((k : ℕ) → is_owned old k n ≡ false) → a.sorts ≡ length (top_parts (flat_query q).items) → IsOwner later n a
 asker_by old later a q n found is all numbers more fresh sorts = record {
   numbers = ap (are_at (all_shown later) a.numbers.items) (ap parts_in is ∙ sym all) ∙ numbers;
-  asked = this_asked (is_asked old) (is_asked later) a.numbers.items n more fresh;
+  asked = this_asked (is_owned old) (is_owned later) a.numbers.items n more fresh;
   sorts = sorts ∙ ap (λ x. length (top_parts (flat_query x).items)) (sym is);
 }
 
-pub counted_more : (askers later : List Asker) (a : Asker) (q : ℕ) → later ≡ askers ++ a ∷ [] → length askers ≡ q → length later ≡ q + 1
-counted_more askers later a q more had = ap length more ∙ length-append askers (a ∷ []) ∙ ap (λ n. n + 1) had
+pub counted_more : (owners later : List PartOwner) (a : PartOwner) (q : ℕ) → later ≡ owners ++ a ∷ [] → length owners ≡ q → length later ≡ q + 1
+counted_more owners later a q more had = ap length more ∙ length-append owners (a ∷ []) ∙ ap (λ n. n + 1) had

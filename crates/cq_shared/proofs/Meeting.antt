@@ -13,14 +13,14 @@ use Rattle.cql_syntax.specs.Leaves.{same_flag}
 use Rattle.cql_syntax.specs.Unplaced.{same_unplaced}
 use Rattle.cql_syntax.proofs.UnplacedSame.{same_value}
 use Rattle.cql_values.specs.Trees.{searched_tree}
-use Rattle.cq_shared.specs.Askers.{asked_query, IsAsker}
-use Rattle.cq_shared.specs.Known.{all_shown, is_asked}
-use Rattle.cq_shared.specs.Matching.{is_asked_by, meets, meets_if, is_before, holds_at, part_holds}
+use Rattle.cq_shared.specs.PartOwners.{owner_query, IsOwner}
+use Rattle.cq_shared.specs.Interning.{all_shown, is_owned}
+use Rattle.cq_shared.specs.Matching.{is_owned_by, meets, meets_if, is_before, holds_at, part_holds}
 use Rattle.cq_shared.specs.Parts.{PartTree, query_parts, parts_in, parts_with, same_part, is_at, are_at}
-use Rattle.cq_shared.specs.Places.{is_among}
+use Rattle.cq_shared.specs.PartTables.{is_among}
 use Rattle.cq_shared.specs.Singles.{shown}
 use Rattle.cq_shared.specs.declared.part.Part.{Part}
-use Rattle.cq_shared.specs.declared.part.Asker.{Asker}
+use Rattle.cq_shared.specs.declared.part.PartOwner.{PartOwner}
 use Rattle.cq_shared.proofs.PartsHold.{parts_hold}
 use Rattle.cq_shared.proofs.Seeking.{at_read, at_below}
 use Rattle.cq_shared.proofs.Gaining.{shown_length, shown_read}
@@ -39,10 +39,10 @@ same_holds game p r n same =
     ap (λ v. holds (value (searched_tree game v) [] [] p.filter n)) (flag_is p.variations r.variations both.0)
     ∙ ap holds (same_value p.filter r.filter both.1 (searched_tree game r.variations) [] [] n)
 
-pub asked_read : (parts : List Part) (k q : ℕ) (p : Part) → k < length parts → p ≡ get_or parts k p → is_asked parts k q ≡ is_asked_by q p
-unfolding is_asked
+pub asked_read : (parts : List Part) (k q : ℕ) (p : Part) → k < length parts → p ≡ get_or parts k p → is_owned parts k q ≡ is_owned_by q p
+unfolding is_owned
 asked_read [] k q p low at = absurd (omega (arith, low))
-asked_read (x ∷ xs) zero q p low at = ap (is_asked_by q) (sym at)
+asked_read (x ∷ xs) zero q p low at = ap (is_owned_by q) (sym at)
 asked_read (x ∷ xs) (suc k) q p low at = asked_read xs k q p (omega (arith, low)) at
 
 -- the part of a number among those of a query
@@ -93,7 +93,7 @@ module _ (game : Game) (parts : List Part) (q n : ℕ) where
       same_holds game (shown p.single) r n
       (sym (at_read (all_shown parts) k (shown p.single) r (omega (arith, low, shown_length parts)) (shown_read parts k p at low)) ∙ here)
 
-  each_holds : (ks : List ℕ) (rs : List PartTree) → are_at (all_shown parts) ks rs ≡ true → ((k : ℕ) → is_among k ks ≡ true → is_asked parts k q ≡ true)
+  each_holds : (ks : List ℕ) (rs : List PartTree) → are_at (all_shown parts) ks rs ≡ true → ((k : ℕ) → is_among k ks ≡ true → is_owned parts k q ≡ true)
       → list_all (meets game q n) parts ≡ true → list_all (λ r. holds_at game r n) rs ≡ true
   unfolding are_at
   each_holds [] [] all asked meet = refl
@@ -103,9 +103,9 @@ module _ (game : Game) (parts : List Part) (q n : ℕ) where
       let both = and_parts (is_at (all_shown parts) k r) (are_at (all_shown parts) ks rs) all in
       let low : k < length parts = (let l = at_below (all_shown parts) k r both.0 in omega (arith, l, shown_length parts)) in
       let e = element parts k low in
-      let has : is_asked_by q e.part ≡ true = sym (asked_read parts k q e.part low e.reads) ∙ asked k (here_among k ks) in
+      let has : is_owned_by q e.part ≡ true = sym (asked_read parts k q e.part low e.reads) ∙ asked k (here_among k ks) in
       and_from (holds_at game r n) (list_all (λ r. holds_at game r n) rs)
-      (sym (holds_same k r e.part low e.reads both.0) ∙ met (is_asked_by q e.part) (part_holds game e.part n) has (all_at (meets game q n) parts k e.part meet low e.reads))
+      (sym (holds_same k r e.part low e.reads both.0) ∙ met (is_owned_by q e.part) (part_holds game e.part n) has (all_at (meets game q n) parts k e.part meet low e.reads))
       (each_holds ks rs both.1 (λ j among. asked j (later_among j k ks among)) meet)
     where
       here_among : (k : ℕ) (ks : List ℕ) → is_among k (k ∷ ks) ≡ true
@@ -122,18 +122,18 @@ module _ (game : Game) (parts : List Part) (q n : ℕ) where
       met true holds e f = f
       met false holds e f = cc
 
-  each_meets : (ks : List ℕ) (rs : List PartTree) → are_at (all_shown parts) ks rs ≡ true → ((k : ℕ) → is_asked parts k q ≡ is_among k ks)
+  each_meets : (ks : List ℕ) (rs : List PartTree) → are_at (all_shown parts) ks rs ≡ true → ((k : ℕ) → is_owned parts k q ≡ is_among k ks)
       → list_all (λ r. holds_at game r n) rs ≡ true → list_all (meets game q n) parts ≡ true
-  each_meets ks rs all asked hold = all_if (meets game q n) parts (λ k p low at. by k p low at (is_asked_by q p) refl)
+  each_meets ks rs all asked hold = all_if (meets game q n) parts (λ k p low at. by k p low at (is_owned_by q p) refl)
     where
-      by : (k : ℕ) (p : Part) → k < length parts → p ≡ get_or parts k p → (has : Bool) → is_asked_by q p ≡ has → meets game q n p ≡ true
+      by : (k : ℕ) (p : Part) → k < length parts → p ≡ get_or parts k p → (has : Bool) → is_owned_by q p ≡ has → meets game q n p ≡ true
       by k p low at false has = ap (λ b. not b || part_holds game p n) has
       by k p low at true has =
           let found = among_at (all_shown parts) ks rs k all (sym (asked k) ∙ asked_read parts k q p low at ∙ has) in
           ap (λ b. not b || part_holds game p n) has ∙ holds_same k found.part p low at found.here
           ∙ all_at (λ r. holds_at game r n) rs found.number found.part hold found.low found.reads
 
-  pub meets_same : (ks : List ℕ) (rs : List PartTree) → are_at (all_shown parts) ks rs ≡ true → ((k : ℕ) → is_asked parts k q ≡ is_among k ks)
+  pub meets_same : (ks : List ℕ) (rs : List PartTree) → are_at (all_shown parts) ks rs ≡ true → ((k : ℕ) → is_owned parts k q ≡ is_among k ks)
       → list_all (meets game q n) parts ≡ list_all (λ r. holds_at game r n) rs
   meets_same ks rs all asked = same_truth (list_all (meets game q n) parts) (list_all (λ r. holds_at game r n) rs)
       (each_holds ks rs all (λ k among. asked k ∙ among)) (each_meets ks rs all asked)
@@ -150,10 +150,10 @@ unfolding holds_at
 hold_at_hits game v [] n = refl
 hold_at_hits game v (f ∷ fs) n = ap (λ b. holds (value (searched_tree game v) [] [] f n) && b) (hold_at_hits game v fs n)
 
-pub meets_hit : (game : Game) (parts : List Part) (q n : ℕ) (a : Asker) → IsAsker parts q a
-    → list_all (meets game q n) parts ≡ is_hit (tree_of (asked_query a) game) (flat_query (asked_query a)).items n
+pub meets_hit : (game : Game) (parts : List Part) (q n : ℕ) (a : PartOwner) → IsOwner parts q a
+    → list_all (meets game q n) parts ≡ is_hit (tree_of (owner_query a) game) (flat_query (owner_query a)).items n
 meets_hit game parts q n a is =
-    let query : QueryTree = asked_query a in
+    let query : QueryTree = owner_query a in
     meets_same game parts q n a.numbers.items (parts_in query) is.numbers is.asked
     ∙ hold_at_hits game query.variations (query_parts (flat_query query).items) n ∙ sym (parts_hold (tree_of query game) (flat_query query).items n)
 

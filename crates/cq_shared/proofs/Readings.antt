@@ -10,7 +10,7 @@ use Rattle.cq_position.specs.Search.{SearchedTree}
 use Rattle.cql_columns.specs.Columns.{is_live}
 use Rattle.cql_pruning.specs.Classes.{filter_class}
 use Rattle.cql_plan.specs.Needs.{query_passes}
-use Rattle.cql_plan.specs.KeyRows.{key_in}
+use Rattle.cql_plan.specs.RowKeys.{key_in}
 use Rattle.cql_syntax.specs.Flat.{flat_query}
 use Rattle.cql_syntax.specs.Hits.{hits, keys, all_keys, item_keys, is_hit, tree_of}
 use Rattle.cql_syntax.specs.Leaves.{same_flag}
@@ -20,18 +20,18 @@ use Rattle.cql_syntax.specs.Meaning.{value}
 use Rattle.cql_syntax.specs.Values.{holds}
 use Rattle.cql_syntax.proofs.FlatHits.{hits_same, keys_same}
 use Rattle.cql_values.specs.Trees.{searched_tree}
-use Rattle.cq_shared.specs.Askers.{asked_query, AreAskers}
-use Rattle.cq_shared.specs.Beginning.{begins}
-use Rattle.cq_shared.specs.Known.{all_shown}
+use Rattle.cq_shared.specs.PartOwners.{owner_query, AreOwners}
+use Rattle.cq_shared.specs.Internal.FirstNodes.{is_start_node}
+use Rattle.cq_shared.specs.Interning.{all_shown}
 use Rattle.cq_shared.specs.Matching.{holds_at, sort_number, tree_for, HaveRows}
 use Rattle.cq_shared.specs.Parts.{PartTree, parts_with, top_parts, top_sorts, same_part, is_at, are_at}
-use Rattle.cq_shared.specs.Places.{is_among}
-use Rattle.cq_shared.specs.Reading.{nodes_there, is_found, is_least, row_key, row_keys, AreFound, HaveNumbers, IsFoundBy}
+use Rattle.cq_shared.specs.PartTables.{is_among}
+use Rattle.cq_shared.specs.Internal.Reading.{nodes_there, is_found, is_least, row_key, row_keys, AreFound, HaveNumbers, IsFoundBy}
 use Rattle.cq_shared.specs.Singles.{part_tree, shown}
 use Rattle.cq_shared.specs.Verdicts.{IsKeyed}
-use Rattle.cq_shared.specs.declared.nodes.Nodes.{Nodes}
-use Rattle.cq_shared.specs.declared.nodes.Row.{Row}
-use Rattle.cq_shared.specs.declared.part.Asker.{Asker}
+use Rattle.cq_shared.specs.declared.nodes.NodeSet.{NodeSet}
+use Rattle.cq_shared.specs.declared.nodes.SortRow.{SortRow}
+use Rattle.cq_shared.specs.declared.part.PartOwner.{PartOwner}
 use Rattle.cq_shared.specs.declared.part.Part.{Part}
 use Rattle.cq_shared.proofs.Gaining.{shown_length, shown_read}
 use Rattle.cq_shared.proofs.Keyed.{sort_has, sort_keys, is_sort, all_sorted, all_keys_are, item_keyed, class_same, sorts_alike}
@@ -125,15 +125,15 @@ hits_found q game there law is = by (query_passes q game) refl
         ∙ sym (none (hits q game) law refused)
 
 -- what is left to all queries, and the rows of their parts
-pub record AreSought (game : Game) (parts : List Part) (askers : List Asker) (left : List Nodes) (rows : List Row) : Type 0 where
-  pub askers_ : AreAskers parts askers
-  pub found : AreFound game askers left
+pub record AreSought (game : Game) (parts : List Part) (owners : List PartOwner) (left : List NodeSet) (rows : List SortRow) : Type 0 where
+  pub askers_ : AreOwners parts owners
+  pub found : AreFound game owners left
   pub rows_ : HaveRows game left parts rows
 
 -- what is left and the rows, of one query
-pub found_by : (game : Game) (parts : List Part) (askers : List Asker) (left : List Nodes) (rows : List Row) (q : ℕ) (a : Asker) (x : Nodes) → AreSought game parts askers left rows
-    → q < length askers → a ≡ get_or askers q a → x ≡ get_or left q x → IsFoundBy game parts a x rows
-found_by game parts askers left rows q a x are low reads here =
+pub found_by : (game : Game) (parts : List Part) (owners : List PartOwner) (left : List NodeSet) (rows : List SortRow) (q : ℕ) (a : PartOwner) (x : NodeSet) → AreSought game parts owners left rows
+    → q < length owners → a ≡ get_or owners q a → x ≡ get_or left q x → IsFoundBy game parts a x rows
+found_by game parts owners left rows q a x are low reads here =
     let is = are.askers_.each q a low reads in
     let found = are.found in
     let had = are.rows_ in
@@ -191,27 +191,27 @@ second_all : (h : FilterTree → Bool) (xs ys : List FilterTree) → list_all h 
 second_all h [] ys all = all
 second_all h (x ∷ xs) ys all = second_all h xs ys (and_parts (h x) (list_all h (xs ++ ys)) all).1
 
-pub key_at : (parts : List Part) (rows : List Row) (nodes : List ℕ) (k : ℕ) (p : Part) (r : Row) → k < length parts → k < length rows → p ≡ get_or parts k p → r ≡ get_or rows k r
+pub key_at : (parts : List Part) (rows : List SortRow) (nodes : List ℕ) (k : ℕ) (p : Part) (r : SortRow) → k < length parts → k < length rows → p ≡ get_or parts k p → r ≡ get_or rows k r
     → row_key parts rows nodes k ≡ key_in (is_least (shown p.single).filter) r.numbers.items nodes
 unfolding row_key
 key_at [] rows nodes k p r low below reads here = absurd (omega (arith, low))
 key_at (y ∷ ps) [] nodes k p r low below reads here = absurd (omega (arith, below))
 key_at (y ∷ ps) (s ∷ rs) nodes zero p r low below reads here =
-    ap₂ (λ (x : Part) (t : Row). key_in (is_least (shown x.single).filter) t.numbers.items nodes) (sym reads) (sym here)
+    ap₂ (λ (x : Part) (t : SortRow). key_in (is_least (shown x.single).filter) t.numbers.items nodes) (sym reads) (sym here)
 key_at (y ∷ ps) (s ∷ rs) nodes (suc k) p r low below reads here = key_at ps rs nodes k p r (omega (arith, low)) (omega (arith, below)) reads here
 
-record RowAt (rows : List Row) (k : ℕ) : Type 0 where
-  row : Row
+record RowAt (rows : List SortRow) (k : ℕ) : Type 0 where
+  row : SortRow
   reads : row ≡ get_or rows k row
 
-row_at : (rows : List Row) (k : ℕ) → k < length rows → RowAt rows k
+row_at : (rows : List SortRow) (k : ℕ) → k < length rows → RowAt rows k
 row_at [] k low = absurd (omega (arith, low))
 row_at (x ∷ xs) zero low = record { row = x; reads = refl }
 row_at (x ∷ xs) (suc k) low = let e = row_at xs k (omega (arith, low)) in record { row = e.row; reads = e.reads }
 
-module _ (game : Game) (parts : List Part) (a : Asker) (x : Nodes) (rows : List Row) (is : IsFoundBy game parts a x rows) where
+module _ (game : Game) (parts : List Part) (a : PartOwner) (x : NodeSet) (rows : List SortRow) (is : IsFoundBy game parts a x rows) where
   abbrev query : QueryTree
-  query = asked_query a
+  query = owner_query a
 
   abbrev items : FilterTrees
   items = (flat_query query).items
@@ -260,7 +260,7 @@ module _ (game : Game) (parts : List Part) (a : Asker) (x : Nodes) (rows : List 
   sorts_hold n there =
       hold_at_hits game query.variations (top_sorts items) n
       ∙ second_all (λ f. holds (value tree [] [] f n)) (top_parts items) (top_sorts items)
-      (sym (parts_hold tree items n) ∙ (and_parts (begins game query n) (is_hit (tree_of query game) items n) (sym (is.left n) ∙ there)).1)
+      (sym (parts_hold tree items n) ∙ (and_parts (is_start_node game query n) (is_hit (tree_of query game) items n) (sym (is.left n) ∙ there)).1)
 
   pub have_numbers : HaveNumbers parts rows nodes ks
   unfolding holds_at

@@ -2,18 +2,18 @@
 use Rattle.std.proofs.Common.{◌≡◌, ℕ, zero, suc, ◌<◌, List, [], ◌∷◌, length, get_or, refl, sym, ap, subst, arith}
 use Rattle.cq_position.specs.Games.{Game}
 use Rattle.cq_shared.specs.Matching.{HasRow, HaveRows}
-use Rattle.cq_shared.specs.declared.nodes.Nodes.{Nodes}
-use Rattle.cq_shared.specs.declared.nodes.Row.{Row}
+use Rattle.cq_shared.specs.declared.nodes.NodeSet.{NodeSet}
+use Rattle.cq_shared.specs.declared.nodes.SortRow.{SortRow}
 use Rattle.cq_shared.specs.declared.part.Part.{Part}
 
 module _ (game : Game) where
-  pub rows_count : (left : List Nodes) (ps : List Part) (rs : List Row) → HaveRows game left ps rs → length rs ≡ length ps
+  pub rows_count : (left : List NodeSet) (ps : List Part) (rs : List SortRow) → HaveRows game left ps rs → length rs ≡ length ps
   rows_count left [] [] had = refl
   rows_count left [] (r ∷ rs) had = absurd had
   rows_count left (p ∷ ps) [] had = absurd had
   rows_count left (p ∷ ps) (r ∷ rs) had = ap suc (rows_count left ps rs had.1)
 
-  pub row_read : (left : List Nodes) (ps : List Part) (rs : List Row) (k : ℕ) (p : Part) (r : Row) → k < length ps → p ≡ get_or ps k p → r ≡ get_or rs k r → HaveRows game left ps rs
+  pub row_read : (left : List NodeSet) (ps : List Part) (rs : List SortRow) (k : ℕ) (p : Part) (r : SortRow) → k < length ps → p ≡ get_or ps k p → r ≡ get_or rs k r → HaveRows game left ps rs
       → HasRow game left p r.numbers.items
   row_read left [] rs k p r low at here had = absurd (omega (arith, low))
   row_read left (x ∷ ps) [] k p r low at here had = absurd had

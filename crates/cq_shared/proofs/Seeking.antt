@@ -6,7 +6,7 @@ use Rattle.std.proofs.lemmas.Bool.{or_from, or_left, or_right, and_from, and_par
 use Rattle.cql_syntax.specs.Leaves.{same_flag}
 use Rattle.cql_syntax.specs.Unplaced.{unplaced, same_unplaced}
 use Rattle.cql_syntax.proofs.SameSound.{same_law}
-use Rattle.cq_shared.specs.Known.{with_part}
+use Rattle.cq_shared.specs.Interning.{with_part}
 use Rattle.cq_shared.specs.Parts.{PartTree, same_part, is_at, are_at, Keeps}
 
 -- none is the same where none is by its number

@@ -2,14 +2,14 @@
 use Rattle.std.proofs.Common.{◌≡◌, ℕ, Bool, true, false, ◌&&◌, ◌||◌, not, List, [], ◌∷◌, ◌++◌, Option, None, Some, refl, ap, ap₂, ◌∙◌}
 use Rattle.std.specs.List.{list_all, list_any}
 use Rattle.cql_syntax.specs.FlatItems.{has_family, kinds_agree, break_no_rule, has_its_kind, breaks_none, is_empty}
-use Rattle.cql_syntax.specs.Occurrences.{Standing, Occurrence, occurrences, inner, all_of, of_items, sorts_with, top_item}
+use Rattle.cql_syntax.specs.Occurrences.{TypingContext, Occurrence, occurrences, inner, all_of, of_items, sorts_with, top_item}
 use Rattle.cql_syntax.specs.TreeFaults.{broken_rules, wrong_kind, below_top, past_four_sorts, unbound_name, brace_in_comment, is_long_line, is_fifth_square, is_family}
 use Rattle.cql_syntax.specs.Kinds.{form_kind}
 use Rattle.cql_syntax.specs.Trees.{FilterTree, filter_at, FormTree, chain, sort, comment, FilterTrees, no_filters, more_filters}
 use Rattle.cql_syntax.specs.declared.leaves.Chain.TheVariants.{And, All}
 use Rattle.cql_syntax.specs.declared.leaves.Kind.TheVariants.{Position}
 use Rattle.cql_syntax.specs.declared.fault.QueryReason.{QueryReason}
-use Rattle.cq_shared.specs.Alone.{is_sound, stands_alone}
+use Rattle.cq_shared.specs.StandaloneFilters.{is_sound, stands_alone}
 use Rattle.cq_shared.specs.Parts.{parts_of, form_parts, all_parts, item_parts, item_sorts, top_parts, top_sorts, query_parts, alone}
 
 first : (a b : Bool) → (a && b) ≡ true → a ≡ true
@@ -39,7 +39,7 @@ module _ {X : Type 0} (h : X → Bool) where
 
 -- how a filter stands at the top of a query, and in a part of it
 
-abbrev standing : Option ℕ → Standing
+abbrev standing : Option ℕ → TypingContext
 standing item = record { wanted = Position; names = []; squares = 0; item = item }
 
 below_none : (f : FormTree) → below_top (Some 0) f ≡ []

@@ -5,7 +5,7 @@ use Rattle.std.specs.List.{list_any, filter, range_with_len}
 use Rattle.std.proofs.lemmas.List.Sums.{sum_by-cons}
 use Rattle.cq_position.specs.Games.{Game, is_searched, searched}
 use Rattle.cq_position.specs.Search.{SearchedTree, nodes_in}
-use Rattle.cql_columns.specs.Columns.{is_live, AreAsked}
+use Rattle.cql_columns.specs.Columns.{is_live, IsNodeSet}
 use Rattle.cql_columns.specs.Costs.{filter_cost, filters_cost, searched_len}
 use Rattle.cql_pruning.specs.Classes.{filter_class}
 use Rattle.cql_eval.specs.Hits.{AreKeysAtHits}
@@ -15,7 +15,7 @@ use Rattle.cql_syntax.specs.TreeOf.{filters_tree}
 use Rattle.cql_syntax.specs.Trees.{FilterTree, filter_at, FormTree, sort, FilterTrees, no_filters, more_filters}
 use Rattle.cql_syntax.specs.Values.{holds}
 use Rattle.cql_values.specs.Trees.{searched_tree}
-use Rattle.cq_shared.specs.Matching.{tree_for, holds_at, part_holds, part_cost, sort_number, IsTold, IsRowAt}
+use Rattle.cq_shared.specs.Matching.{tree_for, holds_at, part_holds, part_cost, sort_number, ArePartTruths, IsRowAt}
 use Rattle.cq_shared.specs.Parts.{first_of, alone, is_single}
 use Rattle.cq_shared.specs.Singles.{shown}
 use Rattle.cq_shared.specs.declared.part.Part.{Part}
@@ -52,14 +52,14 @@ count_within t (b ∷ bs) k all = by b (t k) (λ e. ap t (let z : k ≡ k + 0 = 
     by false false implied rest = let e = sum_by-cons (λ b. cond b 1 0) false bs in omega (arith, rest, e)
 
 -- the nodes that are asked for are no more than those that are searched
-count_asked : (tree : SearchedTree) (live : List Bool) → AreAsked tree live → count_by (λ b. b) live ≤ length (nodes_in tree)
+count_asked : (tree : SearchedTree) (live : List Bool) → IsNodeSet tree live → count_by (λ b. b) live ≤ length (nodes_in tree)
 unfolding searched
 count_asked tree live asked =
     subst (λ len. count_by (λ b. b) live ≤ length (filter (is_searched tree.variations tree.game.nodes) (range_with_len 0 len))) asked.count
     (count_within (is_searched tree.variations tree.game.nodes) live 0
     (λ n there. ap (is_searched tree.variations tree.game.nodes) (let e : 0 + n ≡ n = omega arith in e) ∙ asked.searched n there))
 
-pub cost_is : (game : Game) (p : Part) (live : List Bool) (before now : ℕ) → AreAsked (tree_for game p) live
+pub cost_is : (game : Game) (p : Part) (live : List Bool) (before now : ℕ) → IsNodeSet (tree_for game p) live
     → now ≤ before + count_by (λ b. b) live + filters_cost (searched_len (tree_for game p)) (filters_tree p.single.query.items)
     → is_single (filters_tree p.single.query.items) ≡ true → now ≤ before + part_cost game (shown p.single)
 unfolding part_cost
@@ -85,10 +85,10 @@ hit_there game p live hits n one are there =
     are n ∙ ap (λ b. b && is_hit (tree_for game p) (filters_tree p.single.query.items) n) there ∙ hit_alone (tree_for game p) (filters_tree p.single.query.items) n one
 
 pub told_by : (game : Game) (p : Part) (live hits truths : List Bool) → is_single (filters_tree p.single.query.items) ≡ true
-    → ((k : ℕ) → get_or hits k false ≡ (is_live live k && is_hit (tree_for game p) (filters_tree p.single.query.items) k)) → truths ≡ hits → IsTold game p live truths
+    → ((k : ℕ) → get_or hits k false ≡ (is_live live k && is_hit (tree_for game p) (filters_tree p.single.query.items) k)) → truths ≡ hits → ArePartTruths game p live truths
 told_by game p live hits truths one are same = record { each = λ n there. ap (λ l. get_or l n false) same ∙ hit_there game p live hits n one are there }
 
-pub told_none : (game : Game) (p : Part) (live truths : List Bool) → list_any (λ b. b) live ≡ false → IsTold game p live truths
+pub told_none : (game : Game) (p : Part) (live truths : List Bool) → list_any (λ b. b) live ≡ false → ArePartTruths game p live truths
 told_none game p live truths none = record { each = λ n there. absurd (none_live live n none there) }
 
 pub row_none : (game : Game) (p : Part) (live : List Bool) (row : List (Option ℤ)) → list_any (λ b. b) live ≡ false → IsRowAt game p live row
@@ -96,7 +96,7 @@ row_none game p live row none = record { each = λ n there. absurd (none_live li
 
 -- the same by the form in which the part is asked
 
-pub cost_joined : (game : Game) (p : Part) (live : List Bool) (before now : ℕ) → AreAsked (tree_for game p) live
+pub cost_joined : (game : Game) (p : Part) (live : List Bool) (before now : ℕ) → IsNodeSet (tree_for game p) live
     → now ≤ before + count_by (λ b. b) live + filters_cost (searched_len (searched_tree game p.single.joined.variations)) (filters_tree p.single.joined.items)
     → now ≤ before + part_cost game (shown p.single)
 cost_joined game p live before now asked cost =
@@ -105,14 +105,14 @@ cost_joined game p live before now asked cost =
 
 pub told_joined : (game : Game) (p : Part) (live hits truths : List Bool)
     → ((k : ℕ) → get_or hits k false ≡ (is_live live k && is_hit (searched_tree game p.single.joined.variations) (filters_tree p.single.joined.items) k))
-    → truths ≡ hits → IsTold game p live truths
+    → truths ≡ hits → ArePartTruths game p live truths
 told_joined game p live hits truths are same =
     told_by game p live hits truths p.single.one
     (λ k. are k ∙ ap (λ v. is_live live k && is_hit (searched_tree game v) (filters_tree p.single.joined.items) k) p.single.searched
     ∙ ap (λ b. is_live live k && b) (p.single.same.here (tree_for game p) k)) same
 
-pub asked_joined : (game : Game) (p : Part) (live : List Bool) → AreAsked (tree_for game p) live → AreAsked (searched_tree game p.single.joined.variations) live
-asked_joined game p live asked = subst (λ v. AreAsked (searched_tree game v) live) (sym p.single.searched) asked
+pub asked_joined : (game : Game) (p : Part) (live : List Bool) → IsNodeSet (tree_for game p) live → IsNodeSet (searched_tree game p.single.joined.variations) live
+asked_joined game p live asked = subst (λ v. IsNodeSet (searched_tree game v) live) (sym p.single.searched) asked
 
 -- the row of a sort item as the only item
 

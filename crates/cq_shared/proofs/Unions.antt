@@ -6,11 +6,11 @@ use Rattle.std.proofs.lemmas.List.{get_or_append_left, drop_all}
 use Rattle.std.proofs.Math.Seq.{get_or-append_seam, take-append_seam}
 use Rattle.std.specs.List.{list_any}
 use Rattle.cq_position.specs.Games.{Game}
-use Rattle.cq_shared.specs.Places.{is_among}
+use Rattle.cq_shared.specs.PartTables.{is_among}
 use Rattle.cq_shared.specs.declared.part.Part.{Part}
-use Rattle.cq_shared.specs.declared.nodes.Nodes.{Nodes}
-use Rattle.cql_columns.specs.Columns.{is_live, AreAsked, AreKept}
-use Rattle.cq_shared.specs.Matching.{is_left, is_asked_by, meets, part_holds, tree_for, IsReady, CoversWanted, IsTold, IsNarrowedBy}
+use Rattle.cq_shared.specs.declared.nodes.NodeSet.{NodeSet}
+use Rattle.cql_columns.specs.Columns.{is_live, IsNodeSet, AreKept}
+use Rattle.cq_shared.specs.Matching.{is_left, is_owned_by, meets, part_holds, tree_for, IsReady, CoversWanted, ArePartTruths, IsNarrowedBy}
 
 -- the first k items are the values of their numbers
 pub record Filled {X : Type 0} (none : X) (value : ℕ → X) (k : ℕ) (items : List X) : Type 0 where
@@ -100,22 +100,22 @@ wanted t (x ∷ xs) q among is = ⊎_elim
     (λ later. or_right (t x) (list_any t xs) (wanted t xs q later is))
     (or_true (x == q) (is_among q xs) among)
 
-pub are_united : (game : Game) (p : Part) (left : List Nodes) (k : ℕ) (live : List Bool) → length game.nodes ≤ k → k ≤ length game.nodes → IsReady game left p
-    → Told (λ n. list_any (λ q. is_left left q n) p.askers.items) k live
-    → AreAsked (tree_for game p) live × CoversWanted p left live
+pub are_united : (game : Game) (p : Part) (left : List NodeSet) (k : ℕ) (live : List Bool) → length game.nodes ≤ k → k ≤ length game.nodes → IsReady game left p
+    → Told (λ n. list_any (λ q. is_left left q n) p.owners.items) k live
+    → IsNodeSet (tree_for game p) live × CoversWanted p left live
 are_united game p left k live high low ready had = (
   record {
     count = had.count ∙ omega (arith, high, low);
     searched = λ n there.
-        let w = wanting (λ q. is_left left q n) p.askers.items (sym (had.each n (inside n there)) ∙ there) in
+        let w = wanting (λ q. is_left left q n) p.owners.items (sym (had.each n (inside n there)) ∙ there) in
         ready.searched w.0 n w.1 w.2;
   },
   record {
     each = λ q n has there.
-        had.each n (let i = ready.inside q n has there in omega (arith, i, high)) ∙ wanted (λ r. is_left left r n) p.askers.items q has there;
+        had.each n (let i = ready.inside q n has there in omega (arith, i, high)) ∙ wanted (λ r. is_left left r n) p.owners.items q has there;
     some = λ some.
         let s = live_at live some in
-        let w = wanting (λ q. is_left left q s.0) p.askers.items (sym (had.each s.0 (inside s.0 s.1)) ∙ s.1) in
+        let w = wanting (λ q. is_left left q s.0) p.owners.items (sym (had.each s.0 (inside s.0 s.1)) ∙ s.1) in
         record { query = w.0; node = s.0; has = w.1; there = w.2 };
   },
 )
@@ -132,30 +132,30 @@ are_united game p left k live high low ready had = (
         is_not e f = cc
 
 -- what is left to each query behind a part, for the first k queries
-pub record AreNarrowed (game : Game) (p : Part) (left later : List Nodes) (k : ℕ) : Type 0 where
+pub record AreNarrowed (game : Game) (p : Part) (left later : List NodeSet) (k : ℕ) : Type 0 where
   pub count : length later ≡ k
   pub each : (q n : ℕ) → q < k → is_left later q n ≡ (is_left left q n && meets game q n p)
 
-pub narrowed_none : (game : Game) (p : Part) (left later : List Nodes) → later ≡ [] → AreNarrowed game p left later 0
+pub narrowed_none : (game : Game) (p : Part) (left later : List NodeSet) → later ≡ [] → AreNarrowed game p left later 0
 narrowed_none game p left later none = record { count = ap length none; each = λ q n less. absurd (omega (arith, less)) }
 
-pub left_past : (xs : List Nodes) (q n : ℕ) → length xs ≤ q → is_left xs q n ≡ false
+pub left_past : (xs : List NodeSet) (q n : ℕ) → length xs ≤ q → is_left xs q n ≡ false
 left_past [] q n past = refl
 left_past (x ∷ xs) zero n past = absurd (omega arith)
 left_past (x ∷ xs) (suc q) n past = left_past xs q n (omega arith)
 
-pub left_before : (xs : List Nodes) (x : Nodes) (q n : ℕ) → q < length xs → is_left (xs ++ x ∷ []) q n ≡ is_left xs q n
+pub left_before : (xs : List NodeSet) (x : NodeSet) (q n : ℕ) → q < length xs → is_left (xs ++ x ∷ []) q n ≡ is_left xs q n
 left_before [] x q n inside = absurd (omega arith)
 left_before (y ∷ ys) x zero n inside = refl
 left_before (y ∷ ys) x (suc q) n inside = left_before ys x q n (omega arith)
 
-pub left_last : (xs : List Nodes) (x : Nodes) (q n : ℕ) → q ≡ length xs → is_left (xs ++ x ∷ []) q n ≡ get_or x.there.items n false
+pub left_last : (xs : List NodeSet) (x : NodeSet) (q n : ℕ) → q ≡ length xs → is_left (xs ++ x ∷ []) q n ≡ get_or x.there.items n false
 left_last [] x zero n is = refl
 left_last [] x (suc q) n is = absurd (omega arith)
 left_last (y ∷ ys) x zero n is = absurd (omega arith)
 left_last (y ∷ ys) x (suc q) n is = left_last ys x q n (omega arith)
 
-pub left_here : (xs : List Nodes) (x : Nodes) (q n : ℕ) → q < length xs → x ≡ get_or xs q x → is_left xs q n ≡ get_or x.there.items n false
+pub left_here : (xs : List NodeSet) (x : NodeSet) (q n : ℕ) → q < length xs → x ≡ get_or xs q x → is_left xs q n ≡ get_or x.there.items n false
 left_here [] x q n inside at = absurd (omega arith)
 left_here (y ∷ ys) x zero n inside at = ap (λ w. get_or w.there.items n false) (sym at)
 left_here (y ∷ ys) x (suc q) n inside at = left_here ys x q n (omega arith) at
@@ -166,18 +166,18 @@ by_truth true false b t told = refl
 by_truth true true b t told = told refl refl
 
 -- whether a part holds, told at all nodes at which a query wants to know
-pub record TruthsOf (game : Game) (p : Part) (left : List Nodes) : Type 0 where
+pub record TruthsOf (game : Game) (p : Part) (left : List NodeSet) : Type 0 where
   pub live : List Bool
   pub truths : List Bool
-  pub told : IsTold game p live truths
+  pub told : ArePartTruths game p live truths
   pub covers : CoversWanted p left live
 
 -- of some nodes these are left, if the part is asked for
-abbrev pub AreLeftOf : Bool → List Bool → Nodes → Nodes → Type 0
+abbrev pub AreLeftOf : Bool → List Bool → NodeSet → NodeSet → Type 0
 AreLeftOf wants truths x y = (n : ℕ) → get_or y.there.items n false ≡ (get_or x.there.items n false && (not wants || get_or truths n false))
 
-narrowed_more : (game : Game) (p : Part) (left : List Nodes) (t : TruthsOf game p left) (later : List Nodes) (k : ℕ) (x y : Nodes) → k < length left → x ≡ get_or left k x
-    → AreLeftOf (is_asked_by k p) t.truths x y → AreNarrowed game p left later k → AreNarrowed game p left (later ++ y ∷ []) (k + 1)
+narrowed_more : (game : Game) (p : Part) (left : List NodeSet) (t : TruthsOf game p left) (later : List NodeSet) (k : ℕ) (x y : NodeSet) → k < length left → x ≡ get_or left k x
+    → AreLeftOf (is_owned_by k p) t.truths x y → AreNarrowed game p left later k → AreNarrowed game p left (later ++ y ∷ []) (k + 1)
 narrowed_more game p left t later k x y inside at made had = record {
   count = length-append later (y ∷ []) ∙ ap (λ i. i + 1) had.count;
   each = λ q n less. ⊎_elim
@@ -188,19 +188,19 @@ narrowed_more game p left t later k x y inside at made had = record {
   where
     here : (n : ℕ) → is_left (later ++ y ∷ []) k n ≡ (is_left left k n && meets game k n p)
     here n =
-        left_last later y k n (sym had.count) ∙ made n ∙ ap (λ b. b && (not (is_asked_by k p) || get_or t.truths n false)) (sym (left_here left x k n inside at))
-        ∙ by_truth (is_left left k n) (is_asked_by k p) (get_or t.truths n false) (part_holds game p n) (λ has there. t.told.each n (t.covers.each k n has there))
+        left_last later y k n (sym had.count) ∙ made n ∙ ap (λ b. b && (not (is_owned_by k p) || get_or t.truths n false)) (sym (left_here left x k n inside at))
+        ∙ by_truth (is_left left k n) (is_owned_by k p) (get_or t.truths n false) (part_holds game p n) (λ has there. t.told.each n (t.covers.each k n has there))
 
 -- the next query's nodes, where those of the queries before are there
-pub narrowed_next : (game : Game) (p : Part) (left : List Nodes) (t : TruthsOf game p left) (ys more later : List Nodes) (x y : Nodes) → left ≡ ys ++ x ∷ more
-    → AreLeftOf (is_asked_by (length ys) p) t.truths x y → AreNarrowed game p left later (length ys) → AreNarrowed game p left (later ++ y ∷ []) (length (ys ++ x ∷ []))
+pub narrowed_next : (game : Game) (p : Part) (left : List NodeSet) (t : TruthsOf game p left) (ys more later : List NodeSet) (x y : NodeSet) → left ≡ ys ++ x ∷ more
+    → AreLeftOf (is_owned_by (length ys) p) t.truths x y → AreNarrowed game p left later (length ys) → AreNarrowed game p left (later ++ y ∷ []) (length (ys ++ x ∷ []))
 narrowed_next game p left t ys more later x y is made had =
     subst (AreNarrowed game p left (later ++ y ∷ [])) (sym (length-append ys (x ∷ [])))
     (narrowed_more game p left t later (length ys) x y
     (let e : length left ≡ length ys + length (x ∷ more) = ap length is ∙ length-append ys (x ∷ more) in omega (arith, e))
     (sym (ap (λ l. get_or l (length ys) x) is ∙ get_or-append_seam ys x more x)) made had)
 
-pub narrowed_all : (game : Game) (p : Part) (left later : List Nodes) (k : ℕ) → k ≡ length left → AreNarrowed game p left later k → IsNarrowedBy game p left later
+pub narrowed_all : (game : Game) (p : Part) (left later : List NodeSet) (k : ℕ) → k ≡ length left → AreNarrowed game p left later k → IsNarrowedBy game p left later
 narrowed_all game p left later k all had = record {
   count = had.count ∙ all;
   each = λ q n. ⊎_elim (λ less. had.each q n less)
@@ -208,7 +208,7 @@ narrowed_all game p left later k all had = record {
       (inside_or_past q k);
 }
 
-pub narrowed_end : (game : Game) (p : Part) (left ys more later : List Nodes) → left ≡ ys ++ more → length more ≡ 0 → AreNarrowed game p left later (length ys) → IsNarrowedBy game p left later
+pub narrowed_end : (game : Game) (p : Part) (left ys more later : List NodeSet) → left ≡ ys ++ more → length more ≡ 0 → AreNarrowed game p left later (length ys) → IsNarrowedBy game p left later
 narrowed_end game p left ys more later is none had = narrowed_all game p left later (length ys)
     (let e : length left ≡ length ys + length more = ap length is ∙ length-append ys more in omega (arith, e, none)) had
 

@@ -10,11 +10,11 @@ use Rattle.cql_syntax.specs.Trees.{FilterTree, filter_at, FormTree, sort}
 use Rattle.cql_syntax.specs.Values.{amount, holds}
 use Rattle.cql_values.specs.Trees.{searched_tree}
 use Rattle.cq_shared.specs.Parts.{PartTree}
-use Rattle.cq_shared.specs.Places.{is_among}
+use Rattle.cq_shared.specs.PartTables.{is_among}
 use Rattle.cq_shared.specs.Singles.{shown}
 use Rattle.cq_shared.specs.declared.part.Part.{Part}
-use Rattle.cq_shared.specs.declared.nodes.Nodes.{Nodes}
-use Rattle.cq_shared.specs.declared.nodes.Row.{Row}
+use Rattle.cq_shared.specs.declared.nodes.NodeSet.{NodeSet}
+use Rattle.cq_shared.specs.declared.nodes.SortRow.{SortRow}
 
 abbrev pub tree_for : Game → Part → SearchedTree
 tree_for game p = searched_tree game p.single.query.variations
@@ -43,18 +43,18 @@ abbrev pub plan_cost : Game → List PartTree → ℕ
 plan_cost game ps = sum_by (part_cost game) ps
 
 -- node n is left to query q
-abbrev pub is_left : List Nodes → ℕ → ℕ → Bool
+abbrev pub is_left : List NodeSet → ℕ → ℕ → Bool
 is_left [] q n = false
 is_left (x ∷ xs) zero n = get_or x.there.items n false
 is_left (x ∷ xs) (suc q) n = is_left xs q n
 
 -- query q has the part
-abbrev pub is_asked_by : ℕ → Part → Bool
-is_asked_by q p = is_among q p.askers.items
+abbrev pub is_owned_by : ℕ → Part → Bool
+is_owned_by q p = is_among q p.owners.items
 
 -- the part holds, or query q doesn't have it
 abbrev pub meets : Game → ℕ → ℕ → Part → Bool
-meets game q n p = not (is_asked_by q p) || part_holds game p n
+meets game q n p = not (is_owned_by q p) || part_holds game p n
 
 -- the class of sort items
 abbrev pub sort_class : ℕ
@@ -77,30 +77,30 @@ unfoldable pub costs_if : (Part → Bool) → Game → List Part → ℕ
 costs_if taken game [] = 0
 costs_if taken game (p ∷ ps) = cost_if taken game p + costs_if taken game ps
 
--- the nodes that are left to each query, of those with which it began, after the parts that are taken
-pub record AreLeft (taken : Part → Bool) (game : Game) (parts : List Part) (began left : List Nodes) : Type 0 where
-  pub count : length left ≡ length began
-  pub each : (q n : ℕ) → is_left left q n ≡ (is_left began q n && list_all (meets_if taken game q n) parts)
+-- the nodes that are left to each query, of its start nodes, after the parts that are taken
+pub record AreLeft (taken : Part → Bool) (game : Game) (parts : List Part) (start_nodes left : List NodeSet) : Type 0 where
+  pub count : length left ≡ length start_nodes
+  pub each : (q n : ℕ) → is_left left q n ≡ (is_left start_nodes q n && list_all (meets_if taken game q n) parts)
 
 -- each query that has the part has left nodes of the game alone, and searched ones
-pub record IsReady (game : Game) (left : List Nodes) (p : Part) : Type 0 where
-  pub searched : (q n : ℕ) → is_asked_by q p ≡ true → is_left left q n ≡ true
+pub record IsReady (game : Game) (left : List NodeSet) (p : Part) : Type 0 where
+  pub searched : (q n : ℕ) → is_owned_by q p ≡ true → is_left left q n ≡ true
       → is_searched p.single.query.variations game.nodes n ≡ true
-  pub inside : (q n : ℕ) → is_asked_by q p ≡ true → is_left left q n ≡ true → n < length game.nodes
+  pub inside : (q n : ℕ) → is_owned_by q p ≡ true → is_left left q n ≡ true → n < length game.nodes
 
-abbrev pub AreReady : Game → List Nodes → List Part → Type 0
+abbrev pub AreReady : Game → List NodeSet → List Part → Type 0
 AreReady game left parts = (k : ℕ) (p : Part) → k < length parts → p ≡ get_or parts k p → IsReady game left p
 
 -- some query that has the part still wants a node
-pub record IsWanted (p : Part) (left : List Nodes) : Type 0 where
+pub record IsWanted (p : Part) (left : List NodeSet) : Type 0 where
   pub query : ℕ
   pub node : ℕ
-  pub has : is_asked_by query p ≡ true
+  pub has : is_owned_by query p ≡ true
   pub there : is_left left query node ≡ true
 
 -- Every node that a query with the part still wants is in the set, and if the set has a node, some query still wants one.
-pub record CoversWanted (p : Part) (left : List Nodes) (live : List Bool) : Type 0 where
-  pub each : (q n : ℕ) → is_asked_by q p ≡ true → is_left left q n ≡ true → is_live live n ≡ true
+pub record CoversWanted (p : Part) (left : List NodeSet) (live : List Bool) : Type 0 where
+  pub each : (q n : ℕ) → is_owned_by q p ≡ true → is_left left q n ≡ true → is_live live n ≡ true
   pub some : list_any (λ b. b) live ≡ true → IsWanted p left
 
 -- a cost, where some node is there
@@ -108,7 +108,7 @@ abbrev pub cost_at : List Bool → ℕ → ℕ
 cost_at live cost = if list_any (λ b. b) live then cost else 0
 
 -- whether the part holds, at the nodes that are asked for
-pub record IsTold (game : Game) (p : Part) (live truths : List Bool) : Type 0 where
+pub record ArePartTruths (game : Game) (p : Part) (live truths : List Bool) : Type 0 where
   pub each : (n : ℕ) → is_live live n ≡ true → get_or truths n false ≡ part_holds game p n
 
 -- the numbers of a sort item, at the nodes that are asked for
@@ -116,21 +116,21 @@ pub record IsRowAt (game : Game) (p : Part) (live : List Bool) (row : List (Opti
   pub each : (n : ℕ) → is_live live n ≡ true → get_or row n None ≡ sort_number (tree_for game p) (shown p.single).filter n
 
 -- what is left to each query after one part
-pub record IsNarrowedBy (game : Game) (p : Part) (left later : List Nodes) : Type 0 where
+pub record IsNarrowedBy (game : Game) (p : Part) (left later : List NodeSet) : Type 0 where
   pub count : length later ≡ length left
   pub each : (q n : ℕ) → is_left later q n ≡ (is_left left q n && meets game q n p)
 
-pub record IsNarrowedIf (taken : Part → Bool) (game : Game) (p : Part) (left later : List Nodes) : Type 0 where
+pub record IsNarrowedIf (taken : Part → Bool) (game : Game) (p : Part) (left later : List NodeSet) : Type 0 where
   pub count : length later ≡ length left
   pub each : (q n : ℕ) → is_left later q n ≡ (is_left left q n && meets_if taken game q n p)
 
 -- the numbers of a sort item, at the nodes that are left to the queries that have it
-pub record HasRow (game : Game) (left : List Nodes) (p : Part) (row : List (Option ℤ)) : Type 0 where
-  pub each : p.class ≡ sort_class → (q n : ℕ) → is_asked_by q p ≡ true → is_left left q n ≡ true
+pub record HasRow (game : Game) (left : List NodeSet) (p : Part) (row : List (Option ℤ)) : Type 0 where
+  pub each : p.class ≡ sort_class → (q n : ℕ) → is_owned_by q p ≡ true → is_left left q n ≡ true
       → get_or row n None ≡ sort_number (tree_for game p) (shown p.single).filter n
 
 -- a row for each part, in order
-abbrev pub HaveRows : Game → List Nodes → List Part → List Row → Type 0
+abbrev pub HaveRows : Game → List NodeSet → List Part → List SortRow → Type 0
 HaveRows game left [] [] = Unit {0}
 HaveRows game left (p ∷ ps) (r ∷ rs) = HasRow game left p r.numbers.items × HaveRows game left ps rs
 HaveRows game left ps rs = ⊥

@@ -1,11 +1,11 @@
 //! The keys of a query over the nodes that are left to it.
 ghost use Rattle.std.specs.Prelude.{◌≡◌, ◌<◌, ◌≢◌, [], length, map, drop, get_or, true, None, Some, is_some, All, IfOk};
 ghost use Rattle.cql_syntax.specs.TreeOf.{filter_tree};
-ghost use Rattle.cq_shared.specs.Reading.{is_least, row_key, row_keys, HaveNumbers};
-ghost use Rattle.cq_shared.specs.declared.nodes.Row.{Row as RowOf};
+ghost use Rattle.cq_shared.specs.Internal.Reading.{is_least, row_key, row_keys, HaveNumbers};
+ghost use Rattle.cq_shared.specs.declared.nodes.SortRow.{SortRow as RowOf};
 
-use crate::nodes::Row;
-use crate::part::{Asker, Part};
+use crate::nodes::SortRow;
+use crate::part::{PartOwner, Part};
 use crate::single::reading::filter_of;
 use cq_common::NoMemory;
 use cql_plan::key_over;
@@ -15,22 +15,22 @@ use std::alloc::Global;
 /// One key for each sort item over the hits, the first item foremost; over no nodes there are none.
 pub(crate) fn keys(
     alloc: Global,
-    asker: &Asker,
+    owner: &PartOwner,
     parts: &[Part],
-    rows: &[Row],
+    rows: &[SortRow],
     nodes: &[u32],
 ) -> Result<Vec<i64>, NoMemory>
-    requires { HaveNumbers parts.now rows.now nodes.now (drop asker.now.sorts asker.now.numbers.items) }
+    requires { HaveNumbers parts.now rows.now nodes.now (drop owner.now.sorts owner.now.numbers.items) }
     ensures keys { IfOk result (λ ks. nodes.now ≢ []
-        → map Some ks.items ≡ row_keys parts.now rows.now nodes.now (drop asker.now.sorts asker.now.numbers.items)) }
+        → map Some ks.items ≡ row_keys parts.now rows.now nodes.now (drop owner.now.sorts owner.now.numbers.items)) }
     ensures none { IfOk result (λ ks. nodes.now ≡ [] → ks.items ≡ []) }
 {
     let mut keys = Vec::new(alloc);
     if nodes.is_empty() {
         return Ok(keys);
     }
-    for i in asker.sorts..asker.numbers.len() {
-        let number = asker.numbers[i];
+    for i in owner.sorts..owner.numbers.len() {
+        let number = owner.numbers[i];
         let key = key_of(parts, rows, number, nodes);
         keys.push(key)?;
     }
@@ -38,7 +38,7 @@ pub(crate) fn keys(
 }
 
 // The key of a part over some nodes, by its row.
-fn key_of(parts: &[Part], rows: &[Row], number: usize, nodes: &[u32]) -> i64
+fn key_of(parts: &[Part], rows: &[SortRow], number: usize, nodes: &[u32]) -> i64
     requires some { 0 < length nodes.now }
     requires part { number < length parts.now }
     requires row { number < length rows.now }
@@ -52,7 +52,7 @@ fn key_of(parts: &[Part], rows: &[Row], number: usize, nodes: &[u32]) -> i64
     key_over(row.numbers.as_slice(), least, nodes)
 }
 
-#[tactic(auto, unfolding(crate::specs::Reading::is_least))]
+#[tactic(auto, unfolding(crate::specs::Internal::Reading::is_least))]
 fn is_least(filter: &Filter) -> bool
     ensures { result ≡ is_least (filter_tree filter.now) }
 {

@@ -9,7 +9,7 @@ ghost use Rattle.cql_syntax.specs.Meaning.{value};
 ghost use Rattle.cql_syntax.specs.Trees.{FilterTree, FilterTrees};
 ghost use Rattle.cql_syntax.specs.Unplaced.{same_unplaced};
 ghost use Rattle.cql_syntax.specs.Values.{holds};
-ghost use Rattle.cq_shared.specs.Alone.{stands_alone};
+ghost use Rattle.cq_shared.specs.StandaloneFilters.{stands_alone};
 ghost use Rattle.cq_shared.specs.Parts.{query_parts, alone};
 
 /// A query has a hit at a node exactly where all of its parts hold there.

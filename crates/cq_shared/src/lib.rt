@@ -4,23 +4,23 @@
 //! part in a game; `specs/Verdicts` the result of each query.
 #![tactic(auto)]
 
-mod asking;
-mod beginning;
+mod part_values;
+mod first_nodes;
 mod finding;
-mod found;
+mod collecting;
 mod keys;
-mod known;
+mod interning;
 pub mod laws;
 mod matching;
 mod narrowing;
 mod nodes;
 mod part;
 mod plan;
-mod several;
+mod many_queries;
 mod single;
 mod table;
 mod verdicts;
 
 pub use plan::SharedPlan;
-pub use several::match_all;
+pub use many_queries::match_all;
 pub use verdicts::Verdicts;

@@ -2,10 +2,10 @@
 ghost use Rattle.std.specs.Prelude.{true, IfOk};
 ghost use Rattle.cq_shared.specs.Matching.{sort_class, is_before, is_class, AreLeft, AreReady, IsReady};
 ghost use Rattle.cq_shared.specs.Matching.{IsNarrowedBy, IsNarrowedIf, HasRow, HaveRows};
-ghost use Rattle.cq_shared.specs.Wanted.{TakesAtMost, TakeAtMost};
+ghost use Rattle.cq_shared.specs.StepBounds.{TakesAtMost, TakeAtMost};
 
-use crate::asking::asked_at;
-use crate::{Narrowed, Nodes, Part, Row, Sorted, narrowed, wanted_nodes};
+use crate::part_values::values_at;
+use crate::{NarrowedNodes, NodeSet, Part, SortRow, SortedNodes, narrowed, wanted_nodes};
 use cq_common::{NoMemory, Steps};
 use cql_pruning::order::SORTS;
 use pgn_tree::Game;
@@ -14,33 +14,33 @@ use std::sync::ledger::Ledger;
 
 /// The nodes that are left to each query after all parts but the sort items. Parts are asked in the order of their classes, a guess at
 /// what they cost.
-pub(crate) fn left_by<L: Ledger>(
+pub(crate) fn nodes_left_by<L: Ledger>(
     alloc: Global,
     parts: &[Part],
     game: &Game,
-    began: Vec<Nodes>,
+    start_nodes: Vec<NodeSet>,
     steps: &mut Steps<L>,
-) -> Result<Vec<Nodes>, NoMemory>
-    requires ready { AreReady game.now began.items parts.now }
-    ensures left { IfOk result (λ left. AreLeft (is_before sort_class) game.now parts.now began.items left.items) }
-    ensures cost { TakeAtMost (is_before sort_class) game.now parts.now began.items steps.old steps.new }
+) -> Result<Vec<NodeSet>, NoMemory>
+    requires ready { AreReady game.now start_nodes.items parts.now }
+    ensures left { IfOk result (λ left. AreLeft (is_before sort_class) game.now parts.now start_nodes.items left.items) }
+    ensures cost { TakeAtMost (is_before sort_class) game.now parts.now start_nodes.items steps.old steps.new }
 {
-    let mut left = began;
+    let mut left = start_nodes;
     for class in 0..SORTS {
-        left = ask_class(alloc, class, parts, game, left, steps)?;
+        left = narrow_by_class(alloc, class, parts, game, left, steps)?;
     }
     Ok(left)
 }
 
 // The nodes that are left to each query after the parts of a class.
-fn ask_class<L: Ledger>(
+fn narrow_by_class<L: Ledger>(
     alloc: Global,
     class: u32,
     parts: &[Part],
     game: &Game,
-    left: Vec<Nodes>,
+    left: Vec<NodeSet>,
     steps: &mut Steps<L>,
-) -> Result<Vec<Nodes>, NoMemory>
+) -> Result<Vec<NodeSet>, NoMemory>
     requires ready { AreReady game.now left.items parts.now }
     ensures left { IfOk result (λ later. AreLeft (is_class class) game.now parts.now left.items later.items) }
     ensures cost { TakeAtMost (is_class class) game.now parts.now left.items steps.old steps.new }
@@ -58,9 +58,9 @@ fn after_if<L: Ledger>(
     class: u32,
     part: &Part,
     game: &Game,
-    left: Vec<Nodes>,
+    left: Vec<NodeSet>,
     steps: &mut Steps<L>,
-) -> Result<Vec<Nodes>, NoMemory>
+) -> Result<Vec<NodeSet>, NoMemory>
     requires ready { IsReady game.now left.items part.now }
     ensures left { IfOk result (λ later. IsNarrowedIf (is_class class) game.now part.now left.items later.items) }
     ensures cost { TakesAtMost (is_class class) game.now part.now left.items steps.old steps.new }
@@ -78,32 +78,32 @@ fn after<L: Ledger>(
     alloc: Global,
     part: &Part,
     game: &Game,
-    left: Vec<Nodes>,
+    left: Vec<NodeSet>,
     steps: &mut Steps<L>,
-) -> Result<Narrowed, NoMemory>
+) -> Result<NarrowedNodes, NoMemory>
     requires ready { IsReady game.now left.items part.now }
     ensures left { IfOk result (λ n. IsNarrowedBy game.now part.now left.items n.left.items) }
     ensures row { IfOk result (λ n. HasRow game.now n.left.items part.now n.row.numbers.items) }
     ensures cost { TakesAtMost (λ p. true) game.now part.now left.items steps.old steps.new }
 {
     let live = wanted_nodes(alloc, part, game, left.as_slice())?;
-    let asked = asked_at(alloc, part, game, live.as_slice(), steps)?;
+    let asked = values_at(alloc, part, game, live.as_slice(), steps)?;
     let truths = asked.truths;
     let later = narrowed(alloc, part, game, left, live.as_slice(), truths.as_slice())?;
-    let row = Row {
+    let row = SortRow {
         numbers: asked.numbers,
     };
-    Ok(Narrowed { left: later, row })
+    Ok(NarrowedNodes { left: later, row })
 }
 
 /// The nodes that are left to each query after the sort items, and the numbers of these there.
-pub(crate) fn sorted_by<L: Ledger>(
+pub(crate) fn sort_rows_by<L: Ledger>(
     alloc: Global,
     parts: &[Part],
     game: &Game,
-    left: Vec<Nodes>,
+    left: Vec<NodeSet>,
     steps: &mut Steps<L>,
-) -> Result<Sorted, NoMemory>
+) -> Result<SortedNodes, NoMemory>
     requires ready { AreReady game.now left.items parts.now }
     ensures left { IfOk result (λ s. AreLeft (is_class sort_class) game.now parts.now left.items s.left.items) }
     ensures rows { IfOk result (λ s. HaveRows game.now s.left.items parts.now s.rows.items) }
@@ -116,7 +116,7 @@ pub(crate) fn sorted_by<L: Ledger>(
         later = sorted.left;
         rows.push(sorted.row)?;
     }
-    Ok(Sorted { left: later, rows })
+    Ok(SortedNodes { left: later, rows })
 }
 
 // The nodes that are left after a part, where it is a sort item, and its numbers there.
@@ -124,19 +124,19 @@ fn after_sort_if<L: Ledger>(
     alloc: Global,
     part: &Part,
     game: &Game,
-    left: Vec<Nodes>,
+    left: Vec<NodeSet>,
     steps: &mut Steps<L>,
-) -> Result<Narrowed, NoMemory>
+) -> Result<NarrowedNodes, NoMemory>
     requires ready { IsReady game.now left.items part.now }
     ensures left { IfOk result (λ s. IsNarrowedIf (is_class sort_class) game.now part.now left.items s.left.items) }
     ensures row { IfOk result (λ s. HasRow game.now s.left.items part.now s.row.numbers.items) }
     ensures cost { TakesAtMost (is_class sort_class) game.now part.now left.items steps.old steps.new }
 {
     if part.class != SORTS {
-        let row = Row {
+        let row = SortRow {
             numbers: Vec::new(alloc),
         };
-        return Ok(Narrowed { left, row });
+        return Ok(NarrowedNodes { left, row });
     }
     let sorted = after(alloc, part, game, left, steps)?;
     Ok(sorted)

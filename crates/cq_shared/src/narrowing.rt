@@ -1,10 +1,10 @@
 //! The nodes that are left to queries after a part.
 ghost use Rattle.std.specs.Prelude.{◌≡◌, ℕ, ◌<◌, ◌&&◌, ◌||◌, not, length, true, false, get_or, IfOk};
 ghost use Rattle.std.specs.List.{list_any};
-ghost use Rattle.cql_columns.specs.Columns.{AreAsked};
-ghost use Rattle.cq_shared.specs.Matching.{tree_for, is_left, is_asked_by, IsReady, CoversWanted, IsTold, IsNarrowedBy};
+ghost use Rattle.cql_columns.specs.Columns.{IsNodeSet};
+ghost use Rattle.cq_shared.specs.Matching.{tree_for, is_left, is_owned_by, IsReady, CoversWanted, ArePartTruths, IsNarrowedBy};
 
-use crate::nodes::Nodes;
+use crate::nodes::NodeSet;
 use crate::part::Part;
 use cq_common::NoMemory;
 use cql_operators::narrow::keep_true;
@@ -16,32 +16,32 @@ pub fn wanted_nodes(
     alloc: Global,
     part: &Part,
     game: &Game,
-    left: &[Nodes],
+    left: &[NodeSet],
 ) -> Result<Vec<bool>, NoMemory>
     requires ready { IsReady game.now left.now part.now }
-    ensures { IfOk result (λ live. AreAsked (tree_for game.now part.now) live.items × CoversWanted part.now left.now live.items) }
+    ensures { IfOk result (λ live. IsNodeSet (tree_for game.now part.now) live.items × CoversWanted part.now left.now live.items) }
 {
     let mut live = Vec::with_capacity(alloc, game.len() as usize)?;
     for n in 0..game.len() {
-        let there = is_wanted(&part.askers, left, n as usize);
+        let there = is_wanted(&part.owners, left, n as usize);
         live.push(there)?;
     }
     Ok(live)
 }
 
 // Whether one of these queries still wants a node.
-fn is_wanted(askers: &[u32], left: &[Nodes], n: usize) -> bool
-    ensures { result ≡ list_any (λ q. is_left left.now q n) askers.now }
+fn is_wanted(owners: &[u32], left: &[NodeSet], n: usize) -> bool
+    ensures { result ≡ list_any (λ q. is_left left.now q n) owners.now }
 {
-    for k in 0..askers.len() {
-        if is_left(left, askers[k] as usize, n) {
+    for k in 0..owners.len() {
+        if is_left(left, owners[k] as usize, n) {
             return true;
         }
     }
     false
 }
 
-fn is_left(left: &[Nodes], q: usize, n: usize) -> bool
+fn is_left(left: &[NodeSet], q: usize, n: usize) -> bool
     ensures { result ≡ is_left left.now q n }
 {
     if q < left.len() {
@@ -52,13 +52,13 @@ fn is_left(left: &[Nodes], q: usize, n: usize) -> bool
 
 // Whether a query has the part.
 fn has(part: &Part, q: usize) -> bool
-    ensures { result ≡ is_asked_by q part.now }
+    ensures { result ≡ is_owned_by q part.now }
 {
-    part.askers.iter().any(|asker| *asker as usize == q)
+    part.owners.iter().any(|owner| *owner as usize == q)
 }
 
 /// Whether a node is in a set.
-pub(crate) fn is_there(nodes: &Nodes, n: usize) -> bool
+pub(crate) fn is_there(nodes: &NodeSet, n: usize) -> bool
     ensures { result ≡ get_or nodes.now.there.items n false }
 {
     nodes.there.get(n).copied().unwrap_or(false)
@@ -69,11 +69,11 @@ pub fn narrowed(
     alloc: Global,
     part: &Part,
     game: &Game,
-    left: Vec<Nodes>,
+    left: Vec<NodeSet>,
     live: &[bool],
     truths: &[bool],
-) -> Result<Vec<Nodes>, NoMemory>
-    requires told { IsTold game.now part.now live.now truths.now }
+) -> Result<Vec<NodeSet>, NoMemory>
+    requires told { ArePartTruths game.now part.now live.now truths.now }
     requires covers { CoversWanted part.now left.items live.now }
     ensures { IfOk result (λ later. IsNarrowedBy game.now part.now left.items later.items) }
 {
@@ -86,7 +86,7 @@ pub fn narrowed(
     Ok(later)
 }
 
-fn narrowed_if(wants: bool, left: Nodes, truths: &[bool]) -> Nodes
+fn narrowed_if(wants: bool, left: NodeSet, truths: &[bool]) -> NodeSet
     ensures { (n : ℕ) → get_or result.there.items n false
         ≡ (get_or left.there.items n false && (not wants || get_or truths.now n false)) }
 {
@@ -95,5 +95,5 @@ fn narrowed_if(wants: bool, left: Nodes, truths: &[bool]) -> Nodes
     }
     let mut there = left.there;
     keep_true(&mut there, truths);
-    Nodes { there }
+    NodeSet { there }
 }

@@ -2,33 +2,33 @@
 
 /// A set of nodes: a truth for each.
 #[derive(Drop)]
-pub struct Nodes {
+pub struct NodeSet {
     pub there: Vec<bool>,
 }
 
 /// The numbers of a sort item, a place for each node.
 #[derive(Drop)]
-pub struct Row {
+pub struct SortRow {
     pub numbers: Vec<Option<i64>>,
 }
 
 /// The nodes that are left to each query after the sort items, and a row for each part.
 #[derive(Drop)]
-pub struct Sorted {
-    pub left: Vec<Nodes>,
-    pub rows: Vec<Row>,
+pub struct SortedNodes {
+    pub left: Vec<NodeSet>,
+    pub rows: Vec<SortRow>,
 }
 
 /// The nodes that are left to each query after one part, and if this is a sort item, its row.
 #[derive(Drop)]
-pub struct Narrowed {
-    pub left: Vec<Nodes>,
-    pub row: Row,
+pub struct NarrowedNodes {
+    pub left: Vec<NodeSet>,
+    pub row: SortRow,
 }
 
 /// Whether a part holds, and if it is a sort item, its numbers, a place for each node.
 #[derive(Drop)]
-pub struct Asked {
+pub struct PartValues {
     pub truths: Vec<bool>,
     pub numbers: Vec<Option<i64>>,
 }

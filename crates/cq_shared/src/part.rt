@@ -13,13 +13,13 @@ use cql_syntax::Filter;
 pub struct Part {
     pub single: Single,
     pub class: u32,
-    pub askers: Vec<u32>,
+    pub owners: Vec<u32>,
     pub ghost class_is: { class ≡ filter_class (first_of (filters_tree single.query.items)) },
 }
 
 /// The filters of a query that are its parts, in their order, how many of them stand before its sort items, and its word `variations`.
 #[derive(Drop)]
-pub(crate) struct Listed {
+pub(crate) struct QueryParts {
     pub(crate) plan: Plan,
     pub(crate) filters: Vec<Filter>,
     pub(crate) sorts: usize,
@@ -28,7 +28,7 @@ pub(crate) struct Listed {
 
 /// A query, with the numbers of its parts in their order, and how many of them stand before its sort items.
 #[derive(Drop)]
-pub struct Asker {
+pub struct PartOwner {
     pub(crate) plan: Plan,
     pub(crate) numbers: Vec<usize>,
     pub(crate) sorts: usize,

@@ -1,6 +1,6 @@
 //! A filter by itself.
 ghost use Rattle.std.specs.Prelude.{◌≡◌, true};
-ghost use Rattle.cql_plan.specs.Joined.{HaveSameHits};
+ghost use Rattle.cql_plan.specs.Replacements.{HaveSameHits};
 ghost use Rattle.cql_syntax.specs.TreeOf.{filters_tree};
 ghost use Rattle.cq_shared.specs.Parts.{is_single};
 

@@ -1,23 +1,23 @@
 //! A table of the numbers of parts, by the texts of the parts: parts that are the same have one text, so they stand at one place.
 ghost use Rattle.std.specs.Prelude.{◌≡◌, ℕ, ◌<◌, ◌++◌, ◌∷◌, [], length, get_or, IfOk, OnOk};
-ghost use Rattle.cq_shared.specs.Places.{mixed, mixed_all, numbers_at};
+ghost use Rattle.cq_shared.specs.PartTables.{mixed, hash_bytes, numbers_at};
 
 use cq_common::NoMemory;
 use std::alloc::Global;
 
 /// The numbers at a place.
 #[derive(Drop)]
-pub(crate) struct Place {
+pub(crate) struct PartBucket {
     pub(crate) numbers: Vec<usize>,
 }
 
 /// Places without numbers, so many.
-pub(crate) fn empty_places(alloc: Global, many: usize) -> Result<Vec<Place>, NoMemory>
+pub(crate) fn empty_buckets(alloc: Global, many: usize) -> Result<Vec<PartBucket>, NoMemory>
     ensures { IfOk result (λ places. length places.items ≡ many) }
 {
     let mut places = Vec::new(alloc);
     for _place in 0..many {
-        places.push(Place {
+        places.push(PartBucket {
             numbers: Vec::new(alloc),
         })?;
     }
@@ -25,9 +25,9 @@ pub(crate) fn empty_places(alloc: Global, many: usize) -> Result<Vec<Place>, NoM
 }
 
 /// A number made of the bytes of a text.
-#[tactic(auto, unfolding(crate::specs::Places::mixed_all, crate::specs::Places::mixed))]
-pub(crate) fn mixed_of(text: &[u8]) -> u64
-    ensures { result ≡ mixed_all text.now }
+#[tactic(auto, unfolding(crate::specs::PartTables::hash_bytes, crate::specs::PartTables::mixed))]
+pub(crate) fn hash_of(text: &[u8]) -> u64
+    ensures { result ≡ hash_bytes text.now }
 {
     let mut mixed = 0u64;
     for byte in text {
@@ -37,7 +37,7 @@ pub(crate) fn mixed_of(text: &[u8]) -> u64
 }
 
 /// Adds a number at a place.
-pub(crate) fn put(places: &mut Vec<Place>, at: usize, number: usize) -> Result<(), NoMemory>
+pub(crate) fn put(places: &mut Vec<PartBucket>, at: usize, number: usize) -> Result<(), NoMemory>
     requires { at < length places.old.items }
     ensures len { OnOk result (length places.new.items ≡ length places.old.items) }
     ensures here { OnOk result (numbers_at places.new.items at ≡ numbers_at places.old.items at ++ number ∷ []) }

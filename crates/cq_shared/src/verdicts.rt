@@ -7,14 +7,14 @@ use cq_common::Shared;
 /// The hits of each query of a plan in a game, and by what it sorts the game.
 #[derive(Drop)]
 pub struct Verdicts {
-    pub(crate) found: Vec<Found>,
+    pub(crate) found: Vec<HitsAndKeys>,
 }
 
 impl Shared for Verdicts {}
 
 /// The hits of one query, and its keys.
 #[derive(Drop)]
-pub(crate) struct Found {
+pub(crate) struct HitsAndKeys {
     pub(crate) nodes: Vec<u32>,
     pub(crate) keys: Vec<i64>,
 }

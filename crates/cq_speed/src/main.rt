@@ -16,7 +16,7 @@ use std::rt::Env;
 
 /// What is measured.
 #[derive(Clone, Copy)]
-enum Job {
+enum SpeedJob {
     /// Lists of moves, texts of moves and perft, of positions, so many times.
     Moves(u32),
     /// Cutting and reading an archive.
@@ -24,15 +24,15 @@ enum Job {
 }
 
 // The words `moves ROUNDS` or `games`, after the program's name.
-fn job_asked(rt: &(impl Env + AllocGlobal)) -> Result<Job, SpeedFault> {
+fn read_job(rt: &(impl Env + AllocGlobal)) -> Result<SpeedJob, SpeedFault> {
     let mut args = env::args(rt)?.skip(1);
     let Some(word) = args.next() else {
         return Err(SpeedFault::Words);
     };
     match (word.as_str(), args.next()) {
-        ("games", None) => Ok(Job::Games),
+        ("games", None) => Ok(SpeedJob::Games),
         ("moves", Some(rounds)) => match rounds.as_str().parse::<u32>() {
-            Ok(rounds) => Ok(Job::Moves(rounds)),
+            Ok(rounds) => Ok(SpeedJob::Moves(rounds)),
             Err(_) => Err(SpeedFault::Words),
         },
         _ => Err(SpeedFault::Words),
@@ -46,12 +46,12 @@ fn input_of(alloc: Global, input: &mut impl Read) -> Result<Vec<u8>, SpeedFault>
 }
 
 fn measure(rt: &HostRuntime) -> Result<(), SpeedFault> {
-    let job = job_asked(rt)?;
+    let job = read_job(rt)?;
     let mut input = rt.stdin();
     let bytes = input_of(rt.alloc(), &mut input)?;
     match job {
-        Job::Moves(rounds) => moves::measure(rt, rt.alloc(), bytes.as_slice(), rounds),
-        Job::Games => games::measure(rt, rt.alloc(), bytes.as_slice()),
+        SpeedJob::Moves(rounds) => moves::measure(rt, rt.alloc(), bytes.as_slice(), rounds),
+        SpeedJob::Games => games::measure(rt, rt.alloc(), bytes.as_slice()),
     }
 }
 

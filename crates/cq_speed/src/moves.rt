@@ -86,13 +86,13 @@ fn positions_of(alloc: Global, text: &str) -> Result<Vec<Position>, SpeedFault> 
 
 /// The texts of the moves of positions, and the position of each.
 #[derive(Drop)]
-struct Texts<'a> {
+struct MoveTexts<'a> {
     owners: Vec<Position>,
     texts: Vec<&'a str>,
 }
 
-fn texts_of<'a>(alloc: Global, text: &'a str) -> Result<Texts<'a>, SpeedFault> {
-    let mut found = Texts {
+fn texts_of<'a>(alloc: Global, text: &'a str) -> Result<MoveTexts<'a>, SpeedFault> {
+    let mut found = MoveTexts {
         owners: Vec::new(alloc),
         texts: Vec::new(alloc),
     };
@@ -102,7 +102,7 @@ fn texts_of<'a>(alloc: Global, text: &'a str) -> Result<Texts<'a>, SpeedFault> {
     Ok(found)
 }
 
-fn add_texts<'a>(line: &'a str, found: &mut Texts<'a>) -> Result<(), SpeedFault> {
+fn add_texts<'a>(line: &'a str, found: &mut MoveTexts<'a>) -> Result<(), SpeedFault> {
     let (fen, moves) = parts_of(line)?;
     for san in moves.split(" ") {
         found.owners.push(position_of(fen)?)?;
@@ -151,7 +151,7 @@ fn measure_lists(
 
 fn measure_reading(
     rt: &(impl CpuClock + Print),
-    texts: &Texts<'_>,
+    texts: &MoveTexts<'_>,
     rounds: u32,
 ) -> Result<(), SpeedFault> {
     let start = rt.process_cpu_time()?;

@@ -7,36 +7,36 @@ use Rattle.cq_geometry.specs.Steps.{files_apart, is_king_step, is_knight_step}
 use Rattle.cq_geometry.specs.Lines.{is_orthogonal, is_diagonal}
 use Rattle.cq_geometry.proofs.Tables.{at_squares}
 use Rattle.cq_square_sets.specs.Bitboards.{IsBitboard, bit_of}
-use Rattle.cq_square_sets.specs.declared.leaps.TheConstants.{KING_STEPS, KNIGHT_STEPS}
-use Rattle.cq_square_sets.specs.declared.lines.TheConstants.{STRAIGHT_LINES, SLANTED_LINES}
+use Rattle.cq_square_sets.specs.declared.leaps.TheConstants.{KING_ATTACKS, KNIGHT_ATTACKS}
+use Rattle.cq_square_sets.specs.declared.lines.TheConstants.{ROOK_LINES, BISHOP_LINES}
 
-knights_table : map (λ a. map (λ k. bit_at (get_or KNIGHT_STEPS a 0) k) squares) squares ≡ map (λ a. map (λ k. bit_of (is_knight_step a k)) squares) squares
+knights_table : map (λ a. map (λ k. bit_at (get_or KNIGHT_ATTACKS a 0) k) squares) squares ≡ map (λ a. map (λ k. bit_of (is_knight_step a k)) squares) squares
 unfolding squares
 knights_table = refl
 
-pub knights_marked : (s : ℕ) → s < 64 → IsBitboard (get_or KNIGHT_STEPS s 0) (is_knight_step s)
-knights_marked s low = record { bit = λ k h. at_squares (λ a k. bit_at (get_or KNIGHT_STEPS a 0) k) (λ a k. bit_of (is_knight_step a k)) knights_table s k low h }
+pub knights_marked : (s : ℕ) → s < 64 → IsBitboard (get_or KNIGHT_ATTACKS s 0) (is_knight_step s)
+knights_marked s low = record { bit = λ k h. at_squares (λ a k. bit_at (get_or KNIGHT_ATTACKS a 0) k) (λ a k. bit_of (is_knight_step a k)) knights_table s k low h }
 
-kings_table : map (λ a. map (λ k. bit_at (get_or KING_STEPS a 0) k) squares) squares ≡ map (λ a. map (λ k. bit_of (is_king_step a k)) squares) squares
+kings_table : map (λ a. map (λ k. bit_at (get_or KING_ATTACKS a 0) k) squares) squares ≡ map (λ a. map (λ k. bit_of (is_king_step a k)) squares) squares
 unfolding squares
 kings_table = refl
 
-pub kings_marked : (s : ℕ) → s < 64 → IsBitboard (get_or KING_STEPS s 0) (is_king_step s)
-kings_marked s low = record { bit = λ k h. at_squares (λ a k. bit_at (get_or KING_STEPS a 0) k) (λ a k. bit_of (is_king_step a k)) kings_table s k low h }
+pub kings_marked : (s : ℕ) → s < 64 → IsBitboard (get_or KING_ATTACKS s 0) (is_king_step s)
+kings_marked s low = record { bit = λ k h. at_squares (λ a k. bit_at (get_or KING_ATTACKS a 0) k) (λ a k. bit_of (is_king_step a k)) kings_table s k low h }
 
-straight_table : map (λ a. map (λ k. bit_at (get_or STRAIGHT_LINES a 0) k) squares) squares ≡ map (λ a. map (λ k. bit_of (is_orthogonal a k)) squares) squares
+straight_table : map (λ a. map (λ k. bit_at (get_or ROOK_LINES a 0) k) squares) squares ≡ map (λ a. map (λ k. bit_of (is_orthogonal a k)) squares) squares
 unfolding squares
 straight_table = refl
 
-pub straight_marked : (s : ℕ) → s < 64 → IsBitboard (get_or STRAIGHT_LINES s 0) (is_orthogonal s)
-straight_marked s low = record { bit = λ k h. at_squares (λ a k. bit_at (get_or STRAIGHT_LINES a 0) k) (λ a k. bit_of (is_orthogonal a k)) straight_table s k low h }
+pub straight_marked : (s : ℕ) → s < 64 → IsBitboard (get_or ROOK_LINES s 0) (is_orthogonal s)
+straight_marked s low = record { bit = λ k h. at_squares (λ a k. bit_at (get_or ROOK_LINES a 0) k) (λ a k. bit_of (is_orthogonal a k)) straight_table s k low h }
 
-slanted_table : map (λ a. map (λ k. bit_at (get_or SLANTED_LINES a 0) k) squares) squares ≡ map (λ a. map (λ k. bit_of (is_diagonal a k)) squares) squares
+slanted_table : map (λ a. map (λ k. bit_at (get_or BISHOP_LINES a 0) k) squares) squares ≡ map (λ a. map (λ k. bit_of (is_diagonal a k)) squares) squares
 unfolding squares
 slanted_table = refl
 
-pub slanted_marked : (s : ℕ) → s < 64 → IsBitboard (get_or SLANTED_LINES s 0) (is_diagonal s)
-slanted_marked s low = record { bit = λ k h. at_squares (λ a k. bit_at (get_or SLANTED_LINES a 0) k) (λ a k. bit_of (is_diagonal a k)) slanted_table s k low h }
+pub slanted_marked : (s : ℕ) → s < 64 → IsBitboard (get_or BISHOP_LINES s 0) (is_diagonal s)
+slanted_marked s low = record { bit = λ k h. at_squares (λ a k. bit_at (get_or BISHOP_LINES a 0) k) (λ a k. bit_of (is_diagonal a k)) slanted_table s k low h }
 
 -- one rank up, or one rank down, on the files beside
 abbrev pub is_up : ℕ → ℕ → Bool

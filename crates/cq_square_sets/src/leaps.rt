@@ -9,23 +9,23 @@ use cq_geometry::Square;
 
 /// The squares a king's step away.
 #[inline]
-pub fn king_steps(from: Square) -> u64
+pub fn king_attacks(from: Square) -> u64
     ensures { IsBitboard result (is_king_step from) }
 {
-    KING_STEPS[usize::from(from.number())]
+    KING_ATTACKS[usize::from(from.number())]
 }
 
 /// The squares a knight's step away.
 #[inline]
-pub fn knight_steps(from: Square) -> u64
+pub fn knight_attacks(from: Square) -> u64
     ensures { IsBitboard result (is_knight_step from) }
 {
-    KNIGHT_STEPS[usize::from(from.number())]
+    KNIGHT_ATTACKS[usize::from(from.number())]
 }
 
 /// The squares one rank up on the files beside a square's.
 #[inline]
-pub fn steps_up(from: Square) -> u64
+pub fn white_pawn_attacks(from: Square) -> u64
     ensures { IsBitboard result (λ to. (rank_of to == rank_of from + 1) && (files_apart from to == 1)) }
 {
     let square = 1 << from.number();
@@ -34,14 +34,14 @@ pub fn steps_up(from: Square) -> u64
 
 /// The squares one rank down on the files beside a square's.
 #[inline]
-pub fn steps_down(from: Square) -> u64
+pub fn black_pawn_attacks(from: Square) -> u64
     ensures { IsBitboard result (λ to. (rank_of from == rank_of to + 1) && (files_apart from to == 1)) }
 {
     let square = 1 << from.number();
     (square & NOT_H_FILE) >> 7 | (square & NOT_A_FILE) >> 9
 }
 
-const KING_STEPS: [u64; 64] = [
+const KING_ATTACKS: [u64; 64] = [
     0x0000_0000_0000_0302,
     0x0000_0000_0000_0705,
     0x0000_0000_0000_0e0a,
@@ -108,7 +108,7 @@ const KING_STEPS: [u64; 64] = [
     0x40c0_0000_0000_0000,
 ];
 
-const KNIGHT_STEPS: [u64; 64] = [
+const KNIGHT_ATTACKS: [u64; 64] = [
     0x0000_0000_0002_0400,
     0x0000_0000_0005_0800,
     0x0000_0000_000a_1100,

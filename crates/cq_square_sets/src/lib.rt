@@ -10,7 +10,7 @@ mod rays;
 pub mod sets;
 pub mod slides;
 
-pub use leaps::{king_steps, knight_steps, steps_down, steps_up};
-pub use lines::{slanted_lines, slanted_squares, straight_lines, straight_squares};
-pub use sets::{highest_square, lowest_square, mark, meets};
+pub use leaps::{king_attacks, knight_attacks, black_pawn_attacks, white_pawn_attacks};
+pub use lines::{bishop_lines, bishop_attacks, rook_lines, rook_attacks};
+pub use sets::{highest_square, lowest_square, set_of, meets};
 pub use slides::{BitSet64, slide};

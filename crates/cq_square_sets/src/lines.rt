@@ -10,23 +10,23 @@ use cq_geometry::Square;
 
 /// The other squares of a square's file and rank.
 #[inline]
-pub fn straight_lines(from: Square) -> u64
+pub fn rook_lines(from: Square) -> u64
     ensures { IsBitboard result (is_orthogonal from) }
 {
-    STRAIGHT_LINES[usize::from(from.number())]
+    ROOK_LINES[usize::from(from.number())]
 }
 
 /// The other squares of a square's diagonals.
 #[inline]
-pub fn slanted_lines(from: Square) -> u64
+pub fn bishop_lines(from: Square) -> u64
     ensures { IsBitboard result (is_diagonal from) }
 {
-    SLANTED_LINES[usize::from(from.number())]
+    BISHOP_LINES[usize::from(from.number())]
 }
 
 /// The squares along a square's file and rank, up to and with the first on each side that is not empty.
 #[inline]
-pub fn straight_squares(from: Square, empty: u64) -> u64
+pub fn rook_attacks(from: Square, empty: u64) -> u64
     ensures { (occupied : ℕ → Bool) → IsBitboard empty (λ k. not (occupied k)) →
         IsBitboard result (λ to. is_orthogonal from to && is_open occupied from to) }
 {
@@ -39,7 +39,7 @@ pub fn straight_squares(from: Square, empty: u64) -> u64
 
 /// The squares along a square's diagonals, up to and with the first on each side that is not empty.
 #[inline]
-pub fn slanted_squares(from: Square, empty: u64) -> u64
+pub fn bishop_attacks(from: Square, empty: u64) -> u64
     ensures { (occupied : ℕ → Bool) → IsBitboard empty (λ k. not (occupied k)) →
         IsBitboard result (λ to. is_diagonal from to && is_open occupied from to) }
 {
@@ -74,7 +74,7 @@ const A1: u64 = 1;
 
 const H8: u64 = 0x8000_0000_0000_0000;
 
-const STRAIGHT_LINES: [u64; 64] = [
+const ROOK_LINES: [u64; 64] = [
     0x0101_0101_0101_01fe,
     0x0202_0202_0202_02fd,
     0x0404_0404_0404_04fb,
@@ -141,7 +141,7 @@ const STRAIGHT_LINES: [u64; 64] = [
     0x7f80_8080_8080_8080,
 ];
 
-const SLANTED_LINES: [u64; 64] = [
+const BISHOP_LINES: [u64; 64] = [
     0x8040_2010_0804_0200,
     0x0080_4020_1008_0500,
     0x0000_8040_2011_0a00,

@@ -9,7 +9,7 @@ use cq_geometry::Square;
 
 /// The set of a square alone, or of none where there is no square.
 #[inline]
-pub fn mark(square: Option<Square>) -> u64
+pub fn set_of(square: Option<Square>) -> u64
     ensures { IsBitboard result (is_goal square) }
 {
     match square {

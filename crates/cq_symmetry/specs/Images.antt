@@ -46,8 +46,8 @@ abbrev pub turn : {A : Type 0} → (A → A) → ℕ → A → A → A × A
 turn back symmetry f r = slice_index_or (turns back f r) (symmetry - 1) (f, r)
 
 -- the file and the rank to which a symmetry takes a square
-abbrev pub turned_place : ℕ → ℕ → ℕ × ℕ
-turned_place symmetry square = turn (λ n. 7 - n) symmetry (file_of square) (rank_of square)
+abbrev pub image_place : ℕ → ℕ → ℕ × ℕ
+image_place symmetry square = turn (λ n. 7 - n) symmetry (file_of square) (rank_of square)
 
 -- a shift by so many, but for a part that stands still
 abbrev pub unless : Bool → ℤ → ℤ
@@ -58,8 +58,8 @@ unless stays by = if stays then pos 0 else by
 abbrev pub image_square : PlainMapping → SquarePart → ℕ → Option ℕ
 image_square m part square =
     square_on_board
-    (pos (turned_place m.symmetry square).0 +ℤ unless part.whole_ranks m.east)
-    (pos (turned_place m.symmetry square).1 +ℤ unless part.whole_files m.north)
+    (pos (image_place m.symmetry square).0 +ℤ unless part.whole_ranks m.east)
+    (pos (image_place m.symmetry square).1 +ℤ unless part.whole_files m.north)
 
 -- there is a square, and it is this one
 abbrev pub is_square : Option ℕ → ℕ → Bool
@@ -110,7 +110,7 @@ is_light square = (file_of square + rank_of square) % 2 == 1
 
 -- the square to which a symmetry takes a square
 abbrev pub turned_square : ℕ → ℕ → ℕ
-turned_square symmetry square = square_of (turned_place symmetry square).0 (turned_place symmetry square).1
+turned_square symmetry square = square_of (image_place symmetry square).0 (image_place symmetry square).1
 
 -- one of two squares is light, and the other dark
 abbrev pub other_color : ℕ → ℕ → Bool

@@ -70,7 +70,7 @@ fn turned_part(m: Mapping, part: SquarePart, squares: u64) -> Option<SquarePart>
 fn image_of_one(m: &Mapping, part: &SquarePart, square: Square, place: (u8, u8)) -> u64
     requires file { place.0 < 8 }
     requires rank { place.1 < 8 }
-    requires turned { (place.0, place.1) ≡ spec.turned_place m.now.symmetry square }
+    requires turned { (place.0, place.1) ≡ spec.image_place m.now.symmetry square }
     ensures { result ≡ spec.mask_of (λ goal. spec.is_image m.now part.now goal square) }
 {
     if !is_in(part.squares, square) {

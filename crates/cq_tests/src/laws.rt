@@ -1,7 +1,7 @@
 //! Laws of cuts, of readers and of lines, which nothing else calls, and what those of lines ask of a game.
 use cq_common::Refusal;
 use pgn_json::{
-    games_are_kept, lines_are_json, lines_are_utf8, same_lines_have_the_same_game,
+    games_have_valid_nodes, lines_are_json, lines_are_utf8, same_lines_have_the_same_game,
     strings_are_read_back, texts_are_bytes,
 };
 use pgn_laws::{markers_end_games, split_games_are_read_alike};
@@ -15,7 +15,7 @@ const GAME: &[u8] =
 
 fn is_kept_with_bytes(alloc: Global) -> Result<bool, Refusal<GameFault>> {
     let game = read_game(alloc, GAME, 0, true)?;
-    Ok(games_are_kept(&game) && texts_are_bytes(&game))
+    Ok(games_have_valid_nodes(&game) && texts_are_bytes(&game))
 }
 
 #[test]

@@ -10,9 +10,9 @@ use std::alloc::Global;
 use std::test::Fail;
 
 /// A row of the table: a text, and the place, the length and the kind of each of its tokens.
-type Row<'a> = (&'a [u8], &'a [(u64, u32, TokenKind)]);
+type LexerCase<'a> = (&'a [u8], &'a [(u64, u32, TokenKind)]);
 
-static ROWS: [Row<'static>; 25] = [
+static ROWS: [LexerCase<'static>; 25] = [
     (b"", &[]),
     (b" \t\n\x0b\x0c\r ", &[]),
     (
@@ -138,7 +138,7 @@ fn has_tokens(alloc: Global, text: &[u8], want: &[(u64, u32, TokenKind)]) -> Res
     Ok(are_tokens(tokens(alloc, text, 1000, true)?.as_slice(), want))
 }
 
-fn is_right(alloc: Global, row: &Row<'_>) -> Result<bool, Fail> {
+fn is_right(alloc: Global, row: &LexerCase<'_>) -> Result<bool, Fail> {
     if row.0.len() > 64 {
         return Ok(false);
     }

@@ -6,9 +6,9 @@ use std::alloc::Global;
 use std::test::Fail;
 
 /// A seed, a number of games, and their archive.
-type Row<'a> = (u32, u32, &'a str);
+type MakerCase<'a> = (u32, u32, &'a str);
 
-static ROWS: [Row<'static>; 3] = [
+static ROWS: [MakerCase<'static>; 3] = [
     (4_294_967_295, 0, ""),
     (
         67,
@@ -59,7 +59,7 @@ g4 Qb5 15. Rf4 g5 16. Kg3 Qb6 17. e4 Qg6 18. exf5 Ra7 19. Kf3 Ke7 20. d3 *
 ];
 
 // Whether the archive is made; no row has more than 100,000 games.
-fn is_right(alloc: Global, row: &Row<'_>) -> Result<bool, NoMemory> {
+fn is_right(alloc: Global, row: &MakerCase<'_>) -> Result<bool, NoMemory> {
     if row.1 > 100_000 {
         return Ok(false);
     }

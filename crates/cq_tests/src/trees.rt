@@ -8,9 +8,9 @@ use std::alloc::Global;
 const BRANCHED: &[u8] = b"1. e4 (1. d4) (1. c4) e5 *";
 
 /// Two nodes, and the path down from the first to the second.
-type Path<'a> = (u32, u32, Option<&'a [u32]>);
+type PathCase<'a> = (u32, u32, Option<&'a [u32]>);
 
-static PATHS: [Path<'static>; 5] = [
+static PATHS: [PathCase<'static>; 5] = [
     (0, 2, Some(&[0, 1, 2])),
     (0, 4, Some(&[0, 4])),
     (1, 1, Some(&[1])),
@@ -19,7 +19,7 @@ static PATHS: [Path<'static>; 5] = [
 ];
 
 // Whether this is the path; not so where the numbers are no nodes.
-fn has_path(game: &Game, path: &Path<'_>) -> Result<bool, NoMemory> {
+fn has_path(game: &Game, path: &PathCase<'_>) -> Result<bool, NoMemory> {
     let (from, to, want) = *path;
     if from >= game.len() || to >= game.len() {
         return Ok(false);

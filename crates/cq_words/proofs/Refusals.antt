@@ -6,7 +6,7 @@ use Rattle.clap.specs.declared.error.kind.ErrorKind.TheVariants.{OutOfMemory}
 use Rattle.cq_common.specs.declared.faults.Refusal.TheVariants.{Fault}
 use Rattle.cq_words.specs.declared.job.WordsRefused.{WordsRefused}
 use Rattle.cq_words.specs.Line.{line}
-use Rattle.cq_words.specs.Promises.{IsRefused}
+use Rattle.cq_words.specs.Internal.Promises.{IsRefused}
 
 only_memory : (kinds : Kinds) (e : Error) → HasKind kinds e → kinds ≡ [] → kind_of e ≡ OutOfMemory
 only_memory [] e (inl memory) empty = memory

@@ -111,8 +111,8 @@ job_in rows = option_and_then (λ word. option_and_then (λ query.
 
 -- the job of words of which `clap` promises matches that keep the rules; none of words that it promises to refuse, or
 -- whose matches break a rule
-abbrev pub asked : List Text → Option Job
-asked words = if is_empty (fault_of line words) then job_in (matches_of line words) else None
+abbrev pub job_of_words : List Text → Option Job
+job_of_words words = if is_empty (fault_of line words) then job_in (matches_of line words) else None
 
 -- what a call answers about a job that is asked, or about none: the job, a refusal of the words, or out of memory
 abbrev pub Answers : {T : Type 0} → Option T → Result T (Refusal WordsRefused) → Type 0

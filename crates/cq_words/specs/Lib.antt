@@ -1,3 +1,3 @@
 pub mod Line
 pub mod Jobs
-pub mod Promises
+pub mod Internal

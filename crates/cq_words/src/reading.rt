@@ -3,9 +3,9 @@ ghost use Rattle.std.specs.Prelude.{◌≡◌, IfOk, MatchResult, map, true};
 ghost use Rattle.std.specs.String.{string_bytes};
 ghost use Rattle.clap.specs.Words.{found_of, matches_of, rows_of, takes};
 ghost use Rattle.cq_words.specs.declared.mode.Mode.TheVariants as modes;
-ghost use Rattle.cq_words.specs.Jobs.{Answers, IsInRange, asked, job_by, job_in};
+ghost use Rattle.cq_words.specs.Jobs.{Answers, IsInRange, job_of_words, job_by, job_in};
 ghost use Rattle.cq_words.specs.Line.{line};
-ghost use Rattle.cq_words.specs.Promises.{HasMatches, IsRefused};
+ghost use Rattle.cq_words.specs.Internal.Promises.{HasMatches, IsRefused};
 
 use crate::job::{Job, WordsRefused};
 use crate::line;
@@ -173,7 +173,7 @@ fn job_in(alloc: Global, matches: &ArgMatches<'_>) -> Result<Job, Refusal<WordsR
 /// What the words after the program's name ask. They are refused exactly where `clap` refuses them for another cause than memory, or
 /// gives matches that break a rule: on the mode, on the archive, or on the options that a mode allows.
 pub fn read_words(alloc: Global, words: &[String]) -> Result<Job, Refusal<WordsRefused>>
-    ensures value { Answers (asked (map string_bytes words.now)) result }
+    ensures value { Answers (job_of_words (map string_bytes words.now)) result }
     ensures taken { takes line (map string_bytes words.now) ≡ true
         → Answers (job_in (matches_of line (map string_bytes words.now))) result }
     ensures ranges { IfOk result IsInRange }

@@ -10,9 +10,9 @@ use Rattle.cq_board.specs.declared.seat.Board.{Board}
 use Rattle.cq_board.specs.declared.seat.ClaimSeat.{ClaimSeat}
 use Rattle.cq_board.specs.Draws.{times, times_in}
 use Rattle.cq_board.specs.Seats.{numbers_of, seats_of, IsSeatOf, drawn, all_drawn, HasEnded}
-use Rattle.cq_workers.specs.declared.crew.Worker.{Worker}
-use Rattle.cq_workers.specs.Crew.{HasWorked, IsFresh, IsThrough}
-use Rattle.cq_workers.specs.Made.{AddsOne, AreMadeOf, Share, those}
+use Rattle.cq_workers.specs.declared.workers.Worker.{Worker}
+use Rattle.cq_workers.specs.Internal.WorkerStates.{HasWorked, IsFresh, IsThrough}
+use Rattle.cq_workers.specs.Outputs.{AddsOne, AreMadeOf, Share, those}
 use Rattle.cq_workers.proofs.Counting.{not_same, times_more}
 
 -- ---- drawing
@@ -64,7 +64,7 @@ goes_on HasMade board s kept kept' was now turn before drew_one = record {
 
 -- the worker with this seat
 abbrev pub with_seat : {K X : Type 0} → Worker K X → ClaimSeat → Worker K X
-with_seat w s = record { seat = s; kept = w.kept; made = w.made; starved = w.starved }
+with_seat w s = record { seat = s; kept = w.kept; made = w.made; is_out_of_memory = w.is_out_of_memory }
 
 pub ends : {K X : Type 0} (HasMade : K → List ℕ → List X → Type 0) (board : Board) (w : Worker K X) (s : ClaimSeat) (number : ℕ)
     → HasMade w.kept (drawn w.seat) w.made.items → IsSeatOf board s → HasEnded s → drawn s ≡ drawn w.seat ++ number ∷ [] → numbers_of board ≤ number
@@ -102,16 +102,16 @@ pub record IsGathering {K X : Type 0} (HasMade : K → List ℕ → List X → T
 
 pub gathers : {K X : Type 0} (HasMade : K → List ℕ → List X → Type 0) (board : Board) (left : List (Worker K X)) (all : Gathered K X)
     → All (HasWorked HasMade board) left → length left ≡ seats_of board → all.seats ≡ [] → all.kept ≡ [] → all.made ≡ [] → IsGathering HasMade board left all
-gathers {K} {X} HasMade board left all worked count none nothing_kept nothing = record {
+gathers {K} {X} HasMade board left all worked count none unit_states nothing = record {
   worked = worked;
   taken = subst (All (IsSeatOf board)) (sym none) (All-nil (IsSeatOf board));
   ended = subst (All HasEnded) (sym none) (All-nil HasEnded);
   count = let e : length all.seats ≡ 0 = ap length none in omega (arith, e, count);
-  count_kept = let e : length all.kept ≡ 0 = ap length nothing_kept in omega (arith, e, count);
+  count_kept = let e : length all.kept ≡ 0 = ap length unit_states in omega (arith, e, count);
   shares = [];
   each = All-nil (λ (s : Share K X). HasMade s.kept s.numbers s.made);
   drawn_ = λ x less. ap (λ l. times_in x (all_drawn l)) none;
-  kept_ = nothing_kept;
+  kept_ = unit_states;
   made_ = nothing;
 }
 
@@ -135,7 +135,7 @@ pub record TookOne {K X : Type 0} (left rest : List (Worker K X)) (w : Worker K 
   pub more : now.made ≡ all.made ++ w.made.items
 
 pub gathers_one : {K X : Type 0} (HasMade : K → List ℕ → List X → Type 0) (board : Board) (left rest : List (Worker K X)) (w : Worker K X) (all now : Gathered K X)
-    → IsGathering HasMade board left all → TookOne left rest w all now → w.starved ≡ false → IsGathering HasMade board rest now
+    → IsGathering HasMade board left all → TookOne left rest w all now → w.is_out_of_memory ≡ false → IsGathering HasMade board rest now
 gathers_one {K} {X} HasMade board left rest w all now was one fed =
     let p = All-pop (HasWorked HasMade board) left rest (Some w) one.left_ was.worked in
     let through : IsThrough HasMade board w = p.1 fed in

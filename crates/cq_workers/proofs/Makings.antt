@@ -5,8 +5,8 @@ use Rattle.std.proofs.lemmas.List.Elements.{All-append, All-head, All-nil, All-p
 use Rattle.std.proofs.lemmas.List.Sums.{sum_by-append, sum_by-cons}
 use Rattle.cq_board.proofs.Increasing.{one_if}
 use Rattle.cq_board.specs.Draws.{times, times_in}
-use Rattle.cq_workers.specs.Made.{AreMadeOf, Share}
-use Rattle.cq_workers.specs.Numbered.{AreMade, HasMade, IsNumbered, IsOfSome, made_at}
+use Rattle.cq_workers.specs.Outputs.{AreMadeOf, Share}
+use Rattle.cq_workers.specs.NumberedOutputs.{AreMade, HasMade, IsNumbered, IsOfSome, made_at}
 use Rattle.cq_workers.proofs.Counting.{made_more, same_bool, times_more}
 
 -- ---- by one worker

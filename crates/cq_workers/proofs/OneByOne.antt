@@ -3,7 +3,7 @@ use Rattle.std.proofs.Common.{◌≡◌, refl, sym, subst, ap, ℕ, zero, suc, �
 use Rattle.std.proofs.lemmas.List.{take_all}
 use denote.Param.Members.{Shared}
 use Rattle.std.specs.Fork.{AcceptsAt, AcceptsEach, ChangesAt, ChangesEach}
-use Rattle.cq_workers.specs.Starts.{AcceptsFrom, ChangesFrom, MayLeave}
+use Rattle.cq_workers.specs.Internal.Starts.{AcceptsFrom, ChangesFrom, MayLeave}
 
 module _ {F T : Type 0} (g : Shared F (ℕ × (MutBor T × Unit {0})) ((Unit {0}) × (MutBor T × Unit {0}))) (f : F) where
   accepts_from : (i : ℕ) (xs : List T) → ((k : ℕ) (p : MutBor T) → k < length xs → p.now ≡ slice_index_or xs k p.now → g.pre f (i + k, (p, tt))) → AcceptsFrom g f i xs

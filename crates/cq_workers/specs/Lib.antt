@@ -1,4 +1,3 @@
-pub mod Made
-pub mod Numbered
-pub mod Crew
-pub mod Starts
+pub mod Outputs
+pub mod NumberedOutputs
+pub mod Internal

@@ -1,9 +1,9 @@
 //! Workers that draw games by their numbers, each game once and by one worker, and make something of each.
 #![tactic(auto)]
 
-mod crew;
-mod maker;
+mod workers;
+mod game_task;
 mod starting;
 
-pub use crew::{nothing_kept, run_crew};
-pub use maker::Maker;
+pub use workers::{unit_states, run_workers};
+pub use game_task::GameTask;

@@ -2,7 +2,7 @@
 ghost use Rattle.std.specs.Prelude.{◌≡◌, ◌+◌, ◌<◌, ◌≤◌, ◌^◌, ℕ, length};
 ghost use Rattle.std.specs.Thread.{IsSend, IsSync};
 ghost use Rattle.std.specs.Fork.{AcceptsAt, AcceptsEach, ChangesEach};
-ghost use Rattle.cq_workers.specs.Starts.{AcceptsFrom, ChangesFrom, MayLeave};
+ghost use Rattle.cq_workers.specs.Internal.Starts.{AcceptsFrom, ChangesFrom, MayLeave};
 
 use std::thread;
 use std::thread::{Threads, join_mut};
@@ -70,7 +70,7 @@ fn start_one<R: Threads + Sync, T: Send, F: Fn(usize, &mut T) + Sync>(
     join_mut(rt, &mut one, &mut others);
 }
 
-#[tactic(auto, unfolding(crate::specs::Starts::MayLeave))]
+#[tactic(auto, unfolding(crate::specs::Internal::Starts::MayLeave))]
 fn call_at<T, F: Fn(usize, &mut T)>(f: &F, i: usize, x: &mut T)
     requires { AcceptsAt F.Fn f.now i x.old }
     ensures { MayLeave F.Fn f.now i x.old x.new }

@@ -9,7 +9,7 @@ use Rattle.cql_syntax.specs.Values.{holds}
 use Rattle.cql_syntax.specs.declared.tree.Filter.{Filter}
 use Rattle.cql_syntax.proofs.Lists.{filter_trees_more}
 use Rattle.cql_values.proofs.Evaluated.{values_snoc}
-use Rattle.cql_columns.specs.Columns.{is_so}
+use Rattle.cql_columns.specs.Columns.{is_as_wanted}
 
 all_snoc : {A : Type 0} (p : A → Bool) (xs : List A) (y : A) → list_all p (xs ++ y ∷ []) ≡ (list_all p xs && p y)
 all_snoc p [] y = one (p y)
@@ -28,7 +28,7 @@ pub values_take : (tree : SearchedTree) (g : Context) (e : Names) (n : ℕ) (xs 
 values_take tree g e n xs i f below is = ap (λ fs. values tree g e fs n) (filter_trees_more xs i f below is) ∙ values_snoc tree g e (filter_trees (take i xs)) (filter_tree f) n
 
 pub all_more : (tree : SearchedTree) (g : Context) (e : Names) (n : ℕ) (xs : List Filter) (i : ℕ) (f : Filter) → i < length xs → f ≡ get_or xs i f
-    → list_all holds (values tree g e (filter_trees (take (i + 1) xs)) n) ≡ (list_all holds (values tree g e (filter_trees (take i xs)) n) && is_so true (holds (value tree g e (filter_tree f) n)))
+    → list_all holds (values tree g e (filter_trees (take (i + 1) xs)) n) ≡ (list_all holds (values tree g e (filter_trees (take i xs)) n) && is_as_wanted true (holds (value tree g e (filter_tree f) n)))
 all_more tree g e n xs i f below is = ap (list_all holds) (values_take tree g e n xs i f below is) ∙ all_snoc holds (values tree g e (filter_trees (take i xs)) n) (value tree g e (filter_tree f) n)
 
 pub take_whole : {A : Type 0} (xs : List A) (i : ℕ) → length xs ≤ i → take i xs ≡ xs

@@ -4,10 +4,10 @@ use Rattle.cq_position.specs.Search.{SearchedTree}
 use Rattle.std.specs.Prelude.{◌-◌, is_some, slice_set}
 use Rattle.cq_symmetry.specs.Images.{is_in}
 use Rattle.cql_syntax.specs.Values.{Value, amount, as_truth}
-use Rattle.cql_values.specs.Shown.{meant}
+use Rattle.cql_values.specs.ValueModel.{as_value}
 use Rattle.cql_values.specs.declared.value.Value.{Value as Kept}
 use Rattle.cql_values.specs.declared.value.Value.TheVariants.{Truth, Set}
-use Rattle.cql_columns.specs.Columns.{shown, Where, IsNarrowed, IsNumbered, AreAsked}
+use Rattle.cql_columns.specs.Columns.{shown, Where, IsNarrowed, IsNumbered, IsNodeSet}
 use Rattle.cql_columns.specs.declared.filter_column.FilterColumn.{FilterColumn}
 use Rattle.std.proofs.lemmas.Bool.{cases_order}
 use Rattle.std.proofs.lemmas.List.{get_or-set_same, get_or-set_other, length-set}
@@ -44,7 +44,7 @@ abbrev pub of_truths : Reading Bool Value
 of_truths = record { show = as_truth; none = false }
 
 abbrev pub of_sets : Reading ℕ Value
-of_sets = record { show = λ set. meant (Set set); none = 0 }
+of_sets = record { show = λ set. as_value (Set set); none = 0 }
 
 abbrev pub of_squares : Reading ℕ (ℕ → Bool)
 of_squares = record { show = is_in; none = 0 }
@@ -53,7 +53,7 @@ abbrev pub of_masks : Reading ℕ ℕ
 of_masks = record { show = λ set. set; none = 0 }
 
 abbrev pub of_values : Reading Kept Value
-of_values = record { show = meant; none = Truth false }
+of_values = record { show = as_value; none = Truth false }
 
 -- the first k nodes have their values where they are asked for, in a column that reaches as far as these and is written over
 pub record FilledTo {A B : Type 0} (read : Reading A B) (live : List Bool) (v : ℕ → B) (end k : ℕ) (items : List A) : Type 0 where
@@ -147,8 +147,8 @@ told_live live test k items end had n = ⊎_elim (had.each n)
     (λ far. past items n (omega (arith, far, had.count)) ∙ sym (ap (λ b. b && test n) (past live n (omega (arith, far, end)))))
     (split_at n k)
 
-pub part_asked : (tree : SearchedTree) (live left : List Bool) (test : ℕ → Bool) → AreAsked tree live → length left ≡ length live
-    → ((n : ℕ) → get_or left n false ≡ (get_or live n false && test n)) → AreAsked tree left
+pub part_asked : (tree : SearchedTree) (live left : List Bool) (test : ℕ → Bool) → IsNodeSet tree live → length left ≡ length live
+    → ((n : ℕ) → get_or left n false ≡ (get_or live n false && test n)) → IsNodeSet tree left
 part_asked tree live left test asked count each = record {
   count = count ∙ asked.count;
   searched = λ n e. asked.searched n (both_left (get_or live n false) (test n) (sym (each n) ∙ e));
@@ -161,5 +161,5 @@ numbered_all live c k items end had = record {
   each = told_live live (λ n. is_some (amount (shown c n))) k items end had;
 }
 
-pub narrowed_asked : (tree : SearchedTree) (live left : List Bool) (c : FilterColumn) (want : Bool) → AreAsked tree live → IsNarrowed live c want left → AreAsked tree left
+pub narrowed_asked : (tree : SearchedTree) (live left : List Bool) (c : FilterColumn) (want : Bool) → IsNodeSet tree live → IsNarrowed live c want left → IsNodeSet tree left
 narrowed_asked tree live left c want asked is = is.asked tree asked

@@ -6,7 +6,7 @@ use Rattle.std.proofs.lemmas.List.{get_or-set_same, get_or-set_other, length-set
 use Rattle.cql_columns.specs.Columns.{is_live, shown, AreKept, IsNumbered}
 use Rattle.cql_columns.specs.declared.filter_column.FilterColumn.{FilterColumn}
 use Rattle.cql_syntax.specs.Values.{Value, amount, has}
-use Rattle.cql_columns.specs.Asked.{AreHaving, AreLeftOpen}
+use Rattle.cql_columns.specs.SquareTrials.{AreNodesWithSquare, AreLeftOpen}
 use Rattle.cql_columns.proofs.Filling.{split_last, split_at, past, any_default}
 
 -- the first k nodes are tried
@@ -67,7 +67,7 @@ kept_to test live left end k done none had = record {
 pub numbered_by_kept : (live left : List Bool) (c : FilterColumn) → AreKept (λ n. is_some (amount (shown c n))) live left → IsNumbered live c left
 numbered_by_kept live left c kept = record { count = kept.count; each = kept.each }
 
-pub having_by_kept : (x : ℕ → Value) (s : ℕ) (left there : List Bool) → AreKept (λ n. has (x n) s) left there → AreHaving x s left there
+pub having_by_kept : (x : ℕ → Value) (s : ℕ) (left there : List Bool) → AreKept (λ n. has (x n) s) left there → AreNodesWithSquare x s left there
 having_by_kept x s left there kept = record { count = kept.count; each = kept.each }
 
 -- a set of which those nodes are taken that another set has, and that a column settles

@@ -5,9 +5,9 @@ use Rattle.std.proofs.lemmas.Nat.Bits.{bit_at_or}
 use Rattle.cq_position.specs.Bitboards.{bit_of}
 use Rattle.cq_symmetry.specs.Images.{is_in}
 use Rattle.cql_syntax.specs.Values.{Value, has}
-use Rattle.cql_values.specs.Asked.{settles}
+use Rattle.cql_values.specs.FilterValues.{settles}
 use Rattle.cql_values.proofs.Masks.{is_in_bit, bit_is}
-use Rattle.cql_columns.specs.Asked.{AreUnsettled, AreWanted}
+use Rattle.cql_columns.specs.SquareTrials.{AreUnsettled, CoverSquares}
 use Rattle.cql_columns.specs.Columns.{is_live}
 use Rattle.cql_columns.proofs.Filling.{both_left, or_left, or_right, live_below, split_last}
 
@@ -36,21 +36,21 @@ wanted_more x live k wanted more new had = record {
       (split_last n k h);
 }
 
-pub wanted_all : (x : ℕ → Value) (live : List Bool) (k wanted : ℕ) → length live ≤ k → WantedTo x live k wanted → AreWanted x live wanted
+pub wanted_all : (x : ℕ → Value) (live : List Bool) (k wanted : ℕ) → length live ≤ k → WantedTo x live k wanted → CoverSquares x live wanted
 wanted_all x live k wanted end had = record { each = λ n s a b. had.each n s (omega (arith, live_below live n a, end)) a b }
 
-pub wanted_same : (x : ℕ → Value) (live left : List Bool) (wanted : ℕ) → left ≡ live → AreWanted x live wanted → AreWanted x left wanted
-wanted_same x live left wanted same are = subst (λ l. AreWanted x l wanted) (sym same) are
+pub wanted_same : (x : ℕ → Value) (live left : List Bool) (wanted : ℕ) → left ≡ live → CoverSquares x live wanted → CoverSquares x left wanted
+wanted_same x live left wanted same are = subst (λ l. CoverSquares x l wanted) (sym same) are
 
 -- they are still, where fewer nodes are left
 pub wanted_kept : (every : Bool) (x : ℕ → Value) (asked : ℕ → Bool) (s : ℕ) (left later : List Bool) (wanted : ℕ)
-    → AreWanted x left wanted → AreUnsettled every x asked s left later → AreWanted x later wanted
+    → CoverSquares x left wanted → AreUnsettled every x asked s left later → CoverSquares x later wanted
 wanted_kept every x asked s left later wanted are is = record {
   each = λ n t a b. are.each n t (both_left (is_live left n) (not (settles every (has (x n)) (λ u. asked n) s)) (sym (is.each n) ∙ a)) b;
 }
 
 -- a square that is not among them settles no node
-pub turn_skip : (every : Bool) (x : ℕ → Value) (asked : ℕ → Bool) (s : ℕ) (left : List Bool) (wanted : ℕ) → AreWanted x left wanted → is_in wanted s ≡ false
+pub turn_skip : (every : Bool) (x : ℕ → Value) (asked : ℕ → Bool) (s : ℕ) (left : List Bool) (wanted : ℕ) → CoverSquares x left wanted → is_in wanted s ≡ false
     → AreUnsettled every x asked s left left
 turn_skip every x asked s left wanted are out = record {
   count = refl;

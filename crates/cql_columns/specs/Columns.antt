@@ -3,18 +3,18 @@ use Rattle.std.specs.Prelude.{◌≡◌, ℕ, ◌&&◌, not, Bool, true, false, 
 use Rattle.cq_position.specs.Games.{is_searched}
 use Rattle.cq_position.specs.Search.{SearchedTree}
 use Rattle.cql_syntax.specs.Values.{Value, as_truth, holds, amount}
-use Rattle.cql_values.specs.Shown.{meant}
+use Rattle.cql_values.specs.ValueModel.{as_value}
 use Rattle.cql_values.specs.declared.value.Value.{Value as Kept}
 use Rattle.cql_values.specs.declared.value.Value.TheVariants.{Truth, Set, Number}
 use Rattle.cql_columns.specs.declared.filter_column.FilterColumn.{FilterColumn}
-use Rattle.cql_columns.specs.declared.filter_column.FilterColumn.TheVariants.{Truths, Sets, Numbers, Values, Same}
+use Rattle.cql_columns.specs.declared.filter_column.FilterColumn.TheVariants.{Truths, Sets, Numbers, Values, Constant}
 
 -- a node is one of those that are asked for
 abbrev pub is_live : List Bool → ℕ → Bool
 is_live live n = get_or live n false
 
 -- a truth for each node of a game; the nodes that are asked for are searched
-pub record AreAsked (tree : SearchedTree) (live : List Bool) : Type 0 where
+pub record IsNodeSet (tree : SearchedTree) (live : List Bool) : Type 0 where
   pub count : length live ≡ length tree.game.nodes
   pub searched : (n : ℕ) → is_live live n ≡ true → is_searched tree.variations tree.game.nodes n ≡ true
 
@@ -24,10 +24,10 @@ kept_at (Truths truths) n = Truth (get_or truths.items n false)
 kept_at (Sets sets) n = Set (get_or sets.items n 0)
 kept_at (Numbers numbers) n = Number (get_or numbers.items n None)
 kept_at (Values values) n = get_or values.items n (Truth false)
-kept_at (Same value) n = value
+kept_at (Constant value) n = value
 
 abbrev pub shown : FilterColumn → ℕ → Value
-shown c n = meant (kept_at c n)
+shown c n = as_value (kept_at c n)
 
 -- what columns show at a node
 abbrev pub all_shown : List FilterColumn → ℕ → List Value
@@ -48,14 +48,14 @@ abbrev pub AreTruths : List Bool → List Bool → (ℕ → Value) → Type 0
 AreTruths truths live v = Where live (λ n. as_truth (get_or truths n false) ≡ v n)
 
 abbrev pub AreSets : List ℕ → List Bool → (ℕ → Value) → Type 0
-AreSets sets live v = Where live (λ n. meant (Set (get_or sets n 0)) ≡ v n)
+AreSets sets live v = Where live (λ n. as_value (Set (get_or sets n 0)) ≡ v n)
 
 abbrev pub AreValues : List Kept → List Bool → (ℕ → Value) → Type 0
-AreValues values live v = Where live (λ n. meant (get_or values n (Truth false)) ≡ v n)
+AreValues values live v = Where live (λ n. as_value (get_or values n (Truth false)) ≡ v n)
 
 -- whether a truth is the one that is wanted
-abbrev pub is_so : Bool → Bool → Bool
-is_so want b = if want then b else not b
+abbrev pub is_as_wanted : Bool → Bool → Bool
+is_as_wanted want b = if want then b else not b
 
 -- of the nodes of a set those that pass a test
 pub record AreKept (test : ℕ → Bool) (live left : List Bool) : Type 0 where
@@ -65,8 +65,8 @@ pub record AreKept (test : ℕ → Bool) (live left : List Bool) : Type 0 where
 -- of the nodes of a set those at which a column holds, or doesn't
 pub record IsNarrowed (live : List Bool) (c : FilterColumn) (want : Bool) (left : List Bool) : Type 0 where
   pub count : length left ≡ length live
-  pub each : (n : ℕ) → is_live left n ≡ (is_live live n && is_so want (holds (shown c n)))
-  pub asked : (tree : SearchedTree) → AreAsked tree live → AreAsked tree left
+  pub each : (n : ℕ) → is_live left n ≡ (is_live live n && is_as_wanted want (holds (shown c n)))
+  pub asked : (tree : SearchedTree) → IsNodeSet tree live → IsNodeSet tree left
 
 -- of the nodes of a set those at which a column has a number
 pub record IsNumbered (live : List Bool) (c : FilterColumn) (left : List Bool) : Type 0 where
@@ -75,5 +75,5 @@ pub record IsNumbered (live : List Bool) (c : FilterColumn) (left : List Bool) :
 
 -- of a game's nodes that are asked for those at which a column holds, or doesn't
 pub record IsPart (tree : SearchedTree) (live : List Bool) (c : FilterColumn) (want : Bool) (left : List Bool) : Type 0 where
-  pub asked : AreAsked tree left
+  pub asked : IsNodeSet tree left
   pub narrowed : IsNarrowed live c want left

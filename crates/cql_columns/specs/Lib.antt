@@ -1,4 +1,4 @@
-pub mod Asked
+pub mod SquareTrials
 pub mod Columns
 pub mod Costs
 pub mod FlatTrees

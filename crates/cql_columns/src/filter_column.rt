@@ -17,7 +17,7 @@ pub enum FilterColumn {
     /// Values of any kind.
     Values(Vec<Value>),
     /// One value at all nodes.
-    Same(Value),
+    Constant(Value),
 }
 
 impl FilterColumn {
@@ -30,7 +30,7 @@ impl FilterColumn {
             FilterColumn::Sets(sets) => Value::Set(set_at(sets, n)),
             FilterColumn::Numbers(numbers) => Value::Number(number_at(numbers, n)),
             FilterColumn::Values(values) => value_at(values, n),
-            FilterColumn::Same(value) => *value,
+            FilterColumn::Constant(value) => *value,
         }
     }
 }

@@ -15,7 +15,7 @@ pub fn first_live(live: &[bool]) -> usize
 }
 
 /// Where a set ends: past its last node.
-pub fn end_of(live: &[bool]) -> usize
+pub fn live_end(live: &[bool]) -> usize
     ensures most { result ≤ length live.now }
     ensures none { (n : ℕ) → result ≤ n → get_or live.now n false ≡ false }
 {
@@ -30,7 +30,7 @@ pub fn end_of(live: &[bool]) -> usize
 }
 
 /// The first node of a set of the nodes of a game; where it has none, how many there are.
-pub fn first_asked(live: &[bool], nodes: u32) -> u32
+pub fn first_live_node(live: &[bool], nodes: u32) -> u32
     requires { length live.now ≡ nodes }
     ensures most { result ≤ nodes }
     ensures none { (n : ℕ) → n < result → get_or live.now n false ≡ false }
@@ -44,7 +44,7 @@ pub fn first_asked(live: &[bool], nodes: u32) -> u32
 }
 
 /// Where a set of the nodes of a game ends: past its last node.
-pub fn asked_end(live: &[bool], nodes: u32) -> u32
+pub fn live_node_end(live: &[bool], nodes: u32) -> u32
     requires { length live.now ≡ nodes }
     ensures most { result ≤ nodes }
     ensures none { (n : ℕ) → result ≤ n → get_or live.now n false ≡ false }

@@ -9,19 +9,19 @@ use Rattle.cql_syntax.specs.Values.{Value, as_truth}
 use Rattle.cql_syntax.specs.declared.tree.Played.{Played}
 use Rattle.cql_columns.specs.Columns.{shown}
 use Rattle.cql_columns.specs.declared.filter_column.FilterColumn.{FilterColumn}
-use Rattle.cql_pruning.specs.Covers.{AreCut, AsksNoMore, HasSome, IsFreePart, MayHold}
-use Rattle.cql_pruning.specs.Moved.{is_as_asked}
+use Rattle.cql_pruning.specs.Covers.{AreCut, IsNecessaryPart, HasSome, IsIndependentPart, MayHold}
+use Rattle.cql_pruning.specs.MoveTargets.{is_as_asked}
 use Rattle.cql_pruning.specs.declared.moves.PartColumns.{PartColumns}
 use Rattle.cql_pruning.proofs.CoverForms.{KeepsHolding, Tried, first_true, second_true, yes_both}
 use Rattle.cql_pruning.proofs.CoverLaw.{cut_as, cut_wide}
-use Rattle.cql_eval.specs.Trials.{AskNoMore}
+use Rattle.cql_eval.specs.Internal.Trials.{AreNecessaryParts}
 use Rattle.cql_pruning.proofs.MoveLaw.{IsPartColumn, move_value, origin_of, goal_of, taken_of, promoted_of}
 
-pub asks_nothing : (tree : SearchedTree) (opened outer : Names) (w : WrittenTree) (live : List Bool) → AsksNoMore tree opened outer w live None
+pub asks_nothing : (tree : SearchedTree) (opened outer : Names) (w : WrittenTree) (live : List Bool) → IsNecessaryPart tree opened outer w live None
 asks_nothing tree opened outer w live = record { each = λ n inner a agree q met. refl }
 
-pub asks_free : (tree : SearchedTree) (opened outer : Names) (w : WrittenTree) (live : List Bool) (c : Option FilterColumn) → IsFreePart opened w → IsPartColumn tree outer live c w
-    → AsksNoMore tree opened outer w live c
+pub asks_free : (tree : SearchedTree) (opened outer : Names) (w : WrittenTree) (live : List Bool) (c : Option FilterColumn) → IsIndependentPart opened w → IsPartColumn tree outer live c w
+    → IsNecessaryPart tree opened outer w live c
 asks_free tree opened outer w live c free column = record {
   each = λ n inner a agree q met. ap (λ x. meets x q) (column n a ∙ sym (free.each tree inner outer n agree)) ∙ met;
 }
@@ -62,7 +62,7 @@ meets_less (Some l) less parts asks all =
     (asks.at_promoted (goal_if l.promoted l.goal) (second_true (a && b && c) d all))
 
 pub free_parts_cut : (t : Tried) (some : List Bool) (p : Played) (parts : PartColumns) (goal : Option FilterColumn) (old new : List ℕ) → HasSome t.tree t.live old some
-    → AskNoMore t.tree t.opened t.outer p some parts → AsksNoMore t.tree t.opened t.outer (goal_of p) some goal
+    → AreNecessaryParts t.tree t.opened t.outer p some parts → IsNecessaryPart t.tree t.opened t.outer (goal_of p) some goal
     → AreCut some (λ n s. is_as_asked t.tree parts (option_map (λ c. shown c n) goal) n ≡ true) old new
     → KeepsHolding t (λ e n. as_truth (played_value t.tree [] e (played_tree p) n)) old new
 free_parts_cut t some p parts goal old new has asks at_goal cut =

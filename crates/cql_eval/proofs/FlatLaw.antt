@@ -7,12 +7,12 @@ use Rattle.std.proofs.lemmas.List.Folds.{list_all-append}
 use Rattle.cq_symmetry.specs.declared.families.Family.{Family}
 use Rattle.cql_syntax.specs.FlatItems.{has_family, break_no_rule, breaks_none, is_empty}
 use Rattle.cql_syntax.specs.Kinds.{chain_kind}
-use Rattle.cql_syntax.specs.Occurrences.{Standing, Occurrence, top_item, part_of, part_of_square, asked_of_each, occurrences, inner, all_of, of_terms, of_line, of_played, of_written, of_parts, of_body, sorts_with, of_items}
+use Rattle.cql_syntax.specs.Occurrences.{TypingContext, Occurrence, top_item, part_of, part_of_square, square_condition, occurrences, inner, all_of, of_terms, of_line, of_played, of_written, of_parts, of_body, sorts_with, of_items}
 use Rattle.cql_syntax.specs.Places.{places, parts_places}
 use Rattle.cql_syntax.specs.TreeFaults.{broken_rules, is_long_line, is_fifth_square, is_family}
 use Rattle.cql_syntax.specs.TreeOf.{filter_tree, form_tree, filter_trees, term_trees}
 use Rattle.cql_syntax.specs.Trees.{FilterTree, filter_at, FormTree, designator, number, name, plain, tagged, outcome, elo, unary, direction, chain, sum_of, pair, if_, square, line, played, transform, sort, comment, any, FilterTrees, no_filters, more_filters, TermTrees, no_terms, more_terms, LineTree, path, PlayedTree, move_of, WrittenTree, left_out, written, PartTrees, no_parts, more_parts, BodyTree, atom, group}
-use Rattle.cql_syntax.specs.Wants.{unary_wants, pair_wants}
+use Rattle.cql_syntax.specs.OperandKinds.{unary_operand_kind, pair_operand_kind}
 use Rattle.cql_syntax.specs.declared.leaves.Kind.TheVariants.{Position, Set, Number}
 use Rattle.cql_syntax.specs.declared.tree.Filter.{Filter}
 use Rattle.cql_syntax.specs.declared.tree.Term.{Term}
@@ -51,12 +51,12 @@ no_more n h = omega (arith, h)
 mutual
   unfolding occurrences unflat
 
-  flat_filter : (f : FilterTree) (s : Standing) → list_all free (occurrences s f) ≡ true → IsFlat f
+  flat_filter : (f : FilterTree) (s : TypingContext) → list_all free (occurrences s f) ≡ true → IsFlat f
   flat_filter (filter_at i f) s h =
       let here = free (record { standing = s; at = i; form = f }) in
       flat_form f s i (left here (list_all free (inner s f)) h) (right here (list_all free (inner s f)) h)
 
-  flat_form : (f : FormTree) (s : Standing) (i : ℕ) → free (record { standing = s; at = i; form = f }) ≡ true → list_all free (inner s f) ≡ true → IsFlatForm f
+  flat_form : (f : FormTree) (s : TypingContext) (i : ℕ) → free (record { standing = s; at = i; form = f }) ≡ true → list_all free (inner s f) ≡ true → IsFlatForm f
   flat_form (designator d) s i a h = refl
   flat_form (number k) s i a h = refl
   flat_form (name text) s i a h = refl
@@ -64,24 +64,24 @@ mutual
   flat_form (tagged field text) s i a h = refl
   flat_form (outcome o) s i a h = refl
   flat_form (elo whose) s i a h = refl
-  flat_form (unary u f) s i a h = flat_filter f (part_of s (unary_wants u)) h
+  flat_form (unary u f) s i a h = flat_filter f (part_of s (unary_operand_kind u)) h
   flat_form (direction way m n f) s i a h = flat_filter f (part_of s Set) h
   flat_form (chain c fs) s i a h = flat_filters fs (part_of s (chain_kind c)) h
   flat_form (sum_of ts) s i a h = flat_terms ts (part_of s Number) h
   flat_form (pair c x y) s i a h =
-      let at : Standing = part_of s (pair_wants c) in
+      let at : TypingContext = part_of s (pair_operand_kind c) in
       none (unflat x) (unflat y) (flat_filter x at (first_of (occurrences at x) (occurrences at y) h))
       (flat_filter y at (rest_of (occurrences at x) (occurrences at y) h))
   flat_form (if_ x y z) s i a h =
-      let at : Standing = part_of s Position in
+      let at : TypingContext = part_of s Position in
       let more = rest_of (occurrences at x) (occurrences at y ++ occurrences at z) h in
       none (unflat x + unflat y) (unflat z)
       (none (unflat x) (unflat y) (flat_filter x at (first_of (occurrences at x) (occurrences at y ++ occurrences at z) h))
       (flat_filter y at (first_of (occurrences at y) (occurrences at z) more)))
       (flat_filter z at (rest_of (occurrences at y) (occurrences at z) more))
   flat_form (square every text x y) s i a h =
-      let at : Standing = part_of_square s Set in
-      let of_each : Standing = asked_of_each s text in
+      let at : TypingContext = part_of_square s Set in
+      let of_each : TypingContext = square_condition s text in
       none (unflat x) (unflat y) (flat_filter x at (first_of (occurrences at x) (occurrences of_each y) h))
       (flat_filter y of_each (rest_of (occurrences at x) (occurrences of_each y) h))
   flat_form (line l) s i a h = flat_line l (part_of s Position) a h
@@ -91,20 +91,20 @@ mutual
   flat_form (comment text) s i a h = refl
   flat_form (any kind fs) s i a h = flat_filters fs (part_of s kind) h
 
-  flat_filters : (fs : FilterTrees) (s : Standing) → list_all free (all_of s fs) ≡ true → AreFlat fs
+  flat_filters : (fs : FilterTrees) (s : TypingContext) → list_all free (all_of s fs) ≡ true → AreFlat fs
   flat_filters no_filters s h = refl
   flat_filters (more_filters f fs) s h =
       none (unflat f) (unflat_all fs) (flat_filter f s (first_of (occurrences s f) (all_of s fs) h)) (flat_filters fs s (rest_of (occurrences s f) (all_of s fs) h))
 
-  flat_terms : (ts : TermTrees) (s : Standing) → list_all free (of_terms s ts) ≡ true → AreFlatTerms ts
+  flat_terms : (ts : TermTrees) (s : TypingContext) → list_all free (of_terms s ts) ≡ true → AreFlatTerms ts
   flat_terms no_terms s h = refl
   flat_terms (more_terms minus f ts) s h =
       none (unflat f) (unflat_terms ts) (flat_filter f s (first_of (occurrences s f) (of_terms s ts) h)) (flat_terms ts s (rest_of (occurrences s f) (of_terms s ts) h))
 
-  flat_line : (l : LineTree) (s : Standing) → not (nat_lt 64 (places l)) ≡ true → list_all free (of_line s l) ≡ true → IsFlatLine l
+  flat_line : (l : LineTree) (s : TypingContext) → not (nat_lt 64 (places l)) ≡ true → list_all free (of_line s l) ≡ true → IsFlatLine l
   flat_line (path back primary extent cs) s a h = none (parts_places cs - 64) (unflat_parts cs) (no_more (parts_places cs) (few_places (parts_places cs) a)) (flat_parts cs s h)
 
-  flat_move : (p : PlayedTree) (s : Standing) → list_all free (of_played s p) ≡ true → IsFlatMove p
+  flat_move : (p : PlayedTree) (s : TypingContext) → list_all free (of_played s p) ≡ true → IsFlatMove p
   flat_move (move_of a b c d) s h =
       let two = of_written s c ++ of_written s d in
       let three = of_written s b ++ two in
@@ -116,16 +116,16 @@ mutual
       (flat_written c s (first_of (of_written s c) (of_written s d) last)))
       (flat_written d s (rest_of (of_written s c) (of_written s d) last))
 
-  flat_written : (a : WrittenTree) (s : Standing) → list_all free (of_written s a) ≡ true → IsFlatPart a
+  flat_written : (a : WrittenTree) (s : TypingContext) → list_all free (of_written s a) ≡ true → IsFlatPart a
   flat_written left_out s h = refl
   flat_written (written f) s h = flat_filter f s h
 
-  flat_parts : (cs : PartTrees) (s : Standing) → list_all free (of_parts s cs) ≡ true → AreFlatParts cs
+  flat_parts : (cs : PartTrees) (s : TypingContext) → list_all free (of_parts s cs) ≡ true → AreFlatParts cs
   flat_parts no_parts s h = refl
   flat_parts (more_parts body mark cs) s h =
       none (unflat_body body) (unflat_parts cs) (flat_body body s (first_of (of_body s body) (of_parts s cs) h)) (flat_parts cs s (rest_of (of_body s body) (of_parts s cs) h))
 
-  flat_body : (b : BodyTree) (s : Standing) → list_all free (of_body s b) ≡ true → IsFlatBody b
+  flat_body : (b : BodyTree) (s : TypingContext) → list_all free (of_body s b) ≡ true → IsFlatBody b
   flat_body (atom f) s h = flat_filter f s h
   flat_body (group cs) s h = flat_parts cs s h
 

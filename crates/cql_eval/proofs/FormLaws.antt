@@ -24,7 +24,7 @@ use Rattle.cql_syntax.specs.declared.leaves.Chain.{Chain}
 use Rattle.cql_syntax.specs.declared.leaves.Chain.TheVariants.{And, All}
 use Rattle.cql_syntax.specs.declared.leaves.Kind.{Kind}
 use Rattle.cql_syntax.specs.declared.tree.Filter.{Filter}
-use Rattle.cql_columns.specs.Columns.{is_live, is_so, shown, IsColumn, Where}
+use Rattle.cql_columns.specs.Columns.{is_live, is_as_wanted, shown, IsColumn, Where}
 use Rattle.cql_columns.specs.declared.filter_column.FilterColumn.{FilterColumn}
 
 pub chain_form : (tree : SearchedTree) (e : Names) (f : FilterTree) (at : ℕ) (c : Chain) (fs : FilterTrees) → f ≡ filter_at at (chain c fs)
@@ -76,8 +76,8 @@ pub IfOk_then : {A E : Type 0} (r : Result A E) {P Q : A → Type 0} → IfOk r 
 IfOk_then r {P} {Q} had more = IfOk-weaker r P Q more had
 
 -- the second column where the first holds, and the third where it doesn't
-pub if_where : (live : List Bool) (a b c : FilterColumn) (u v w : ℕ → Value) → IsColumn a live u → Where live (λ n. is_so true (holds (shown a n)) ≡ true → shown b n ≡ v n)
-    → Where live (λ n. is_so false (holds (shown a n)) ≡ true → shown c n ≡ w n) → (n : ℕ) → is_live live n ≡ true
+pub if_where : (live : List Bool) (a b c : FilterColumn) (u v w : ℕ → Value) → IsColumn a live u → Where live (λ n. is_as_wanted true (holds (shown a n)) ≡ true → shown b n ≡ v n)
+    → Where live (λ n. is_as_wanted false (holds (shown a n)) ≡ true → shown c n ≡ w n) → (n : ℕ) → is_live live n ≡ true
     → if_of (shown a n) (shown b n) (shown c n) ≡ if_of (u n) (v n) (w n)
 if_where live a b c u v w first second third n l =
     by (holds (shown a n)) (holds (u n)) (ap holds (first n l)) (λ e. ap holds (second n l e)) (λ e. ap holds (third n l (ap not e)))

@@ -15,7 +15,7 @@ use Rattle.cql_syntax.specs.TreeOf.{filter_tree, filter_trees, form_tree}
 use Rattle.cql_syntax.specs.Values.{Value, holds, amount}
 use Rattle.cql_syntax.specs.declared.tree.Filter.{Filter}
 use Rattle.cql_syntax.proofs.Lists.{filter_trees_more}
-use Rattle.cql_columns.specs.Columns.{is_live, shown, AreAsked, IsColumn, IsNarrowed, IsNumbered}
+use Rattle.cql_columns.specs.Columns.{is_live, shown, IsNodeSet, IsColumn, IsNarrowed, IsNumbered}
 use Rattle.cql_columns.specs.declared.filter_column.FilterColumn.{FilterColumn}
 use Rattle.cql_columns.proofs.Chains.{all_begun, all_more, take_whole}
 use Rattle.cql_eval.specs.Hits.{hit_column, key_column, key_row_of, number_at, sort_numbers, item_numbers, AreKeysAtHits}
@@ -31,12 +31,12 @@ module _ (tree : SearchedTree) (all : List Bool) (is : all ≡ map (is_searched 
   pub all_count : length all ≡ length tree.game.nodes
   all_count = ap length is ∙ length-map-range_with_len (is_searched tree.variations tree.game.nodes) 0 (length tree.game.nodes)
 
-  pub all_asked : AreAsked tree all
+  pub all_asked : IsNodeSet tree all
   all_asked = record { count = all_count; searched = λ n e. sym (all_at n (omega (arith, live_below all n e, all_count))) ∙ e }
 
 -- of the searched nodes those at which the items so far hold
 pub record ItemsSoFar (tree : SearchedTree) (all : List Bool) (xs : List Filter) (i : ℕ) (left : List Bool) : Type 0 where
-  pub asked : AreAsked tree left
+  pub asked : IsNodeSet tree left
   pub each : (n : ℕ) → is_live left n ≡ (is_live all n && list_all holds (values tree [] [] (filter_trees (take i xs)) n))
 
 and_true : (b : Bool) → b ≡ (b && true)
@@ -47,13 +47,13 @@ and_assoc : (a b c : Bool) → ((a && b) && c) ≡ (a && (b && c))
 and_assoc true b c = refl
 and_assoc false b c = refl
 
-pub items_begun : (tree : SearchedTree) (all left : List Bool) (xs : List Filter) → AreAsked tree all → left ≡ all → ItemsSoFar tree all xs 0 left
+pub items_begun : (tree : SearchedTree) (all left : List Bool) (xs : List Filter) → IsNodeSet tree all → left ≡ all → ItemsSoFar tree all xs 0 left
 items_begun tree all left xs asked is = record {
-  asked = subst (AreAsked tree) (sym is) asked;
+  asked = subst (IsNodeSet tree) (sym is) asked;
   each = λ n. ap (λ l. is_live l n) is ∙ and_true (is_live all n) ∙ ap (λ b. is_live all n && b) (sym (all_begun tree [] [] n xs));
 }
 
-pub items_more : (tree : SearchedTree) (all : List Bool) (x : Placed) (left given later : List Bool) → given ≡ left → AreAsked tree later
+pub items_more : (tree : SearchedTree) (all : List Bool) (x : Placed) (left given later : List Bool) → given ≡ left → IsNodeSet tree later
     → ((n : ℕ) → is_live later n ≡ (is_live given n && holds (value tree [] [] (filter_tree x.filter) n))) → ItemsSoFar tree all x.items x.place left
     → ItemsSoFar tree all x.items (x.place + 1) later
 items_more tree all x left given later same asked each had = record {
@@ -163,7 +163,7 @@ rows_begun tree xs left rows none = record {
   entries = λ n l. made_begun (number_at tree n) (map (λ row. get_or row n None) rows) xs (ap (map (λ row. get_or row n None)) none);
 }
 
-pub rows_more : (tree : SearchedTree) (x : Placed) (left given later : List Bool) (rows new : List (List (Option ℤ))) → given ≡ left → AreAsked tree left
+pub rows_more : (tree : SearchedTree) (x : Placed) (left given later : List Bool) (rows new : List (List (Option ℤ))) → given ≡ left → IsNodeSet tree left
     → ((n : ℕ) → is_live later n ≡ true → is_live left n ≡ true) → new ≡ rows ++ map (key_row_of tree given) (item_numbers (filter_tree x.filter))
     → RowsSoFar tree x.items x.place left rows → RowsSoFar tree x.items (x.place + 1) later new
 rows_more tree x left given later rows new same asked within more had = record {
@@ -201,7 +201,7 @@ sort_form form least text q p is same = is ∙ ap (sort least text) same
 pub is_sort : (item : Filter) (least : Bool) (text : List ℕ) (q p : FilterTree) → form_tree item.form ≡ sort least text q → q ≡ p → IsSort (filter_tree item) p
 is_sort item least text q p is same = record { at = item.at; least = least; text = text; is = ap (filter_at item.at) (sort_form (form_tree item.form) least text q p is same) }
 
-pub row_is : (tree : SearchedTree) (asked : List Bool) (c : FilterColumn) (f : FilterTree) → AreAsked tree asked → IsColumn c asked (value tree [] [] f)
+pub row_is : (tree : SearchedTree) (asked : List Bool) (c : FilterColumn) (f : FilterTree) → IsNodeSet tree asked → IsColumn c asked (value tree [] [] f)
     → map (λ n. if is_live asked n then amount (shown c n) else None) (range_with_len 0 (length asked)) ≡ key_row_of tree asked f
 row_is tree asked c f are column = ap₂ (λ h k. map h (range_with_len 0 k)) (fun_ext (λ n. by (is_live asked n) (shown c n) (value tree [] [] f n) (column n))) are.count
   where
@@ -209,7 +209,7 @@ row_is tree asked c f are column = ap₂ (λ h k. map h (range_with_len 0 k)) (f
     by true x y e = ap amount (e refl)
     by false x y e = refl
 
-pub sort_asked : (tree : SearchedTree) (left later : List Bool) (c : FilterColumn) → AreAsked tree left → IsNumbered left c later → AreAsked tree later
+pub sort_asked : (tree : SearchedTree) (left later : List Bool) (c : FilterColumn) → IsNodeSet tree left → IsNumbered left c later → IsNodeSet tree later
 sort_asked tree left later c asked is = part_asked tree left later (λ n. is_some (amount (shown c n))) asked is.count is.each
 
 pub sort_each : (tree : SearchedTree) (asked left later : List Bool) (c : FilterColumn) (f part : FilterTree) → IsSort f part

@@ -1,10 +1,10 @@
 pub mod CostSums
 pub mod FlatLaw
 pub mod FormLaws
-mod CoverFree
+mod CoverIndependent
 mod CoverMoves
-mod ElsewhereCut
-mod HereLaw
+mod OtherNodesCut
+mod LocalLaw
 pub mod HitsLaw
 pub mod SortsLaw
 mod Trying

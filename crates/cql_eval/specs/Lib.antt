@@ -1,4 +1,3 @@
 pub mod AtomsAround
-pub mod Bindings
 pub mod Hits
-pub mod Trials
+pub mod Internal

@@ -1,6 +1,6 @@
 //! Where the items of a query hold, and the values of its sort items.
 
-mod looks;
+mod accessors;
 
 /// Where the items of a query hold in a game, and the values of its sort items, node by node.
 #[derive(Drop)]

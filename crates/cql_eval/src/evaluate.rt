@@ -5,8 +5,8 @@ ghost use Rattle.cq_position.specs.Games.{IsTree};
 ghost use Rattle.cql_syntax.specs.Meaning as meaning;
 ghost use Rattle.cql_syntax.specs.TreeOf.{filter_tree, filters_tree, terms_tree, played_tree, written_tree, line_tree};
 ghost use Rattle.cql_syntax.specs.Values as spec;
-ghost use Rattle.cql_columns.specs.Asked.{AreUnsettled};
-ghost use Rattle.cql_columns.specs.Columns.{AreAsked, AreTruths, IsColumn, Where, is_so, shown, all_shown, terms_shown};
+ghost use Rattle.cql_columns.specs.SquareTrials.{AreUnsettled};
+ghost use Rattle.cql_columns.specs.Columns.{IsNodeSet, AreTruths, IsColumn, Where, is_as_wanted, shown, all_shown, terms_shown};
 ghost use Rattle.cql_columns.specs.Costs.{filter_cost, filters_cost, terms_cost, played_cost, written_cost, line_cost, searched_len};
 ghost use Rattle.cql_columns.specs.FlatTrees.{IsFlat, AreFlat, AreFlatTerms, IsFlatMove, IsFlatPart, IsFlatLine};
 ghost use Rattle.cql_columns.specs.Scopes.{tree_in, value_in, values_in};
@@ -34,17 +34,17 @@ use cql_columns::binding::Binding;
 use cql_columns::filter_column::FilterColumn;
 use cql_columns::nodes::any_live;
 use cql_columns::scope::Scope;
-use cql_operators::elsewhere::{looked_at, looks_elsewhere};
+use cql_operators::from_other_nodes::{source_nodes, reads_other_nodes};
 use cql_operators::narrow::part_of;
 use cql_pruning::order::CLASSES;
 use cql_syntax::{Chain, Filter, Filters, Form, Kind, Unary};
 use cql_values::headers::{has_text, is_result, rating};
-use cql_values::numbers::counted;
+use cql_values::numbers::count_value;
 use cql_values::value::Value;
 use cql_values::words::directions;
 use lines::line_column;
 use played::played_column;
-use squares::asked_truths;
+use squares::square_filter_truths;
 use std::alloc::Global;
 use std::sync::ledger::Ledger;
 
@@ -59,7 +59,7 @@ pub(crate) fn evaluate<L: Ledger>(
     steps: &mut Steps<L>,
 ) -> Result<FilterColumn, NoMemory>
     requires tree { IsTree scope.now.game.now.nodes }
-    requires asked { AreAsked (tree_in scope.now) live.now }
+    requires asked { IsNodeSet (tree_in scope.now) live.now }
     requires flat { IsFlat (filter_tree f.now) }
     ensures value { IfOk result (λ c. IsColumn c live.now
         (value_in scope.now (filter_tree f.now))) }
@@ -67,22 +67,22 @@ pub(crate) fn evaluate<L: Ledger>(
     ensures rises { steps.old ≤ steps.new }
 {
     if !any_live(live) {
-        return Ok(FilterColumn::Same(Value::Truth(false)));
+        return Ok(FilterColumn::Constant(Value::Truth(false)));
     }
     match &f.form {
         Form::Squares(d) => standing_column(alloc, d, scope, live),
-        Form::Number(number) => Ok(FilterColumn::Same(counted(*number))),
-        Form::Name(name) => Ok(FilterColumn::Same(scope.names.squares_of(name.as_slice()))),
+        Form::Number(number) => Ok(FilterColumn::Constant(count_value(*number))),
+        Form::Name(name) => Ok(FilterColumn::Constant(scope.names.squares_of(name.as_slice()))),
         Form::Plain(word) => word_column(alloc, *word, scope, live),
         Form::Tagged(field, text) => {
             let holds = has_text(scope.game, *field, text.as_slice());
-            Ok(FilterColumn::Same(Value::Truth(holds)))
+            Ok(FilterColumn::Constant(Value::Truth(holds)))
         }
         Form::Outcome(outcome) => {
             let holds = is_result(*outcome, scope.game.result());
-            Ok(FilterColumn::Same(Value::Truth(holds)))
+            Ok(FilterColumn::Constant(Value::Truth(holds)))
         }
-        Form::Elo(of) => Ok(FilterColumn::Same(Value::Number(rating(scope.game, *of)))),
+        Form::Elo(of) => Ok(FilterColumn::Constant(Value::Number(rating(scope.game, *of)))),
         Form::Unary(word, part) => { unary_column(alloc, *word, part, scope, live, steps) }
         Form::Steps(way, m, n, part) => {
             let column = evaluate(alloc, part, scope, live, steps)?;
@@ -112,7 +112,7 @@ pub(crate) fn evaluate<L: Ledger>(
                 name: name.as_slice(),
                 squares: &squares,
             };
-            let truths = asked_truths(alloc, &binding, asked, live, steps);
+            let truths = square_filter_truths(alloc, &binding, asked, live, steps);
             drop(squares);
             Ok(FilterColumn::Truths(truths?))
         }
@@ -121,11 +121,11 @@ pub(crate) fn evaluate<L: Ledger>(
             let column = evaluate(alloc, part, scope, live, steps)?;
             numbered_column(alloc, column, live)
         }
-        Form::Comment(_) => Ok(FilterColumn::Same(Value::Truth(true))),
+        Form::Comment(_) => Ok(FilterColumn::Constant(Value::Truth(true))),
         Form::Any(kind, parts) => { any_column(alloc, *kind, parts, scope, live, steps) }
         Form::Line(line) => line_column(alloc, line, scope, live, steps),
         // No family is in a flat query.
-        Form::Transform(..) => Ok(FilterColumn::Same(Value::Truth(false))),
+        Form::Transform(..) => Ok(FilterColumn::Constant(Value::Truth(false))),
     }
 }
 
@@ -141,9 +141,9 @@ fn column_where<L: Ledger>(
     steps: &mut Steps<L>,
 ) -> Result<FilterColumn, NoMemory>
     requires tree { IsTree scope.now.game.now.nodes }
-    requires asked { AreAsked (tree_in scope.now) live.now }
+    requires asked { IsNodeSet (tree_in scope.now) live.now }
     requires flat { IsFlat (filter_tree part.now) }
-    ensures value { IfOk result (λ c. Where live.now (λ n. is_so want (spec.holds (shown first.now n)) ≡ true
+    ensures value { IfOk result (λ c. Where live.now (λ n. is_as_wanted want (spec.holds (shown first.now n)) ≡ true
         → shown c n ≡ value_in scope.now (filter_tree part.now) n)) }
     ensures cost { steps.new ≤ steps.old + filter_cost (searched_len (tree_in scope.now)) (filter_tree part.now) }
     ensures rises { steps.old ≤ steps.new }
@@ -163,15 +163,15 @@ fn unary_column<L: Ledger>(
     steps: &mut Steps<L>,
 ) -> Result<FilterColumn, NoMemory>
     requires tree { IsTree scope.now.game.now.nodes }
-    requires asked { AreAsked (tree_in scope.now) live.now }
+    requires asked { IsNodeSet (tree_in scope.now) live.now }
     requires flat { IsFlat (filter_tree part.now) }
     ensures value { IfOk result (λ c. IsColumn c live.now (meaning.unary_of (tree_in scope.now) word
         (value_in scope.now (filter_tree part.now)))) }
     ensures cost { steps.new ≤ steps.old + filter_cost (searched_len (tree_in scope.now)) (filter_tree part.now) }
     ensures rises { steps.old ≤ steps.new }
 {
-    if looks_elsewhere(word) {
-        let wide = looked_at(alloc, word, scope, live)?;
+    if reads_other_nodes(word) {
+        let wide = source_nodes(alloc, word, scope, live)?;
         let wide = wide.as_slice();
         let column = evaluate(alloc, part, scope, wide, steps)?;
         return found_column(alloc, word, scope, wide, column);
@@ -191,7 +191,7 @@ fn chain_column<L: Ledger>(
     steps: &mut Steps<L>,
 ) -> Result<FilterColumn, NoMemory>
     requires tree { IsTree scope.now.game.now.nodes }
-    requires asked { AreAsked (tree_in scope.now) live.now }
+    requires asked { IsNodeSet (tree_in scope.now) live.now }
     requires flat { AreFlat (filters_tree parts.now) }
     ensures value { IfOk result (λ c. IsColumn c live.now
         (λ n. spec.chain_of chain (values_in scope.now (filters_tree parts.now) n))) }
@@ -222,7 +222,7 @@ fn any_column<L: Ledger>(
     steps: &mut Steps<L>,
 ) -> Result<FilterColumn, NoMemory>
     requires tree { IsTree scope.now.game.now.nodes }
-    requires asked { AreAsked (tree_in scope.now) live.now }
+    requires asked { IsNodeSet (tree_in scope.now) live.now }
     requires flat { AreFlat (filters_tree parts.now) }
     ensures value { IfOk result (λ c. IsColumn c live.now
         (λ n. spec.any_of kind (values_in scope.now (filters_tree parts.now) n))) }

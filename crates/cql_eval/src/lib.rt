@@ -7,7 +7,7 @@
 
 pub mod column;
 mod evaluate;
-mod here;
+mod local;
 pub mod laws;
 mod query;
 

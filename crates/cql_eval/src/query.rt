@@ -8,12 +8,12 @@ ghost use Rattle.cql_syntax.specs.Meaning.{value};
 ghost use Rattle.cql_syntax.specs.TreeOf.{filter_tree, filters_tree};
 ghost use Rattle.cql_syntax.specs.Values.{holds, amount};
 ghost use Rattle.cql_values.specs.Trees.{searched_tree};
-ghost use Rattle.cql_columns.specs.Columns.{AreAsked, is_live, shown};
+ghost use Rattle.cql_columns.specs.Columns.{IsNodeSet, is_live, shown};
 ghost use Rattle.cql_columns.specs.Costs.{filter_cost, filters_cost, searched_len};
 ghost use Rattle.cql_columns.specs.FlatTrees.{IsFlat};
 ghost use Rattle.cql_columns.specs.Scopes.{tree_in};
 ghost use Rattle.cql_eval.specs.Hits.{hits_of, keys_of, hit_column, key_columns, key_row_of, item_numbers, AreKeysAtHits};
-ghost use Rattle.cql_pruning.specs.Classes.{is_of, is_so_if, cost_if, IsLeft};
+ghost use Rattle.cql_pruning.specs.Classes.{is_of, is_as_wanted_if, cost_if, IsLeft};
 
 use crate::column::Column;
 use crate::evaluate::{evaluate, left_by};
@@ -101,7 +101,7 @@ pub fn hit_columns_at<L: Ledger>(
     live: &[bool],
     steps: &mut Steps<L>,
 ) -> Result<Column, NoMemory>
-    requires { AreAsked (searched_tree game.now query.now.variations) live.now }
+    requires { IsNodeSet (searched_tree game.now query.now.variations) live.now }
     ensures hits { IfOk result (λ column. (n : ℕ) → get_or (hits_of column) n false
         ≡ (is_live live.now n && is_hit (searched_tree game.now query.now.variations) (filters_tree query.now.items) n)) }
     ensures keys { IfOk result (λ column. AreKeysAtHits (searched_tree game.now query.now.variations) (filters_tree query.now.items)
@@ -124,7 +124,7 @@ fn columns_of<L: Ledger>(
     live: &[bool],
     steps: &mut Steps<L>,
 ) -> Result<Column, NoMemory>
-    requires { AreAsked (searched_tree game.now query.now.variations) live.now }
+    requires { IsNodeSet (searched_tree game.now query.now.variations) live.now }
     ensures left { IfOk result (λ column. IsLeft (searched_tree game.now query.now.variations) live.now
         (is_hit (searched_tree game.now query.now.variations) (filters_tree query.now.items)) (hits_of column)) }
     ensures keys { IfOk result (λ column. AreKeysAtHits (searched_tree game.now query.now.variations) (filters_tree query.now.items)
@@ -163,11 +163,11 @@ fn sort_by<L: Ledger>(
 ) -> Result<(), NoMemory>
     requires tree { IsTree scope.now.game.now.nodes }
     requires names { scope.now.names.now ≡ [] }
-    requires asked { AreAsked (tree_in scope.now) left.old }
+    requires asked { IsNodeSet (tree_in scope.now) left.old }
     requires flat { IsFlat (filter_tree item.now) }
     ensures len { length left.new ≡ length left.old }
     ensures left { OnOk result (IsLeft (tree_in scope.now) left.old
-        (is_so_if (is_of 5) (tree_in scope.now) [] true (filter_tree item.now)) left.new) }
+        (is_as_wanted_if (is_of 5) (tree_in scope.now) [] true (filter_tree item.now)) left.new) }
     ensures keys { OnOk result (map (λ row. row.items) keys.new.items ≡ map (λ row. row.items) keys.old.items
         ++ map (key_row_of (tree_in scope.now) left.old) (item_numbers (filter_tree item.now))) }
     ensures cost { steps.new ≤ steps.old + cost_if (is_of 5) (searched_len (tree_in scope.now)) (filter_tree item.now) }
@@ -198,11 +198,11 @@ fn narrowed_by<L: Ledger>(
 ) -> Result<Vec<bool>, NoMemory>
     requires tree { IsTree scope.now.game.now.nodes }
     requires names { scope.now.names.now ≡ [] }
-    requires asked { AreAsked (tree_in scope.now) asked.now }
-    requires left { AreAsked (tree_in scope.now) left.now }
+    requires asked { IsNodeSet (tree_in scope.now) asked.now }
+    requires left { IsNodeSet (tree_in scope.now) left.now }
     requires within { (n : ℕ) → is_live left.now n ≡ true → is_live asked.now n ≡ true }
     requires flat { IsFlat (filter_tree item.now) }
-    ensures asked { IfOk result (λ later. AreAsked (tree_in scope.now) later.items) }
+    ensures asked { IfOk result (λ later. IsNodeSet (tree_in scope.now) later.items) }
     ensures each { IfOk result (λ later. (n : ℕ) → is_live later.items n
         ≡ (is_live left.now n && holds (value (tree_in scope.now) [] [] (filter_tree item.now) n))) }
     ensures keys { OnOk result (map (λ row. row.items) keys.new.items ≡ map (λ row. row.items) keys.old.items

@@ -13,8 +13,8 @@ use Rattle.cql_syntax.specs.Weights.{query_weight}
 use Rattle.cql_syntax.specs.declared.fault.QueryFault.{QueryFault}
 use Rattle.cql_syntax.specs.declared.fault.QueryReason.{QueryReason}
 use Rattle.cql_syntax.specs.declared.fault.QueryReason.TheVariants.{TextHoldsBrace, LineTooLong, TooManyMembers, TooManySquares}
-use Rattle.cql_kinds.specs.declared.firsts.Firsts.{Firsts}
-use Rattle.cql_kinds.specs.Walks.{no_firsts, with_firsts, walked, fault_at, limit_fault}
+use Rattle.cql_kinds.specs.declared.first_breaches.FirstBreaches.{FirstBreaches}
+use Rattle.cql_kinds.specs.Internal.Walks.{no_breaches, with_breaches, walk_result, fault_at, limit_fault}
 use Rattle.cql_kinds.proofs.Walking.{first_append, no_fault, a_fault}
 
 pub text_fault : (q : QueryTree) → holds_brace q.match_text ≡ true → checked q ≡ Err (record { byte = q.match_at; reason = TextHoldsBrace })
@@ -37,7 +37,7 @@ limits all heavy =
     ++ (map (λ byte. record { byte = byte; reason = TooManySquares }) (bytes_where (λ o. is_fifth_square o.standing.squares o.form) all)
     ++ where_it heavy (record { byte = unwrap_or (first (bytes_where (λ o. is_family o.form) all)) 0; reason = TooManyMembers }))
 
-first_limit : (all : List Occurrence) (heavy : Bool) → first (limits all heavy) ≡ limit_fault (with_firsts no_firsts all) heavy
+first_limit : (all : List Occurrence) (heavy : Bool) → first (limits all heavy) ≡ limit_fault (with_breaches no_breaches all) heavy
 first_limit all heavy =
     first_append (map (λ byte. record { byte = byte; reason = LineTooLong }) (bytes_where (λ o. is_long_line o.form) all)) _
     ∙ ap₂ option_or (first_at LineTooLong (bytes_where (λ o. is_long_line o.form) all))
@@ -55,18 +55,18 @@ after_text q is =
     ∙ first_append (flat_map rule_faults (all_occurrences q)) (limits (all_occurrences q) (nat_lt most_weight (query_weight q)))
 
 pub rule_fault : (q : QueryTree) (refusal : Refusal QueryFault) → holds_brace q.match_text ≡ false →
-    Refuses {Y = Firsts} refusal (walked no_firsts (all_occurrences q)) → Refuses {Y = QueryTree} refusal (checked q)
-unfolding walked
+    Refuses {Y = FirstBreaches} refusal (walk_result no_breaches (all_occurrences q)) → Refuses {Y = QueryTree} refusal (checked q)
+unfolding walk_result
 rule_fault q (Fault fault) is found =
     ap (ok_unless q) (after_text q is ∙ ap (λ o. option_or o (first (limits (all_occurrences q) (nat_lt most_weight (query_weight q)))))
-    (a_fault (with_firsts no_firsts (all_occurrences q)) fault (first (flat_map rule_faults (all_occurrences q))) found))
+    (a_fault (with_breaches no_breaches (all_occurrences q)) fault (first (flat_map rule_faults (all_occurrences q))) found))
 rule_fault q NoMemory is found = tt
 
-pub limit_is : (q : QueryTree) (firsts : Firsts) → holds_brace q.match_text ≡ false →
-    walked no_firsts (all_occurrences q) ≡ Ok firsts → tree_fault q ≡ limit_fault firsts (nat_lt most_weight (query_weight q))
-unfolding walked
+pub limit_is : (q : QueryTree) (firsts : FirstBreaches) → holds_brace q.match_text ≡ false →
+    walk_result no_breaches (all_occurrences q) ≡ Ok firsts → tree_fault q ≡ limit_fault firsts (nat_lt most_weight (query_weight q))
+unfolding walk_result
 limit_is q firsts is found =
-    let none = no_fault (with_firsts no_firsts (all_occurrences q)) firsts (first (flat_map rule_faults (all_occurrences q))) found in
+    let none = no_fault (with_breaches no_breaches (all_occurrences q)) firsts (first (flat_map rule_faults (all_occurrences q))) found in
     after_text q is ∙ ap (λ o. option_or o (first (limits (all_occurrences q) (nat_lt most_weight (query_weight q))))) none.0
     ∙ first_limit (all_occurrences q) (nat_lt most_weight (query_weight q))
     ∙ ap (λ f. limit_fault f (nat_lt most_weight (query_weight q))) none.1

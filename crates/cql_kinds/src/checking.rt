@@ -6,12 +6,12 @@ ghost use Rattle.cql_syntax.specs.Occurrences.{of_items, sorts_with};
 ghost use Rattle.cql_syntax.specs.TreeFaults.{checked, has_any};
 ghost use Rattle.cql_syntax.specs.TreeOf.{query_tree, filters_tree, filter_tree};
 ghost use Rattle.cql_syntax.specs.Weights.{query_weight};
-ghost use Rattle.cql_kinds.specs.Walks.{no_firsts, walked, limit_fault};
+ghost use Rattle.cql_kinds.specs.Internal.Walks.{no_breaches, walk_result, limit_fault};
 
-use crate::firsts::Firsts;
-use crate::names::Names;
+use crate::first_breaches::FirstBreaches;
+use crate::bound_names::BoundNames;
 use crate::rules::holds_brace;
-use crate::standing::Standing;
+use crate::typing_context::TypingContext;
 use crate::walk::walk;
 use cq_common::Refusal;
 use cql_syntax::{
@@ -32,18 +32,18 @@ fn sorts_with(sorts: usize, item: &Filter) -> usize
 }
 
 // The first of each kind in the top items, or the first fault of a filter that breaks a rule.
-fn walk_items(alloc: Global, items: &Filters) -> Result<Firsts, Refusal<QueryFault>>
-    ensures { Gives (λ found. found) result (walked no_firsts (of_items 0 (filters_tree items.now))) }
+fn walk_items(alloc: Global, items: &Filters) -> Result<FirstBreaches, Refusal<QueryFault>>
+    ensures { Gives (λ found. found) result (walk_result no_breaches (of_items 0 (filters_tree items.now))) }
 {
-    let names = Names::Unbound;
-    let mut found = Firsts {
+    let names = BoundNames::Unbound;
+    let mut found = FirstBreaches {
         line: None,
         square: None,
         family: None,
     };
     let mut sorts = 0;
     for item in items.as_slice() {
-        let standing = Standing {
+        let standing = TypingContext {
             wanted: Kind::Position,
             names: &names,
             squares: 0,
@@ -56,7 +56,7 @@ fn walk_items(alloc: Global, items: &Filters) -> Result<Firsts, Refusal<QueryFau
 }
 
 // A limit that the query passes.
-fn limit_fault(firsts: Firsts, heavy: bool) -> Option<QueryFault>
+fn limit_fault(firsts: FirstBreaches, heavy: bool) -> Option<QueryFault>
     ensures { result ≡ limit_fault firsts heavy }
 {
     let (byte, reason) = match (firsts.line, firsts.square) {

@@ -2,12 +2,12 @@
 #![tactic(auto)]
 
 mod checking;
-mod firsts;
-mod names;
+mod first_breaches;
+mod bound_names;
 mod places;
 mod rules;
-mod standing;
+mod typing_context;
 mod walk;
-mod wants;
+mod operand_kinds;
 
 pub use checking::check;

@@ -4,10 +4,10 @@ ghost use Rattle.cql_syntax.specs.Kinds.{filter_kind};
 ghost use Rattle.cql_syntax.specs.TreeFaults.{first, holds_brace, wrong_kind, below_top, past_four_sorts, unbound_name, brace_in_comment, broken_rules};
 ghost use Rattle.cql_syntax.specs.Trees.{FilterTree, name as name_form, sort, comment};
 ghost use Rattle.cql_syntax.specs.TreeOf.{filter_tree};
-ghost use Rattle.cql_kinds.specs.Standings.{names_in, occurrence};
+ghost use Rattle.cql_kinds.specs.Internal.TypingContexts.{names_in, occurrence};
 
-use crate::names::Names;
-use crate::standing::Standing;
+use crate::bound_names::BoundNames;
+use crate::typing_context::TypingContext;
 use cq_common::{Bytes, NoMemory};
 use cql_syntax::{Filter, Form, Kind, QueryReason, kind_of};
 use std::alloc::Global;
@@ -62,7 +62,7 @@ fn faulty_comment(item: Option<usize>, text: &[u8]) -> Option<QueryReason>
 }
 
 // A name that is not bound.
-fn unbound_name(alloc: Global, names: &Names, name: &[u8]) -> Result<Option<QueryReason>, NoMemory>
+fn unbound_name(alloc: Global, names: &BoundNames, name: &[u8]) -> Result<Option<QueryReason>, NoMemory>
     ensures { IfOk result (λ reason. reason ≡ first (unbound_name (names_in names.now) (name_form name.now))) }
 {
     if names.binds(name) {
@@ -75,7 +75,7 @@ fn unbound_name(alloc: Global, names: &Names, name: &[u8]) -> Result<Option<Quer
 pub fn broken_rule(
     alloc: Global,
     filter: &Filter,
-    standing: Standing,
+    standing: TypingContext,
 ) -> Result<Option<QueryReason>, NoMemory>
     ensures { IfOk result (λ reason. reason ≡ first (broken_rules (occurrence standing.entry filter.now))) }
 {

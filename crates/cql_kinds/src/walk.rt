@@ -3,14 +3,14 @@ ghost use Rattle.std.specs.Prelude.{◌++◌};
 ghost use Rattle.cq_common.specs.Refusals.{Gives};
 ghost use Rattle.cql_syntax.specs.Occurrences.{occurrences, inner, all_of, of_terms, of_played, of_written, of_parts, of_body};
 ghost use Rattle.cql_syntax.specs.TreeOf.{filter_tree, form_tree, filters_tree, terms_tree, played_tree, written_tree, parts_tree, body_tree};
-ghost use Rattle.cql_kinds.specs.Standings.{standing_in};
-ghost use Rattle.cql_kinds.specs.Walks.{walked};
+ghost use Rattle.cql_kinds.specs.Internal.TypingContexts.{typing_context_of};
+ghost use Rattle.cql_kinds.specs.Internal.Walks.{walk_result};
 
-use crate::firsts::Firsts;
-use crate::names::Names;
+use crate::first_breaches::FirstBreaches;
+use crate::bound_names::BoundNames;
 use crate::rules::broken_rule;
-use crate::standing::Standing;
-use crate::wants::{pair_wants, unary_wants};
+use crate::typing_context::TypingContext;
+use crate::operand_kinds::{pair_operand_kind, unary_operand_kind};
 use cq_common::Refusal;
 use cql_syntax::{Body, Constituents, Filter, Filters, Form, Kind, Played, QueryFault, Terms};
 use std::alloc::Global;
@@ -20,10 +20,10 @@ use std::alloc::Global;
 pub fn walk(
     alloc: Global,
     filter: &Filter,
-    standing: Standing,
-    firsts: Firsts,
-) -> Result<Firsts, Refusal<QueryFault>>
-    ensures { Gives (λ found. found) result (walked firsts (occurrences (standing_in standing.entry) (filter_tree filter.now))) }
+    standing: TypingContext,
+    firsts: FirstBreaches,
+) -> Result<FirstBreaches, Refusal<QueryFault>>
+    ensures { Gives (λ found. found) result (walk_result firsts (occurrences (typing_context_of standing.entry) (filter_tree filter.now))) }
 {
     if let Some(reason) = broken_rule(alloc, filter, standing)? {
         return Err(Refusal::Fault(QueryFault {
@@ -39,15 +39,15 @@ pub fn walk(
 fn walk_inner(
     alloc: Global,
     form: &Form,
-    standing: Standing,
-    firsts: Firsts,
-) -> Result<Firsts, Refusal<QueryFault>>
-    ensures { Gives (λ found. found) result (walked firsts (inner (standing_in standing.entry) (form_tree form.now))) }
+    standing: TypingContext,
+    firsts: FirstBreaches,
+) -> Result<FirstBreaches, Refusal<QueryFault>>
+    ensures { Gives (λ found. found) result (walk_result firsts (inner (typing_context_of standing.entry) (form_tree form.now))) }
 {
     match form {
         Form::Squares(_) | Form::Number(_) | Form::Name(_) | Form::Plain(_) => Ok(firsts),
         Form::Tagged(..) | Form::Outcome(_) | Form::Elo(_) | Form::Comment(_) => Ok(firsts),
-        Form::Unary(unary, part) => walk(alloc, part, standing.part(unary_wants(*unary)), firsts),
+        Form::Unary(unary, part) => walk(alloc, part, standing.part(unary_operand_kind(*unary)), firsts),
         Form::Steps(.., part) => walk(alloc, part, standing.part(Kind::Set), firsts),
         Form::Sort(.., part) => walk(alloc, part, standing.part(Kind::Number), firsts),
         Form::Transform(_, part) => walk(alloc, part, standing.part(Kind::Position), firsts),
@@ -55,7 +55,7 @@ fn walk_inner(
         Form::Any(kind, parts) => walk_all(alloc, parts, standing.part(*kind), firsts),
         Form::Sum(terms) => walk_terms(alloc, terms, standing.part(Kind::Number), firsts),
         Form::Pair(pair, first, second) => {
-            let part = standing.part(pair_wants(*pair));
+            let part = standing.part(pair_operand_kind(*pair));
             let after_first = walk(alloc, first, part, firsts)?;
             walk(alloc, second, part, after_first)
         }
@@ -68,8 +68,8 @@ fn walk_inner(
         Form::Square(_, name, squares, asked) => {
             let among = standing.part_of_square(Kind::Set);
             let after_squares = walk(alloc, squares, among, firsts)?;
-            let names = Names::Bound(name.as_slice(), standing.names);
-            walk(alloc, asked, standing.asked_of_each(&names), after_squares)
+            let names = BoundNames::Bound(name.as_slice(), standing.names);
+            walk(alloc, asked, standing.square_condition(&names), after_squares)
         }
         Form::Line(line) => walk_parts(alloc, &line.parts, standing.part(Kind::Position), firsts),
         Form::Played(played) => walk_played(alloc, played, standing.part(Kind::Set), firsts),
@@ -81,10 +81,10 @@ fn walk_inner(
 fn walk_all(
     alloc: Global,
     filters: &Filters,
-    standing: Standing,
-    firsts: Firsts,
-) -> Result<Firsts, Refusal<QueryFault>>
-    ensures { Gives (λ found. found) result (walked firsts (all_of (standing_in standing.entry) (filters_tree filters.now))) }
+    standing: TypingContext,
+    firsts: FirstBreaches,
+) -> Result<FirstBreaches, Refusal<QueryFault>>
+    ensures { Gives (λ found. found) result (walk_result firsts (all_of (typing_context_of standing.entry) (filters_tree filters.now))) }
 {
     let mut found = firsts;
     for filter in filters.as_slice() {
@@ -98,10 +98,10 @@ fn walk_all(
 fn walk_terms(
     alloc: Global,
     terms: &Terms,
-    standing: Standing,
-    firsts: Firsts,
-) -> Result<Firsts, Refusal<QueryFault>>
-    ensures { Gives (λ found. found) result (walked firsts (of_terms (standing_in standing.entry) (terms_tree terms.now))) }
+    standing: TypingContext,
+    firsts: FirstBreaches,
+) -> Result<FirstBreaches, Refusal<QueryFault>>
+    ensures { Gives (λ found. found) result (walk_result firsts (of_terms (typing_context_of standing.entry) (terms_tree terms.now))) }
 {
     let mut found = firsts;
     for term in terms.as_slice() {
@@ -115,10 +115,10 @@ fn walk_terms(
 fn walk_parts(
     alloc: Global,
     parts: &Constituents,
-    standing: Standing,
-    firsts: Firsts,
-) -> Result<Firsts, Refusal<QueryFault>>
-    ensures { Gives (λ found. found) result (walked firsts (of_parts (standing_in standing.entry) (parts_tree parts.now))) }
+    standing: TypingContext,
+    firsts: FirstBreaches,
+) -> Result<FirstBreaches, Refusal<QueryFault>>
+    ensures { Gives (λ found. found) result (walk_result firsts (of_parts (typing_context_of standing.entry) (parts_tree parts.now))) }
 {
     let mut found = firsts;
     for part in parts.as_slice() {
@@ -132,10 +132,10 @@ fn walk_parts(
 fn walk_body(
     alloc: Global,
     body: &Body,
-    standing: Standing,
-    firsts: Firsts,
-) -> Result<Firsts, Refusal<QueryFault>>
-    ensures { Gives (λ found. found) result (walked firsts (of_body (standing_in standing.entry) (body_tree body.now))) }
+    standing: TypingContext,
+    firsts: FirstBreaches,
+) -> Result<FirstBreaches, Refusal<QueryFault>>
+    ensures { Gives (λ found. found) result (walk_result firsts (of_body (typing_context_of standing.entry) (body_tree body.now))) }
 {
     match body {
         Body::Atom(filter) => walk(alloc, filter, standing, firsts),
@@ -148,10 +148,10 @@ fn walk_body(
 fn walk_written(
     alloc: Global,
     written: &Option<Box<Filter>>,
-    standing: Standing,
-    firsts: Firsts,
-) -> Result<Firsts, Refusal<QueryFault>>
-    ensures { Gives (λ found. found) result (walked firsts (of_written (standing_in standing.entry) (written_tree written.now))) }
+    standing: TypingContext,
+    firsts: FirstBreaches,
+) -> Result<FirstBreaches, Refusal<QueryFault>>
+    ensures { Gives (λ found. found) result (walk_result firsts (of_written (typing_context_of standing.entry) (written_tree written.now))) }
 {
     match written {
         Some(filter) => walk(alloc, filter, standing, firsts),
@@ -163,10 +163,10 @@ fn walk_written(
 fn walk_played(
     alloc: Global,
     played: &Played,
-    standing: Standing,
-    firsts: Firsts,
-) -> Result<Firsts, Refusal<QueryFault>>
-    ensures { Gives (λ found. found) result (walked firsts (of_played (standing_in standing.entry) (played_tree played.now))) }
+    standing: TypingContext,
+    firsts: FirstBreaches,
+) -> Result<FirstBreaches, Refusal<QueryFault>>
+    ensures { Gives (λ found. found) result (walk_result firsts (of_played (typing_context_of standing.entry) (played_tree played.now))) }
 {
     let after_origin = walk_written(alloc, &played.origin, standing, firsts)?;
     let after_goal = walk_written(alloc, &played.goal, standing, after_origin)?;

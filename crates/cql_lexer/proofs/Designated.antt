@@ -13,7 +13,7 @@ use Rattle.std.proofs.lemmas.Option.{cond_some, none-some, option_and_then_some,
 use Rattle.cql_syntax.specs.declared.leaves.Designator.{Designator}
 use Rattle.cql_lexer.specs.Characters.{is_comma}
 use Rattle.cql_syntax.specs.Words.{man_letters}
-use Rattle.cql_lexer.specs.Designators.{united, in_brackets, men_of_letter, men_of_letters, men_of, squares_within, rectangle, specification, specifications, squares_of, men_on, any_men, all_squares, men_then_squares, designator}
+use Rattle.cql_lexer.specs.Designators.{union_of_designators, in_brackets, men_of_letter, men_of_letters, men_of, squares_within, rectangle, specification, specifications, squares_of, men_on, any_men, all_squares, men_then_squares, designator}
 use Rattle.cql_lexer.specs.Longest.{longest}
 use Rattle.cql_lexer.specs.Tokens.{IsProperDesignator}
 use Rattle.cql_lexer.proofs.Longest.{longest_parts}
@@ -48,17 +48,17 @@ none_and k a p =
     (omega (arith, low, some), or_lt k 0 a (omega (arith, fits)) p.1)
 
 more_united : {X : Type 0} (read : X → Option ℕ) (k so_far : ℕ) (items : List X) (set : ℕ) → ((x : X) (n : ℕ) → read x ≡ Some n → AreSome k n)
-    → AreSome k so_far → united read so_far items ≡ Some set → AreSome k set
+    → AreSome k so_far → union_of_designators read so_far items ≡ Some set → AreSome k set
 more_united read k so_far [] set each here e = subst (AreSome k) (same_Some so_far set e) here
 more_united read k so_far (x ∷ xs) set each here e =
-    option_and_then_some (λ n. united read (bit_or so_far n) xs) (read x) set e (λ n is rest.
+    option_and_then_some (λ n. union_of_designators read (bit_or so_far n) xs) (read x) set e (λ n is rest.
     more_united read k (bit_or so_far n) xs set each (joined k so_far n here (each x n is)) rest)
 
 all_united : {X : Type 0} (read : X → Option ℕ) (k : ℕ) (items : List X) (set : ℕ) → ((x : X) (n : ℕ) → read x ≡ Some n → AreSome k n)
-    → 0 < length items → united read 0 items ≡ Some set → AreSome k set
+    → 0 < length items → union_of_designators read 0 items ≡ Some set → AreSome k set
 all_united read k [] set each some e = absurd (omega arith)
 all_united read k (x ∷ xs) set each some e =
-    option_and_then_some (λ n. united read (bit_or 0 n) xs) (read x) set e (λ n is rest.
+    option_and_then_some (λ n. union_of_designators read (bit_or 0 n) xs) (read x) set e (λ n is rest.
     more_united read k (bit_or 0 n) xs set each (none_and k n (each x n is)) rest)
 
 -- men

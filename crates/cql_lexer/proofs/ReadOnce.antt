@@ -25,7 +25,7 @@ use Rattle.cql_lexer.specs.Characters.{is_line_feed, is_name_byte, is_file_byte,
 use Rattle.cql_lexer.specs.Designators.{designator}
 use Rattle.cql_lexer.specs.Longest.{longest}
 use Rattle.cql_lexer.specs.Lexemes.{IsFront, of_len, file_name, outcome, quoted, number, named, named_or_squares, mark_number, mark, found_or, first_lexeme}
-use Rattle.cql_lexer.specs.Tokens.{IsRead, ended, separated, lexed, faulty, tokens_from, tokens_of, separator_len, token_at, with_front, expected_after}
+use Rattle.cql_lexer.specs.Tokens.{Tokenizes, ended, separated, lexed, faulty, tokens_from, tokens_of, separator_len, token_at, with_front, expected_after}
 use Rattle.cql_lexer.proofs.Longest.{longest_parts}
 use Rattle.cql_lexer.proofs.Rectangles.{first_or_above}
 use Rattle.cql_lexer.proofs.Steps.{pass_separator, pass_token, stop}
@@ -173,31 +173,31 @@ separator_fits text =
 -- the tokens of a text are a reading of it
 
 module _ (at : ℕ) (expected : Expected) (text : List ℕ) (some : 0 < length text)
-    (more : (next : ℕ) (after : Expected) (rest : List ℕ) → length rest < length text → IsRead next after rest (tokens_from 0 next after rest)) where
-  by_separator : 0 < separator_len text → IsRead at expected text (tokens_from 0 at expected text)
+    (more : (next : ℕ) (after : Expected) (rest : List ℕ) → length rest < length text → Tokenizes next after rest (tokens_from 0 next after rest)) where
+  by_separator : 0 < separator_len text → Tokenizes at expected text (tokens_from 0 at expected text)
   by_separator positive =
       let len = length-drop (separator_len text) text in
       let fits = separator_fits text in
-      subst (IsRead at expected text) (sym (pass_separator at expected text positive fits some))
+      subst (Tokenizes at expected text) (sym (pass_separator at expected text positive fits some))
       (separated at expected text _ positive (more (at + separator_len text) expected (drop (separator_len text) text) (omega (arith, len, fits, positive))))
 
-  by_token : (r : Result (QueryToken × ℕ) QueryFault) → token_at expected at text ≡ r → separator_len text ≡ 0 → IsRead at expected text (tokens_from 0 at expected text)
+  by_token : (r : Result (QueryToken × ℕ) QueryFault) → token_at expected at text ≡ r → separator_len text ≡ 0 → Tokenizes at expected text (tokens_from 0 at expected text)
   by_token (Ok found) is none =
       let front = token_front expected at text found.0 found.1 is in
       let positive = front.0 in let fits = front.1 in
       let len = length-drop found.1 text in
-      subst (IsRead at expected text) (sym (pass_token at expected text found.0 found.1 some none is positive fits))
+      subst (Tokenizes at expected text) (sym (pass_token at expected text found.0 found.1 some none is positive fits))
       (lexed at expected text found.0 found.1 _ some none is (more (at + found.1) (expected_after found.0.kind) (drop found.1 text) (omega (arith, len, fits, positive))))
   by_token (Err fault) is none =
-      subst (IsRead at expected text) (sym (stop at expected text fault some none is)) (faulty at expected text fault some none is)
+      subst (Tokenizes at expected text) (sym (stop at expected text fault some none is)) (faulty at expected text fault some none is)
 
-  by_both : IsRead at expected text (tokens_from 0 at expected text)
+  by_both : Tokenizes at expected text (tokens_from 0 at expected text)
   by_both = elim (first_or_above 0 (separator_len text) (omega arith)) [
     | inl none ↦ by_token (token_at expected at text) refl none
     | inr above ↦ by_separator (omega (arith, above))
   ]
 
-read_within : (n at : ℕ) (expected : Expected) (text : List ℕ) → length text ≤ n → IsRead at expected text (tokens_from 0 at expected text)
+read_within : (n at : ℕ) (expected : Expected) (text : List ℕ) → length text ≤ n → Tokenizes at expected text (tokens_from 0 at expected text)
 unfolding tokens_from
 read_within n at expected [] h = ended at expected
 read_within zero at expected (b ∷ text) h = absurd (omega arith)
@@ -205,7 +205,7 @@ read_within (suc n) at expected (b ∷ text) h =
     by_both at expected (b ∷ text) (omega arith) (λ next after rest less. read_within n next after rest (omega (arith, less, h)))
 
 -- a reading is of the tokens
-are_tokens : (at : ℕ) (expected : Expected) (text : List ℕ) (read : Result (List QueryToken) QueryFault) → IsRead at expected text read → tokens_from 0 at expected text ≡ read
+are_tokens : (at : ℕ) (expected : Expected) (text : List ℕ) (read : Result (List QueryToken) QueryFault) → Tokenizes at expected text read → tokens_from 0 at expected text ≡ read
 unfolding tokens_from
 are_tokens _ _ _ _ (ended at expected) = refl
 are_tokens _ _ _ _ (separated at expected text read positive rest) =
@@ -220,8 +220,8 @@ short_enough : (query : List ℕ) → length query ≤ most_bytes → tokens_of 
 unfolding tokens_of
 short_enough query h = cond-false (ltb most_bytes (length query)) _ _ (le-ltb _ _ h)
 
-pub reads_tokens : (query : List ℕ) (read : Result (List QueryToken) QueryFault) → length query ≤ most_bytes → IsRead 0 expectations.Token query read ↔ (tokens_of query ≡ read)
+pub reads_tokens : (query : List ℕ) (read : Result (List QueryToken) QueryFault) → length query ≤ most_bytes → Tokenizes 0 expectations.Token query read ↔ (tokens_of query ≡ read)
 reads_tokens query read h = (
   (λ is. short_enough query h ∙ are_tokens 0 expectations.Token query read is),
-  (λ e. subst (IsRead 0 expectations.Token query) (sym (short_enough query h) ∙ e) (read_within (length query) 0 expectations.Token query (omega arith))),
+  (λ e. subst (Tokenizes 0 expectations.Token query) (sym (short_enough query h) ∙ e) (read_within (length query) 0 expectations.Token query (omega arith))),
 )

@@ -12,9 +12,9 @@ use Rattle.cql_lexer.specs.Characters.{hyphen, is_comma, is_closing_bracket}
 use Rattle.cql_lexer.specs.Longest.{longest}
 
 -- the union of the sets that the items stand for and of those so far; none where an item stands for none
-abbrev pub united : {X : Type 0} → (X → Option ℕ) → ℕ → List X → Option ℕ
-united read so_far [] = Some so_far
-united read so_far (item ∷ items) = option_and_then (λ set. united read (bit_or so_far set) items) (read item)
+abbrev pub union_of_designators : {X : Type 0} → (X → Option ℕ) → ℕ → List X → Option ℕ
+union_of_designators read so_far [] = Some so_far
+union_of_designators read so_far (item ∷ items) = option_and_then (λ set. union_of_designators read (bit_or so_far set) items) (read item)
 
 -- what stands between a `[` at the front of a text and the first `]`
 abbrev pub group : List ℕ → Option (List ℕ)
@@ -36,7 +36,7 @@ men_of_letter letter =
 -- the men of one or more letters
 abbrev pub men_of_letters : List ℕ → Option ℕ
 men_of_letters [] = None
-men_of_letters (letter ∷ letters) = united men_of_letter 0 (letter ∷ letters)
+men_of_letters (letter ∷ letters) = union_of_designators men_of_letter 0 (letter ∷ letters)
 
 -- the men of a letter, or of letters in brackets
 abbrev pub men_of : List ℕ → Option ℕ
@@ -72,7 +72,7 @@ specification text = None
 
 -- the squares of specifications with commas between them
 abbrev pub specifications : List ℕ → Option ℕ
-specifications text = united specification 0 (slice_split is_comma text)
+specifications text = union_of_designators specification 0 (slice_split is_comma text)
 
 -- the squares of a specification, or of specifications in brackets
 abbrev pub squares_of : List ℕ → Option ℕ

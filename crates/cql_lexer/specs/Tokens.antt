@@ -73,16 +73,16 @@ tokens_of query =
 
 -- What a text reads as that begins at byte `at` of the query: separators are passed, else the first lexeme is a token, and what
 -- follows it is read after it; the end is one token, and a fault ends the reading.
-pub data IsRead : ℕ → Expected → List ℕ → Result (List QueryToken) QueryFault → Type 0 where
-  ended : (at : ℕ) (expected : Expected) → IsRead at expected [] (Ok (record { at = at; kind = End } ∷ []))
+pub data Tokenizes : ℕ → Expected → List ℕ → Result (List QueryToken) QueryFault → Type 0 where
+  ended : (at : ℕ) (expected : Expected) → Tokenizes at expected [] (Ok (record { at = at; kind = End } ∷ []))
   separated : (at : ℕ) (expected : Expected) (text : List ℕ) (read : Result (List QueryToken) QueryFault)
-      → 0 < separator_len text → IsRead (at + separator_len text) expected (drop (separator_len text) text) read
-      → IsRead at expected text read
+      → 0 < separator_len text → Tokenizes (at + separator_len text) expected (drop (separator_len text) text) read
+      → Tokenizes at expected text read
   lexed : (at : ℕ) (expected : Expected) (text : List ℕ) (token : QueryToken) (len : ℕ) (read : Result (List QueryToken) QueryFault)
       → 0 < length text → separator_len text ≡ 0 → token_at expected at text ≡ Ok (token, len)
-      → IsRead (at + len) (expected_after token.kind) (drop len text) read → IsRead at expected text (with_front (token ∷ []) read)
+      → Tokenizes (at + len) (expected_after token.kind) (drop len text) read → Tokenizes at expected text (with_front (token ∷ []) read)
   faulty : (at : ℕ) (expected : Expected) (text : List ℕ) (fault : QueryFault)
-      → 0 < length text → separator_len text ≡ 0 → token_at expected at text ≡ Err fault → IsRead at expected text (Err fault)
+      → 0 < length text → separator_len text ≡ 0 → token_at expected at text ≡ Err fault → Tokenizes at expected text (Err fault)
 
 -- men, squares, and flags that tell of the squares: there are 13 men, the empty square one of them
 pub record IsProperDesignator (designator : Designator) : Type 0 where

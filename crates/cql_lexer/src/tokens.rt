@@ -5,7 +5,7 @@ ghost use Rattle.cql_syntax.specs.Limits.{most_bytes};
 ghost use Rattle.cql_syntax.specs.declared.fault.QueryFault.{QueryFault};
 ghost use Rattle.cql_syntax.specs.declared.token.QueryToken.{QueryToken};
 ghost use Rattle.cq_common.specs.Refusals.{Gives};
-ghost use Rattle.cql_lexer.specs.Tokens.{separator_len, token_at, tokens_of, EndOnce, IsRead};
+ghost use Rattle.cql_lexer.specs.Tokens.{separator_len, token_at, tokens_of, EndOnce, Tokenizes};
 
 use crate::characters::find;
 use crate::expected::{Expected, expected_after};
@@ -104,5 +104,5 @@ pub fn tokens_end_once()
 #[tactic(auto, using(crate::proofs::ReadOnce::reads_tokens))]
 pub fn tokens_are_read()
     ensures { (query : List ℕ) (read : Result (List QueryToken) QueryFault) → length query ≤ most_bytes →
-        IsRead 0 Expected.Token query read ↔ (tokens_of query ≡ read) }
+        Tokenizes 0 Expected.Token query read ↔ (tokens_of query ≡ read) }
 {}

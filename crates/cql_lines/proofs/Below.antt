@@ -1,8 +1,8 @@
 -- The ways from the nodes that are joined to a node.
 use Rattle.std.specs.Prelude.{ℕ, List, Bool}
-use Rattle.cql_lines.specs.declared.automaton.Rule.{Rule}
-use Rattle.cql_lines.specs.Reads.{FromPlace}
+use Rattle.cql_lines.specs.declared.automaton.Transition.{Transition}
+use Rattle.cql_lines.specs.Internal.AcceptedLengths.{AcceptedLengthFrom}
 
 -- some way of k nodes from a node that is joined to n is read, its first node by the place j
-abbrev pub Below : (ℕ → ℕ → Bool) → List Rule → (ℕ → ℕ → Type 0) → ℕ → ℕ → ℕ → Type 0
-Below test rules Edge j n k = (c : ℕ) × Edge n c × FromPlace test rules Edge j c k
+abbrev pub Below : (ℕ → ℕ → Bool) → List Transition → (ℕ → ℕ → Type 0) → ℕ → ℕ → ℕ → Type 0
+Below test rules Edge j n k = (c : ℕ) × Edge n c × AcceptedLengthFrom test rules Edge j c k

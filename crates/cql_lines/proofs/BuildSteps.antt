@@ -2,8 +2,8 @@
 use Rattle.std.proofs.Common.{◌≡◌, ℕ, zero, suc, ◌+◌, ◌-◌, ◌*◌, ◌<◌, ◌≤◌, List, ◌++◌, length, refl, sym, ap, ◌∙◌, subst, Bool, true, false, arith, length-append, append_assoc}
 use Rattle.std.specs.Prelude.{bit_or}
 use Rattle.std.specs.Int.Bits.{or_zero_r}
-use Rattle.cql_lines.specs.declared.automaton.Rule.{Rule}
-use Rattle.cql_lines.specs.declared.automaton.Next.{Next}
+use Rattle.cql_lines.specs.declared.automaton.Transition.{Transition}
+use Rattle.cql_lines.specs.declared.automaton.FollowSet.{FollowSet}
 use Rattle.cql_lines.specs.Building.{firsts_times, rows_times, begins, null_times}
 use Rattle.cql_lines.specs.Places.{when}
 
@@ -26,17 +26,17 @@ null_few true (suc m) (suc n) h = null_few true m n (omega arith)
 null_few false (suc m) (suc n) h = refl
 
 -- rows after rows
-pub rows_after : (old mid new front : List Rule) (len : ℕ) (row : ℕ → List Rule) → mid ≡ old ++ front → length front ≡ len
+pub rows_after : (old mid new front : List Transition) (len : ℕ) (row : ℕ → List Transition) → mid ≡ old ++ front → length front ≡ len
     → new ≡ mid ++ row (length mid) → new ≡ old ++ (front ++ row (length old + len))
 rows_after old mid new front len row m l n =
     let k : length mid ≡ length old + len = ap length m ∙ length-append old front ∙ ap (λ x. length old + x) l in
     n ∙ ap (λ x. mid ++ row x) k ∙ ap (λ x. x ++ row (length old + len)) m ∙ append_assoc old front (row (length old + len))
 
-pub length_after : (old mid front : List Rule) (len : ℕ) → mid ≡ old ++ front → length front ≡ len → length mid ≡ length old + len
+pub length_after : (old mid front : List Transition) (len : ℕ) → mid ≡ old ++ front → length front ≡ len → length mid ≡ length old + len
 length_after old mid front len m l = ap length m ∙ length-append old front ∙ ap (λ x. length old + x) l
 
-module _ (row : Next → ℕ → List Rule) (first : ℕ → ℕ) (b : Bool) (len : ℕ) where
-  pub times_rows : (old mid new : List Rule) (m k : ℕ) (next : Next) (f : ℕ) (null : Bool) → mid ≡ old ++ rows_times row first b len (m - 1) k next (length old)
+module _ (row : FollowSet → ℕ → List Transition) (first : ℕ → ℕ) (b : Bool) (len : ℕ) where
+  pub times_rows : (old mid new : List Transition) (m k : ℕ) (next : FollowSet) (f : ℕ) (null : Bool) → mid ≡ old ++ rows_times row first b len (m - 1) k next (length old)
       → length mid ≡ length old + k * len → f ≡ firsts_times first b len k (length old) → null ≡ null_times b (m - 1) k → new ≡ mid ++ row (begins f null next) (length mid)
       → new ≡ old ++ rows_times row first b len m (k + 1) next (length old)
   times_rows old mid new m k next f null is long fs ns more =
@@ -49,7 +49,7 @@ module _ (row : Next → ℕ → List Rule) (first : ℕ → ℕ) (b : Bool) (le
       (rows_after old mid new front (k * len) (λ x. row (begins (firsts_times first b len k (length old)) (null_times b (m - 1) k) next) x) is l
       (more ∙ ap (λ x. mid ++ row x (length mid)) head))
 
-  pub times_first : (old mid : List Rule) (k f g h : ℕ) (empty : Bool) → length mid ≡ length old + k * len → f ≡ firsts_times first b len k (length old) → g ≡ first (length mid) → empty ≡ b
+  pub times_first : (old mid : List Transition) (k f g h : ℕ) (empty : Bool) → length mid ≡ length old + k * len → f ≡ firsts_times first b len k (length old) → g ≡ first (length mid) → empty ≡ b
       → h ≡ bit_or g (when empty f) → h ≡ firsts_times first b len (k + 1) (length old)
   times_first old mid k f g h empty long fs gs es is =
       let e : suc k ≡ k + 1 = omega arith in

@@ -1,37 +1,37 @@
 -- The rules of a pattern are places for it.
 use Rattle.std.proofs.Common.{◌≡◌, ℕ, zero, suc, ◌+◌, ◌-◌, ◌*◌, List, [], ◌∷◌, ◌++◌, length, refl, sym, ap, ◌∙◌, Bool, true, Some, None, arith, slice_get, length-append}
-use Rattle.cql_lines.specs.declared.automaton.Next.{Next}
-use Rattle.cql_lines.specs.declared.automaton.Rule.{Rule}
+use Rattle.cql_lines.specs.declared.automaton.FollowSet.{FollowSet}
+use Rattle.cql_lines.specs.declared.automaton.Transition.{Transition}
 use Rattle.cq_common.specs.Spelling.{Pattern, one, nothing, joined, repeated}
 use Rattle.cql_lines.specs.Building.{begins, null_times, nullable, size, firsts_times, firsts, rows_times, rows, IsPlain}
 use Rattle.cql_lines.proofs.Built.{Built, BuiltTimes}
 
-get_left : (xs ys : List Rule) (i : ℕ) (r : Rule) → slice_get xs i ≡ Some r → slice_get (xs ++ ys) i ≡ Some r
+get_left : (xs ys : List Transition) (i : ℕ) (r : Transition) → slice_get xs i ≡ Some r → slice_get (xs ++ ys) i ≡ Some r
 get_left [] ys i r e = absurd (cc)
 get_left (x ∷ xs) ys zero r e = e
 get_left (x ∷ xs) ys (suc i) r e = get_left xs ys i r e
 
-get_right : (xs ys : List Rule) (i j : ℕ) (r : Rule) → j ≡ length xs + i → slice_get ys i ≡ Some r → slice_get (xs ++ ys) j ≡ Some r
+get_right : (xs ys : List Transition) (i j : ℕ) (r : Transition) → j ≡ length xs + i → slice_get ys i ≡ Some r → slice_get (xs ++ ys) j ≡ Some r
 get_right [] ys i j r h e = (let same : j ≡ i = omega arith in ap (slice_get ys) same ∙ e)
 get_right (x ∷ xs) ys i zero r h e = absurd (omega arith)
 get_right (x ∷ xs) ys i (suc j) r h e = get_right xs ys i j r (omega arith) e
 
 -- the rows stand among the rules from the place k on
-pub record Sit (rules : List Rule) (k : ℕ) (rs : List Rule) : Type 0 where
-  pub at : (i : ℕ) (r : Rule) → slice_get rs i ≡ Some r → slice_get rules (k + i) ≡ Some r
+pub record Sit (rules : List Transition) (k : ℕ) (rs : List Transition) : Type 0 where
+  pub at : (i : ℕ) (r : Transition) → slice_get rs i ≡ Some r → slice_get rules (k + i) ≡ Some r
 
-sit_left : (rules : List Rule) (k : ℕ) (xs ys : List Rule) → Sit rules k (xs ++ ys) → Sit rules k xs
+sit_left : (rules : List Transition) (k : ℕ) (xs ys : List Transition) → Sit rules k (xs ++ ys) → Sit rules k xs
 sit_left rules k xs ys s = record { at = λ i r e. s.at i r (get_left xs ys i r e) }
 
-sit_right : (rules : List Rule) (k : ℕ) (xs ys : List Rule) (m : ℕ) → k + length xs ≡ m → Sit rules k (xs ++ ys) → Sit rules m ys
+sit_right : (rules : List Transition) (k : ℕ) (xs ys : List Transition) (m : ℕ) → k + length xs ≡ m → Sit rules k (xs ++ ys) → Sit rules m ys
 sit_right rules k xs ys m e s = record {
   at = λ i r h.
       let there : k + (length xs + i) ≡ m + i = omega arith in
       sym (ap (slice_get rules) there) ∙ s.at (length xs + i) r (get_right xs ys i (length xs + i) r refl h);
 }
 
-times_length : (row : Next → ℕ → List Rule) (first : ℕ → ℕ) (b : Bool) (len : ℕ) → ((next : Next) (k : ℕ) → length (row next k) ≡ len)
-    → (m n : ℕ) (next : Next) (k : ℕ) → length (rows_times row first b len m n next k) ≡ n * len
+times_length : (row : FollowSet → ℕ → List Transition) (first : ℕ → ℕ) (b : Bool) (len : ℕ) → ((next : FollowSet) (k : ℕ) → length (row next k) ≡ len)
+    → (m n : ℕ) (next : FollowSet) (k : ℕ) → length (rows_times row first b len m n next k) ≡ n * len
 times_length row first b len is m zero next k = (let z : 0 ≡ 0 * len = omega arith in z)
 times_length row first b len is m (suc n) next k =
     let rest = rows_times row first b len (m - 1) n next k in
@@ -41,7 +41,7 @@ times_length row first b len is m (suc n) next k =
     let a = length-append rest head in
     grind (arith, h, i, a)
 
-pub rows_length : (p : Pattern ℕ) (next : Next) (k : ℕ) → length (rows p next k) ≡ size p
+pub rows_length : (p : Pattern ℕ) (next : FollowSet) (k : ℕ) → length (rows p next k) ≡ size p
 rows_length (one a) next k = refl
 rows_length nothing next k = refl
 rows_length (joined p q) next k =
@@ -50,10 +50,10 @@ rows_length (joined p q) next k =
 rows_length (repeated least (Some n) p) next k = times_length (rows p) (firsts p) (nullable p) (size p) (rows_length p) least n next k
 rows_length (repeated least None p) next k = rows_length p (begins (firsts p k) true next) k
 
-module _ (rules : List Rule) where
-  times_built : (row : Next → ℕ → List Rule) (first : ℕ → ℕ) (b : Bool) (len : ℕ) (B : Next → ℕ → Type 0)
-      → ((next : Next) (k : ℕ) → length (row next k) ≡ len) → ((next : Next) (k : ℕ) → Sit rules k (row next k) → B next (first k))
-      → (m n : ℕ) (next : Next) (k : ℕ) → Sit rules k (rows_times row first b len m n next k) → BuiltTimes B b m n next (firsts_times first b len n k)
+module _ (rules : List Transition) where
+  times_built : (row : FollowSet → ℕ → List Transition) (first : ℕ → ℕ) (b : Bool) (len : ℕ) (B : FollowSet → ℕ → Type 0)
+      → ((next : FollowSet) (k : ℕ) → length (row next k) ≡ len) → ((next : FollowSet) (k : ℕ) → Sit rules k (row next k) → B next (first k))
+      → (m n : ℕ) (next : FollowSet) (k : ℕ) → Sit rules k (rows_times row first b len m n next k) → BuiltTimes B b m n next (firsts_times first b len n k)
   times_built row first b len B long built m zero next k s = refl
   times_built row first b len B long built m (suc n) next k s =
       let rest = rows_times row first b len (m - 1) n next k in
@@ -66,7 +66,7 @@ module _ (rules : List Rule) where
         refl,
       )
 
-  pub rows_built : (p : Pattern ℕ) → IsPlain p → (next : Next) (k : ℕ) → Sit rules k (rows p next k) → Built rules p next (firsts p k)
+  pub rows_built : (p : Pattern ℕ) → IsPlain p → (next : FollowSet) (k : ℕ) → Sit rules k (rows p next k) → Built rules p next (firsts p k)
   rows_built (one a) plain next k s = (k, (let same : k + 0 ≡ k = omega arith in sym (ap (slice_get rules) same) ∙ s.at 0 _ refl), refl)
   rows_built nothing plain next k s = refl
   rows_built (joined p q) plain next k s =

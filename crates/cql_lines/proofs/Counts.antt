@@ -4,24 +4,24 @@ use Rattle.std.specs.Prelude.{cond}
 use Rattle.std.proofs.lemmas.List.Sums.{sum_by_more, sum_by-take-drop}
 use Rattle.std.proofs.lemmas.List.{take_all, drop_all}
 use Rattle.std.proofs.lemmas.Option.{slice_get-get_or}
-use Rattle.cql_lines.specs.declared.shape.Spot.{Spot}
+use Rattle.cql_lines.specs.declared.shape.TreeNode.{TreeNode}
 use Rattle.cql_lines.specs.Shapes.{is_searched, searched_by, searched_count}
 
-abbrev one : Spot → ℕ
+abbrev one : TreeNode → ℕ
 one s = cond s.searched 1 0
 
 -- stands for a node where there is none
-abbrev blank : Spot
+abbrev blank : TreeNode
 blank = record { parent = None; searched = false; first = false }
 
-first_more : (spots : List Spot) (n : ℕ) → n < length spots → searched_count (take (n + 1) spots) ≡ searched_count (take n spots) + cond (is_searched spots n) 1 0
-first_more spots n low = sum_by_more one spots n blank low ∙ ap (λ o. searched_count (take n spots) + cond (searched_by o) 1 0) (sym (slice_get-get_or spots n blank low))
+first_more : (tree_nodes : List TreeNode) (n : ℕ) → n < length tree_nodes → searched_count (take (n + 1) tree_nodes) ≡ searched_count (take n tree_nodes) + cond (is_searched tree_nodes n) 1 0
+first_more tree_nodes n low = sum_by_more one tree_nodes n blank low ∙ ap (λ o. searched_count (take n tree_nodes) + cond (searched_by o) 1 0) (sym (slice_get-get_or tree_nodes n blank low))
 
-last_more : (spots : List Spot) (n : ℕ) → n < length spots → searched_count (drop n spots) ≡ searched_count (drop (n + 1) spots) + cond (is_searched spots n) 1 0
-last_more spots n low =
-    let all : searched_count (take n spots) + searched_count (drop n spots) ≡ searched_count spots = sum_by-take-drop one spots n in
-    let same : searched_count (take (n + 1) spots) + searched_count (drop (n + 1) spots) ≡ searched_count spots = sum_by-take-drop one spots (n + 1) in
-    let more = first_more spots n low in omega arith
+last_more : (tree_nodes : List TreeNode) (n : ℕ) → n < length tree_nodes → searched_count (drop n tree_nodes) ≡ searched_count (drop (n + 1) tree_nodes) + cond (is_searched tree_nodes n) 1 0
+last_more tree_nodes n low =
+    let all : searched_count (take n tree_nodes) + searched_count (drop n tree_nodes) ≡ searched_count tree_nodes = sum_by-take-drop one tree_nodes n in
+    let same : searched_count (take (n + 1) tree_nodes) + searched_count (drop (n + 1) tree_nodes) ≡ searched_count tree_nodes = sum_by-take-drop one tree_nodes (n + 1) in
+    let more = first_more tree_nodes n low in omega arith
 
 times_more : (a m : ℕ) → a * (m + 1) ≡ a * m + a
 times_more a m = grind arith
@@ -39,47 +39,47 @@ one_more atoms a b s n m all false none each e was =
     let is = none refl in
     let same : atoms * n ≡ atoms * m = ap (λ k. atoms * k) e ∙ times_same atoms m in omega arith
 
-pub exact_up : (spots : List Spot) (atoms a b s n : ℕ) → n < length spots
-    → (is_searched spots n ≡ false → b ≡ a) → (is_searched spots n ≡ true → b ≡ a + atoms)
-    → a + atoms * searched_count (drop n spots) ≡ s + atoms * searched_count spots
-    → b + atoms * searched_count (drop (n + 1) spots) ≡ s + atoms * searched_count spots
-exact_up spots atoms a b s n low none each was =
-    one_more atoms a b s (searched_count (drop n spots)) (searched_count (drop (n + 1) spots)) (atoms * searched_count spots) (is_searched spots n)
-    none each (last_more spots n low) was
+pub exact_up : (tree_nodes : List TreeNode) (atoms a b s n : ℕ) → n < length tree_nodes
+    → (is_searched tree_nodes n ≡ false → b ≡ a) → (is_searched tree_nodes n ≡ true → b ≡ a + atoms)
+    → a + atoms * searched_count (drop n tree_nodes) ≡ s + atoms * searched_count tree_nodes
+    → b + atoms * searched_count (drop (n + 1) tree_nodes) ≡ s + atoms * searched_count tree_nodes
+exact_up tree_nodes atoms a b s n low none each was =
+    one_more atoms a b s (searched_count (drop n tree_nodes)) (searched_count (drop (n + 1) tree_nodes)) (atoms * searched_count tree_nodes) (is_searched tree_nodes n)
+    none each (last_more tree_nodes n low) was
 
-pub exact_first : (spots : List Spot) (atoms s : ℕ)
-    → s + atoms * searched_count (take (length spots - 0) spots) ≡ s + atoms * searched_count spots
-exact_first spots atoms s = ap (λ l. s + atoms * searched_count l) (take_all (length spots - 0) spots (omega arith))
+pub exact_first : (tree_nodes : List TreeNode) (atoms s : ℕ)
+    → s + atoms * searched_count (take (length tree_nodes - 0) tree_nodes) ≡ s + atoms * searched_count tree_nodes
+exact_first tree_nodes atoms s = ap (λ l. s + atoms * searched_count l) (take_all (length tree_nodes - 0) tree_nodes (omega arith))
 
-pub exact_down : (spots : List Spot) (atoms a b s turn n : ℕ) → n + turn + 1 ≡ length spots
-    → (is_searched spots n ≡ false → b ≡ a) → (is_searched spots n ≡ true → b ≡ a + atoms)
-    → a + atoms * searched_count (take (length spots - turn) spots) ≡ s + atoms * searched_count spots
-    → b + atoms * searched_count (take (length spots - (turn + 1)) spots) ≡ s + atoms * searched_count spots
-exact_down spots atoms a b s turn n all none each was =
-    let low : n < length spots = omega arith in
-    let e : length spots - turn ≡ n + 1 = omega arith in
-    let f : length spots - (turn + 1) ≡ n = omega arith in
-    let before : a + atoms * searched_count (take (n + 1) spots) ≡ s + atoms * searched_count spots =
-    subst (λ k. a + atoms * searched_count (take k spots) ≡ s + atoms * searched_count spots) e was in
-    subst (λ k. b + atoms * searched_count (take k spots) ≡ s + atoms * searched_count spots) (sym f)
-    (one_more atoms a b s (searched_count (take (n + 1) spots)) (searched_count (take n spots)) (atoms * searched_count spots) (is_searched spots n)
-    none each (first_more spots n low) before)
+pub exact_down : (tree_nodes : List TreeNode) (atoms a b s turn n : ℕ) → n + turn + 1 ≡ length tree_nodes
+    → (is_searched tree_nodes n ≡ false → b ≡ a) → (is_searched tree_nodes n ≡ true → b ≡ a + atoms)
+    → a + atoms * searched_count (take (length tree_nodes - turn) tree_nodes) ≡ s + atoms * searched_count tree_nodes
+    → b + atoms * searched_count (take (length tree_nodes - (turn + 1)) tree_nodes) ≡ s + atoms * searched_count tree_nodes
+exact_down tree_nodes atoms a b s turn n all none each was =
+    let low : n < length tree_nodes = omega arith in
+    let e : length tree_nodes - turn ≡ n + 1 = omega arith in
+    let f : length tree_nodes - (turn + 1) ≡ n = omega arith in
+    let before : a + atoms * searched_count (take (n + 1) tree_nodes) ≡ s + atoms * searched_count tree_nodes =
+    subst (λ k. a + atoms * searched_count (take k tree_nodes) ≡ s + atoms * searched_count tree_nodes) e was in
+    subst (λ k. b + atoms * searched_count (take k tree_nodes) ≡ s + atoms * searched_count tree_nodes) (sym f)
+    (one_more atoms a b s (searched_count (take (n + 1) tree_nodes)) (searched_count (take n tree_nodes)) (atoms * searched_count tree_nodes) (is_searched tree_nodes n)
+    none each (first_more tree_nodes n low) before)
 
 none_left : (a atoms all : ℕ) → a + atoms * 0 ≡ all → a ≡ all
 none_left a atoms all e = grind arith
 
 -- all nodes are counted
-pub all_up : (spots : List Spot) (atoms a s nodes n : ℕ) → nodes ≡ length spots → nodes ≤ n
-    → a + atoms * searched_count (drop n spots) ≡ s + atoms * searched_count spots → a ≡ s + atoms * searched_count spots
-all_up spots atoms a s nodes n e past was =
-    none_left a atoms (s + atoms * searched_count spots)
-    (sym (ap (λ l. a + atoms * searched_count l) (drop_all n spots (omega arith))) ∙ was)
+pub all_up : (tree_nodes : List TreeNode) (atoms a s nodes n : ℕ) → nodes ≡ length tree_nodes → nodes ≤ n
+    → a + atoms * searched_count (drop n tree_nodes) ≡ s + atoms * searched_count tree_nodes → a ≡ s + atoms * searched_count tree_nodes
+all_up tree_nodes atoms a s nodes n e past was =
+    none_left a atoms (s + atoms * searched_count tree_nodes)
+    (sym (ap (λ l. a + atoms * searched_count l) (drop_all n tree_nodes (omega arith))) ∙ was)
 
-pub all_down : (spots : List Spot) (atoms a s nodes n : ℕ) → nodes ≡ length spots → nodes ≤ n
-    → a + atoms * searched_count (take (length spots - n) spots) ≡ s + atoms * searched_count spots → a ≡ s + atoms * searched_count spots
-all_down spots atoms a s nodes n e past was =
-    let none : length spots - n ≡ 0 = omega arith in
-    none_left a atoms (s + atoms * searched_count spots) (sym (ap (λ k. a + atoms * searched_count (take k spots)) none) ∙ was)
+pub all_down : (tree_nodes : List TreeNode) (atoms a s nodes n : ℕ) → nodes ≡ length tree_nodes → nodes ≤ n
+    → a + atoms * searched_count (take (length tree_nodes - n) tree_nodes) ≡ s + atoms * searched_count tree_nodes → a ≡ s + atoms * searched_count tree_nodes
+all_down tree_nodes atoms a s nodes n e past was =
+    let none : length tree_nodes - n ≡ 0 = omega arith in
+    none_left a atoms (s + atoms * searched_count tree_nodes) (sym (ap (λ k. a + atoms * searched_count (take k tree_nodes)) none) ∙ was)
 
 pub no_more : (a b : ℕ) → a ≡ b → a ≤ b
 no_more a b e = omega arith

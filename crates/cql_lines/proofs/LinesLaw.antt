@@ -1,26 +1,26 @@
 -- From what the places read to what the pattern spells.
 use Rattle.std.proofs.Common.{◌≡◌, ℕ, zero, suc, ◌+◌, ◌-◌, ◌*◌, ◌<◌, ◌≤◌, List, [], ◌∷◌, ◌++◌, length, refl, sym, ap, ◌∙◌, subst, Bool, true, false, Option, Some, None, inl, inr, arith, slice_get}
 use Rattle.std.specs.Prelude.{◌⊎◌}
-use Rattle.cql_lines.specs.declared.automaton.Next.{Next}
-use Rattle.cql_lines.specs.declared.automaton.Rule.{Rule}
-use Rattle.cql_lines.specs.declared.plain.Plain.{Plain as Given, Atom, Empty, Both', Star', Plus', Times'}
+use Rattle.cql_lines.specs.declared.automaton.FollowSet.{FollowSet}
+use Rattle.cql_lines.specs.declared.automaton.Transition.{Transition}
+use Rattle.cql_lines.specs.declared.binary_pattern.BinaryPattern.{BinaryPattern as Given, Atom, Empty, Both', Star', Plus', Times'}
 use Rattle.cq_common.specs.Spelling.{Pattern, one, nothing, joined, repeated}
 use Rattle.cql_lines.specs.Building.{begins, null_times, nullable, size, firsts_times, firsts, rows_times, rows, IsPlain, AtomsBelow}
 use Rattle.cql_lines.proofs.Built.{Built}
-use Rattle.cq_common.specs.Ways.{Line}
+use Rattle.cq_common.specs.Walks.{Line}
 use Rattle.cq_common.specs.Greatest.{IsGreatest}
 use Rattle.cq_common.proofs.WithinLaw.{is_from_to, from_to_is}
-use Rattle.cql_lines.specs.Reads.{Read}
+use Rattle.cql_lines.specs.Internal.AcceptedLengths.{AcceptedLength}
 use Rattle.cql_lines.specs.Tables.{holds}
-use Rattle.cql_lines.specs.Values.{AnswerAt, allows}
+use Rattle.cql_lines.specs.Values.{GreatestWhere, allows}
 use Rattle.cql_lines.specs.Shapes.{is_searched}
-use Rattle.cql_lines.specs.declared.shape.Spot.{Spot}
-use Rattle.cql_lines.specs.TreeOf.{plain_tree}
+use Rattle.cql_lines.specs.declared.shape.TreeNode.{TreeNode}
+use Rattle.cql_lines.specs.Internal.BinaryPatterns.{plain_tree}
 use Rattle.cql_lines.specs.declared.automaton.Automaton.{Automaton}
 use Rattle.cql_lines.specs.declared.shape.Limits.{Limits}
 use Rattle.cql_lines.specs.Automata.{places, IsAutomatonOf}
-use Rattle.cql_lines.specs.Cells.{Allowed}
-use Rattle.cql_lines.specs.Sets.{Between}
+use Rattle.cql_lines.specs.Internal.Cells.{AllowedLength}
+use Rattle.cql_lines.specs.Internal.LengthSets.{Between}
 use Rattle.cql_lines.proofs.BuildingLaw.{Sit, rows_built}
 use Rattle.cql_lines.proofs.WaysLaw.{end, read_spelled, spelled_read}
 
@@ -32,7 +32,7 @@ given_plain (Star' i p) = given_plain p
 given_plain (Plus' i p) = given_plain p
 given_plain (Times' m n i p) = given_plain p
 
-get_either : (xs ys : List Rule) (i : ℕ) (r : Rule) → slice_get (xs ++ ys) i ≡ Some r → ((j : ℕ) × (slice_get xs j ≡ Some r)) ⊎ ((j : ℕ) × (slice_get ys j ≡ Some r))
+get_either : (xs ys : List Transition) (i : ℕ) (r : Transition) → slice_get (xs ++ ys) i ≡ Some r → ((j : ℕ) × (slice_get xs j ≡ Some r)) ⊎ ((j : ℕ) × (slice_get ys j ≡ Some r))
 get_either [] ys i r e = inr (i, e)
 get_either (x ∷ xs) ys zero r e = inl (0, e)
 get_either (x ∷ xs) ys (suc i) r e = elim (get_either xs ys i r e) [
@@ -41,11 +41,11 @@ get_either (x ∷ xs) ys (suc i) r e = elim (get_either xs ys i r e) [
 ]
 
 -- rules ask for the first so many atoms alone
-abbrev RulesBelow : List Rule → ℕ → Type 0
-RulesBelow rules atoms = (i : ℕ) (r : Rule) → slice_get rules i ≡ Some r → r.atom < atoms
+abbrev RulesBelow : List Transition → ℕ → Type 0
+RulesBelow rules atoms = (i : ℕ) (r : Transition) → slice_get rules i ≡ Some r → r.atom < atoms
 
-times_atoms : (row : Next → ℕ → List Rule) (first : ℕ → ℕ) (b : Bool) (len atoms : ℕ) → ((next : Next) (k : ℕ) → RulesBelow (row next k) atoms)
-    → (m n : ℕ) (next : Next) (k : ℕ) → RulesBelow (rows_times row first b len m n next k) atoms
+times_atoms : (row : FollowSet → ℕ → List Transition) (first : ℕ → ℕ) (b : Bool) (len atoms : ℕ) → ((next : FollowSet) (k : ℕ) → RulesBelow (row next k) atoms)
+    → (m n : ℕ) (next : FollowSet) (k : ℕ) → RulesBelow (rows_times row first b len m n next k) atoms
 times_atoms row first b len atoms few m zero next k = λ i r e. absurd (cc)
 times_atoms row first b len atoms few m (suc n) next k = λ i r e.
     elim (get_either (rows_times row first b len (m - 1) n next k) (row (begins (firsts_times first b len n k) (null_times b (m - 1) n) next) (k + n * len)) i r e) [
@@ -53,8 +53,8 @@ times_atoms row first b len atoms few m (suc n) next k = λ i r e.
       | inr y ↦ few (begins (firsts_times first b len n k) (null_times b (m - 1) n) next) (k + n * len) y.0 r y.1
     ]
 
-pub rows_atoms : (p : Pattern ℕ) (atoms : ℕ) → AtomsBelow p atoms → (next : Next) (k i : ℕ) (r : Rule) → slice_get (rows p next k) i ≡ Some r → r.atom < atoms
-rows_atoms (one a) atoms few next k zero r e = (let same : record { atom = a; after = next } ≡ r = cc in subst (λ (s : Rule). s.atom < atoms) same few)
+pub rows_atoms : (p : Pattern ℕ) (atoms : ℕ) → AtomsBelow p atoms → (next : FollowSet) (k i : ℕ) (r : Transition) → slice_get (rows p next k) i ≡ Some r → r.atom < atoms
+rows_atoms (one a) atoms few next k zero r e = (let same : record { atom = a; after = next } ≡ r = cc in subst (λ (s : Transition). s.atom < atoms) same few)
 rows_atoms (one a) atoms few next k (suc i) r e = absurd (cc)
 rows_atoms nothing atoms few next k i r e = absurd (cc)
 rows_atoms (joined p q) atoms few next k i r e = elim (get_either (rows q next k) (rows p (begins (firsts q k) (nullable q) next) (k + size q)) i r e) [
@@ -68,7 +68,7 @@ same_longest : (P Q : ℕ → Type 0) (o : Option ℕ) → ((k : ℕ) → P k �
 same_longest P Q None on back l = λ k q. l k (back k q)
 same_longest P Q (Some m) on back l = (on m l.0, λ k q. l.1 k (back k q))
 
-same_answer : (s : Bool) (P Q : ℕ → Type 0) (o : Option ℕ) → ((k : ℕ) → P k → Q k) → ((k : ℕ) → Q k → P k) → AnswerAt s P o → AnswerAt s Q o
+same_answer : (s : Bool) (P Q : ℕ → Type 0) (o : Option ℕ) → ((k : ℕ) → P k → Q k) → ((k : ℕ) → Q k → P k) → GreatestWhere s P o → GreatestWhere s Q o
 same_answer true P Q o on back a = same_longest P Q o on back a
 same_answer false P Q o on back a = a
 
@@ -98,49 +98,49 @@ size_places (repeated least None p) = size_places p
 size_places (repeated least (Some zero) p) = omega arith
 size_places (repeated least (Some (suc n)) p) = more_times (suc n) (size p) (places p) (size_places p)
 
-pub few_rules : (given : Given) (p : Pattern ℕ) (old : List Rule) → places p ≤ 64 → plain_tree given ≡ p → old ≡ [] → length old + size (plain_tree given) ≤ 64
+pub few_rules : (given : Given) (p : Pattern ℕ) (old : List Transition) → places p ≤ 64 → plain_tree given ≡ p → old ≡ [] → length old + size (plain_tree given) ≤ 64
 few_rules given p old few is none =
     let a = size_places (plain_tree given) in
     let b : places (plain_tree given) ≡ places p = ap places is in
     let c : length old ≡ 0 = ap length none in
     omega arith
 
-rules_are : (new old : List Rule) (row : ℕ → List Rule) → new ≡ old ++ row (length old) → old ≡ [] → new ≡ row 0
-rules_are new old row n o = n ∙ ap (λ (x : List Rule). x ++ row (length x)) o
+rules_are : (new old : List Transition) (row : ℕ → List Transition) → new ≡ old ++ row (length old) → old ≡ [] → new ≡ row 0
+rules_are new old row n o = n ∙ ap (λ (x : List Transition). x ++ row (length x)) o
 
-first_is : (f : ℕ) (old : List Rule) (first : ℕ → ℕ) → f ≡ first (length old) → old ≡ [] → f ≡ first 0
-first_is f old first e o = e ∙ ap (λ (x : List Rule). first (length x)) o
+first_is : (f : ℕ) (old : List Transition) (first : ℕ → ℕ) → f ≡ first (length old) → old ≡ [] → f ≡ first 0
+first_is f old first e o = e ∙ ap (λ (x : List Transition). first (length x)) o
 
-pub atoms_on : (new : List Rule) (given : Given) (p : Pattern ℕ) (old : List Rule) → old ≡ [] → plain_tree given ≡ p → new ≡ old ++ rows (plain_tree given) end (length old)
-    → (atoms : ℕ) → AtomsBelow p atoms → (i : ℕ) (r : Rule) → slice_get new i ≡ Some r → r.atom < atoms
+pub atoms_on : (new : List Transition) (given : Given) (p : Pattern ℕ) (old : List Transition) → old ≡ [] → plain_tree given ≡ p → new ≡ old ++ rows (plain_tree given) end (length old)
+    → (atoms : ℕ) → AtomsBelow p atoms → (i : ℕ) (r : Transition) → slice_get new i ≡ Some r → r.atom < atoms
 atoms_on new given p old empty is rules atoms below i r e =
     rows_atoms (plain_tree given) atoms (subst (λ q. AtomsBelow q atoms) (sym is) below) end 0 i r (sym (ap (λ x. slice_get x i) (rules_are new old (rows (plain_tree given) end) rules empty)) ∙ e)
 
 pub built_of : (a : Automaton) (given : Given) (p : Pattern ℕ) → plain_tree given ≡ p → a.rules.items ≡ rows (plain_tree given) end 0 → a.first ≡ firsts (plain_tree given) 0 → HasRulesOf a p
 built_of a given p is rules first = subst (HasRulesOf a) is record { rules = rules; first = first; plain = given_plain given }
 
-pub built_on : (a : Automaton) (given : Given) (p : Pattern ℕ) (old : List Rule) → old ≡ [] → plain_tree given ≡ p
+pub built_on : (a : Automaton) (given : Given) (p : Pattern ℕ) (old : List Transition) → old ≡ [] → plain_tree given ≡ p
     → a.rules.items ≡ old ++ rows (plain_tree given) end (length old) → a.first ≡ firsts (plain_tree given) (length old)
     → HasRulesOf a p
 built_on a given p old empty is rules first = built_of a given p is (rules_are a.rules.items old (rows (plain_tree given) end) rules empty)
     (first_is a.first old (firsts (plain_tree given)) first empty)
 
 -- what the automaton of a pattern reads on the way from a node is what the pattern spells
-module _ (words : List ℕ) (a : Automaton) (p : Pattern ℕ) (of : IsAutomatonOf a p) (spots : List Spot) (E : ℕ → ℕ → Type 0) where
-  line_of : (n k : ℕ) → Read (holds words) a.rules.items E a.first n k → Line (holds words) E p n k
+module _ (words : List ℕ) (a : Automaton) (p : Pattern ℕ) (of : IsAutomatonOf a p) (tree_nodes : List TreeNode) (E : ℕ → ℕ → Type 0) where
+  line_of : (n k : ℕ) → AcceptedLength (holds words) a.rules.items E a.first n k → Line (holds words) E p n k
   line_of n k r = (r.0, r.1, r.2, (of.reads (holds words) n r.0).0 r.3)
 
-  read_of : (n k : ℕ) → Line (holds words) E p n k → Read (holds words) a.rules.items E a.first n k
+  read_of : (n k : ℕ) → Line (holds words) E p n k → AcceptedLength (holds words) a.rules.items E a.first n k
   read_of n k l = (l.0, l.1, l.2, (of.reads (holds words) n l.0).1 l.3)
 
-  pub value_of : (rules : List Rule) (extent : Option Limits) → rules ≡ a.rules.items → (n : ℕ) (o : Option ℕ)
-      → AnswerAt (is_searched spots n) (Allowed extent (Read (holds words) rules E a.first n)) o
-      → AnswerAt (is_searched spots n) (λ k. Line (holds words) E p n k × (allows extent k ≡ true)) o
-  value_of rules None is n o answer =
-      same_answer (is_searched spots n) (Read (holds words) a.rules.items E a.first n) (λ k. Line (holds words) E p n k × (allows None k ≡ true)) o
+  pub value_of : (rules : List Transition) (extent : Option Limits) → rules ≡ a.rules.items → (n : ℕ) (o : Option ℕ)
+      → GreatestWhere (is_searched tree_nodes n) (AllowedLength extent (AcceptedLength (holds words) rules E a.first n)) o
+      → GreatestWhere (is_searched tree_nodes n) (λ k. Line (holds words) E p n k × (allows extent k ≡ true)) o
+  value_of rules None is n o greatest_allowed =
+      same_answer (is_searched tree_nodes n) (AcceptedLength (holds words) a.rules.items E a.first n) (λ k. Line (holds words) E p n k × (allows None k ≡ true)) o
       (λ k r. (line_of n k r, refl)) (λ k l. read_of n k l.0)
-      (subst (λ rs. AnswerAt (is_searched spots n) (Read (holds words) rs E a.first n) o) is answer)
-  value_of rules (Some x) is n o answer =
-      same_answer (is_searched spots n) (Between x.least x.most (Read (holds words) a.rules.items E a.first n)) (λ k. Line (holds words) E p n k × (allows (Some x) k ≡ true)) o
+      (subst (λ rs. GreatestWhere (is_searched tree_nodes n) (AcceptedLength (holds words) rs E a.first n) o) is greatest_allowed)
+  value_of rules (Some x) is n o greatest_allowed =
+      same_answer (is_searched tree_nodes n) (Between x.least x.most (AcceptedLength (holds words) a.rules.items E a.first n)) (λ k. Line (holds words) E p n k × (allows (Some x) k ≡ true)) o
       (λ k r. (line_of n k r.0, from_to_is x.least x.most k r.1 r.2)) (λ k l. (let h = is_from_to x.least x.most k l.1 in (read_of n k l.0, h.0, h.1)))
-      (subst (λ rs. AnswerAt (is_searched spots n) (Between x.least x.most (Read (holds words) rs E a.first n)) o) is answer)
+      (subst (λ rs. GreatestWhere (is_searched tree_nodes n) (Between x.least x.most (AcceptedLength (holds words) rs E a.first n)) o) is greatest_allowed)

@@ -6,8 +6,8 @@ use Rattle.std.specs.Int.{bit_at, trailing_zeros, leading_zeros, w64}
 use Rattle.std.proofs.lemmas.Bool.{cases_eq, cases_lt}
 use Rattle.std.proofs.lemmas.Nat.{leading_length}
 use Rattle.std.proofs.lemmas.Nat.Bits.{bit_at-zero, bit_at_above, bit_at-trailing_zeros}
-use Rattle.cql_lines.specs.Lengths.{is_set, greatest_in}
-use Rattle.cql_lines.specs.Sets.{union_in}
+use Rattle.cql_lines.specs.Internal.Lengths.{is_set, greatest_in}
+use Rattle.cql_lines.specs.Internal.LengthSets.{union_in}
 
 pub lowest_bit : (mask count : ℕ) → mask < 2 ^ 64 → (j : ℕ) → j < min (trailing_zeros w64 mask) count → is_set mask j ≡ false
 lowest_bit zero count fits j less = ap (λ b. b == 1) (bit_at-zero j)

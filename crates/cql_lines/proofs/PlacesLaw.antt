@@ -4,8 +4,8 @@ use Rattle.std.specs.Prelude.{IfSome, ◌⊎◌, bit_or}
 use Rattle.std.specs.Int.{bit_at}
 use Rattle.std.proofs.lemmas.Nat.Bits.{bit_at_or, bit_at-zero, bit_at-lt, bit_at-pow_same, bit_at-pow_other}
 use Rattle.std.proofs.lemmas.Bool.{cases_eq}
-use Rattle.cql_lines.specs.declared.automaton.Next.{Next}
-use Rattle.cql_lines.specs.declared.automaton.Rule.{Rule}
+use Rattle.cql_lines.specs.declared.automaton.FollowSet.{FollowSet}
+use Rattle.cql_lines.specs.declared.automaton.Transition.{Transition}
 use Rattle.cq_common.specs.Spelling.{Pattern, one, nothing, joined, repeated, Times, Spells}
 use Rattle.cql_lines.specs.Places.{IsIn, from, Accepts, when}
 use Rattle.cql_lines.specs.Building.{begins, null_times, null_repeated, nullable}
@@ -40,7 +40,7 @@ in_single k i e = elim (cases_eq i k) [
   | inr other ↦ absurd (let h = bit_at-pow_other k i other in omega arith)
 ]
 
-module _ (test : ℕ → ℕ → Bool) (rules : List Rule) where
+module _ (test : ℕ → ℕ → Bool) (rules : List Transition) where
   -- reading on by more places
   or_left : (a b : ℕ) (w : List ℕ) → Accepts test rules (from a) w → Accepts test rules (from (bit_or a b)) w
   or_left a b [] t = t
@@ -66,7 +66,7 @@ module _ (test : ℕ → ℕ → Bool) (rules : List Rule) where
   when_passes true a w e t = t
   when_passes false a w e t = absurd (cc)
 
-  pub begins_split : (f : ℕ) (b : Bool) (next : Next) (w : List ℕ) → Accepts test rules (begins f b next) w → Accepts test rules (from f) w ⊎ ((b ≡ true) × Accepts test rules next w)
+  pub begins_split : (f : ℕ) (b : Bool) (next : FollowSet) (w : List ℕ) → Accepts test rules (begins f b next) w → Accepts test rules (from f) w ⊎ ((b ≡ true) × Accepts test rules next w)
   begins_split f true next [] t = inr (refl, t)
   begins_split f false next [] t = inl t
   begins_split f b next (x ∷ w) t = elim (in_either f (when b next.places) t.0 t.2) [
@@ -74,17 +74,17 @@ module _ (test : ℕ → ℕ → Bool) (rules : List Rule) where
     | inr r ↦ let i = in_when b next.places t.0 r in inr (i.0, (t.0, t.1, i.1, t.3, t.4, t.5))
   ]
 
-  pub begins_first : (f : ℕ) (b : Bool) (next : Next) (w : List ℕ) → Accepts test rules (from f) w → Accepts test rules (begins f b next) w
+  pub begins_first : (f : ℕ) (b : Bool) (next : FollowSet) (w : List ℕ) → Accepts test rules (from f) w → Accepts test rules (begins f b next) w
   begins_first f b next [] t = absurd (cc)
   begins_first f b next (x ∷ w) t = (t.0, t.1, in_left f (when b next.places) t.0 t.2, t.3, t.4, t.5)
 
-  pub begins_next : (f : ℕ) (b : Bool) (next : Next) (w : List ℕ) → b ≡ true → Accepts test rules next w → Accepts test rules (begins f b next) w
+  pub begins_next : (f : ℕ) (b : Bool) (next : FollowSet) (w : List ℕ) → b ≡ true → Accepts test rules next w → Accepts test rules (begins f b next) w
   begins_next f false next w e t = absurd (cc)
   begins_next f true next [] e t = t
   begins_next f true next (x ∷ w) e t = (t.0, t.1, in_right f next.places t.0 t.2, t.3, t.4, t.5)
 
   -- a front that is not empty is spelled, and the rest is read
-  pub record Front (P : List ℕ → Type 0) (next : Next) (w : List ℕ) : Type 0 where
+  pub record Front (P : List ℕ → Type 0) (next : FollowSet) (w : List ℕ) : Type 0 where
     pub x : ℕ
     pub u : List ℕ
     pub v : List ℕ
@@ -93,9 +93,9 @@ module _ (test : ℕ → ℕ → Bool) (rules : List Rule) where
     pub read : Accepts test rules next v
 
   -- what it means that places are those of a part
-  pub record Means (B : Next → ℕ → Type 0) (b : Bool) (P : List ℕ → Type 0) : Type 0 where
-    pub sound : (next : Next) (f : ℕ) (w : List ℕ) → B next f → Accepts test rules (from f) w → Front P next w
-    pub complete : (next : Next) (f : ℕ) (x : ℕ) (u v : List ℕ) → B next f → P (x ∷ u) → Accepts test rules next v → Accepts test rules (from f) (x ∷ (u ++ v))
+  pub record Means (B : FollowSet → ℕ → Type 0) (b : Bool) (P : List ℕ → Type 0) : Type 0 where
+    pub sound : (next : FollowSet) (f : ℕ) (w : List ℕ) → B next f → Accepts test rules (from f) w → Front P next w
+    pub complete : (next : FollowSet) (f : ℕ) (x : ℕ) (u v : List ℕ) → B next f → P (x ∷ u) → Accepts test rules next v → Accepts test rules (from f) (x ∷ (u ++ v))
     pub empty : b ≡ true → P []
     pub emptied : P [] → b ≡ true
 
@@ -130,16 +130,16 @@ module _ (test : ℕ → ℕ → Bool) (rules : List Rule) where
   some_emptied P b e m (zero, low, high, t) = absurd (omega (arith, low))
   some_emptied P b e m (suc k, low, high, t) = let z = nothing_before t.0 t.1 t.2 in e (subst P z.0 t.3)
 
-  one_front : (a : ℕ) (next : Next) (f i : ℕ) (w : List ℕ) → slice_get rules i ≡ Some (record { atom = a; after = next }) → f ≡ 2 ^ i
+  one_front : (a : ℕ) (next : FollowSet) (f i : ℕ) (w : List ℕ) → slice_get rules i ≡ Some (record { atom = a; after = next }) → f ≡ 2 ^ i
       → Accepts test rules (from f) w → Front (Spells test (one a)) next w
   one_front a next f i [] g e t = absurd (cc)
   one_front a next f i (x ∷ w) g e t =
       let same : t.0 ≡ i = in_single i t.0 (subst (λ m. IsIn m t.0) e t.2) in
       let rule : Some t.1 ≡ Some (record { atom = a; after = next }) = sym t.3 ∙ ap (slice_get rules) same ∙ g in
       let is : t.1 ≡ record { atom = a; after = next } = cc in
-      record { x = x; u = []; v = w; whole = refl; spelled = (x, refl, ap (λ (r : Rule). test r.atom x) (sym is) ∙ t.4); read = subst (λ (r : Rule). Accepts test rules r.after w) is t.5 }
+      record { x = x; u = []; v = w; whole = refl; spelled = (x, refl, ap (λ (r : Transition). test r.atom x) (sym is) ∙ t.4); read = subst (λ (r : Transition). Accepts test rules r.after w) is t.5 }
 
-  one_read : (a : ℕ) (next : Next) (f i : ℕ) (x : ℕ) (u v : List ℕ) → slice_get rules i ≡ Some (record { atom = a; after = next }) → f ≡ 2 ^ i
+  one_read : (a : ℕ) (next : FollowSet) (f i : ℕ) (x : ℕ) (u v : List ℕ) → slice_get rules i ≡ Some (record { atom = a; after = next }) → f ≡ 2 ^ i
       → (n : ℕ) → x ∷ u ≡ n ∷ [] → test a n ≡ true → Accepts test rules next v → Accepts test rules (from f) (x ∷ (u ++ v))
   one_read a next f i x [] v g e n s h r =
       let is : n ≡ x = cc in
@@ -150,8 +150,8 @@ module _ (test : ℕ → ℕ → Bool) (rules : List Rule) where
   abbrev pub Joined : (List ℕ → Type 0) → (List ℕ → Type 0) → List ℕ → Type 0
   Joined P Q w = (u : List ℕ) × (v : List ℕ) × (w ≡ u ++ v) × P u × Q v
 
-  joined_front : (P Q : List ℕ → Type 0) (b c : Bool) → (B C : Next → ℕ → Type 0) → Means B b P → Means C c Q
-      → (next : Next) (f g h : ℕ) (w : List ℕ) → C next g → B (begins g c next) h → f ≡ bit_or h (when b g) → Accepts test rules (from f) w → Front (Joined P Q) next w
+  joined_front : (P Q : List ℕ → Type 0) (b c : Bool) → (B C : FollowSet → ℕ → Type 0) → Means B b P → Means C c Q
+      → (next : FollowSet) (f g h : ℕ) (w : List ℕ) → C next g → B (begins g c next) h → f ≡ bit_or h (when b g) → Accepts test rules (from f) w → Front (Joined P Q) next w
   joined_front P Q b c B C mp mq next f g h w bq bp e t =
       let t' = subst (λ m. Accepts test rules (from m) w) e t in
       elim (or_split h (when b g) w t') [
@@ -184,8 +184,8 @@ module _ (test : ℕ → ℕ → Bool) (rules : List Rule) where
             record { x = q.x; u = q.u; v = q.v; whole = q.whole; spelled = ([], q.x ∷ q.u, refl, mp.empty s.0, q.spelled); read = q.read }
       ]
 
-  joined_read : (P Q : List ℕ → Type 0) (b c : Bool) → (B C : Next → ℕ → Type 0) → Means B b P → Means C c Q
-      → (next : Next) (f g h : ℕ) (y : ℕ) (w v : List ℕ) → C next g → B (begins g c next) h → f ≡ bit_or h (when b g)
+  joined_read : (P Q : List ℕ → Type 0) (b c : Bool) → (B C : FollowSet → ℕ → Type 0) → Means B b P → Means C c Q
+      → (next : FollowSet) (f g h : ℕ) (y : ℕ) (w v : List ℕ) → C next g → B (begins g c next) h → f ≡ bit_or h (when b g)
       → (u t : List ℕ) → y ∷ w ≡ u ++ t → P u → Q t → Accepts test rules next v → Accepts test rules (from f) (y ∷ (w ++ v))
   joined_read P Q b c B C mp mq next f g h y w v bq bp e [] t s p q r =
       let front = mq.complete next g y w v bq (subst Q (sym s) q) r in
@@ -201,7 +201,7 @@ module _ (test : ℕ → ℕ → Bool) (rules : List Rule) where
       subst (λ l. Accepts test rules (from f) l) (sym same) (subst (λ m. Accepts test rules (from m) (x ∷ (u ++ (z ∷ (t ++ v))))) (sym e) (or_left h (when b g) (x ∷ (u ++ (z ∷ (t ++ v)))) front))
 
   -- at least one part, as many as there are
-  many_front : (P : List ℕ → Type 0) (b : Bool) (B : Next → ℕ → Type 0) → Means B b P → (next : Next) (f : ℕ) → B (begins f true next) f
+  many_front : (P : List ℕ → Type 0) (b : Bool) (B : FollowSet → ℕ → Type 0) → Means B b P → (next : FollowSet) (f : ℕ) → B (begins f true next) f
       → (k : ℕ) (w : List ℕ) → length w ≤ k → Accepts test rules (from f) w → Front (Repeats P 1 None) next w
   many_front P b B m next f built zero [] l t = absurd (cc)
   many_front P b B m next f built zero (x ∷ w) l t = absurd (omega arith)
@@ -231,7 +231,7 @@ module _ (test : ℕ → ℕ → Bool) (rules : List Rule) where
             }
       ]
 
-  many_part : (P : List ℕ → Type 0) (b : Bool) (B : Next → ℕ → Type 0) → Means B b P → (next : Next) (f : ℕ) → B (begins f true next) f
+  many_part : (P : List ℕ → Type 0) (b : Bool) (B : FollowSet → ℕ → Type 0) → Means B b P → (next : FollowSet) (f : ℕ) → B (begins f true next) f
       → (k : ℕ) → ((y : ℕ) (w v : List ℕ) → Times P k (y ∷ w) → Accepts test rules next v → Accepts test rules (from f) (y ∷ (w ++ v)))
       → (y : ℕ) (w v : List ℕ) (u t : List ℕ) → y ∷ w ≡ u ++ t → P u → Times P k t → Accepts test rules next v → Accepts test rules (from f) (y ∷ (w ++ v))
   many_part P b B m next f built k fewer y w v [] t s p q r = fewer y w v (subst (Times P k) (sym s) q) r
@@ -243,13 +243,13 @@ module _ (test : ℕ → ℕ → Bool) (rules : List Rule) where
       let same : y ∷ (w ++ v) ≡ x ∷ (u ++ (z ∷ (t ++ v))) = ap (λ l. l ++ v) s ∙ ap (λ l. x ∷ l) (append_assoc u (z ∷ t) v) in
       subst (λ l. Accepts test rules (from f) l) (sym same) (m.complete (begins f true next) f x u (z ∷ (t ++ v)) built p (begins_first f true next (z ∷ (t ++ v)) rest))
 
-  many_read : (P : List ℕ → Type 0) (b : Bool) (B : Next → ℕ → Type 0) → Means B b P → (next : Next) (f : ℕ) → B (begins f true next) f
+  many_read : (P : List ℕ → Type 0) (b : Bool) (B : FollowSet → ℕ → Type 0) → Means B b P → (next : FollowSet) (f : ℕ) → B (begins f true next) f
       → (k : ℕ) (y : ℕ) (w v : List ℕ) → Times P k (y ∷ w) → Accepts test rules next v → Accepts test rules (from f) (y ∷ (w ++ v))
   many_read P b B m next f built zero y w v t r = absurd (cc)
   many_read P b B m next f built (suc k) y w v t r =
       many_part P b B m next f built k (many_read P b B m next f built k) y w v t.0 t.1 t.2 t.3 t.4 r
 
-  joined_means : (P Q : List ℕ → Type 0) (b c : Bool) → (B C : Next → ℕ → Type 0) → Means B b P → Means C c Q
+  joined_means : (P Q : List ℕ → Type 0) (b c : Bool) → (B C : FollowSet → ℕ → Type 0) → Means B b P → Means C c Q
       → Means (λ next f. (g : ℕ) × (h : ℕ) × C next g × B (begins g c next) h × (f ≡ bit_or h (when b g))) (b && c) (Joined P Q)
   joined_means P Q b c B C mp mq = record {
     sound = λ next f w t a. joined_front P Q b c B C mp mq next f t.0 t.1 w t.2 t.3 t.4 a;
@@ -281,7 +281,7 @@ module _ (test : ℕ → ℕ → Bool) (rules : List Rule) where
       let z = nothing_before t.0 t.1 t.2 in
       both_true b (null_times b m n) (e (subst P z.0 t.3)) (times_emptied P b e m n (k, omega (arith, low), omega (arith, high), subst (Times P k) z.1 t.4))
 
-  times_means : (P : List ℕ → Type 0) (b : Bool) (B : Next → ℕ → Type 0) → Means B b P → (m n : ℕ) → Means (BuiltTimes B b m n) (null_times b m n) (Repeats P m (Some n))
+  times_means : (P : List ℕ → Type 0) (b : Bool) (B : FollowSet → ℕ → Type 0) → Means B b P → (m n : ℕ) → Means (BuiltTimes B b m n) (null_times b m n) (Repeats P m (Some n))
   times_means P b B mp m zero = record {
     sound = λ next f w t a. absurd (none_read f w t a);
     complete = λ next f x u v t s a. absurd (few_parts P m x u s);
@@ -304,7 +304,7 @@ module _ (test : ℕ → ℕ → Bool) (rules : List Rule) where
   many_emptied P (zero, low, high, t) = absurd (omega (arith, low))
   many_emptied P (suc k, low, high, t) = let z = nothing_before t.0 t.1 t.2 in subst P z.0 t.3
 
-  many_means : (P : List ℕ → Type 0) (b : Bool) (B : Next → ℕ → Type 0) → Means B b P → Means (λ next f. B (begins f true next) f) b (Repeats P 1 None)
+  many_means : (P : List ℕ → Type 0) (b : Bool) (B : FollowSet → ℕ → Type 0) → Means B b P → Means (λ next f. B (begins f true next) f) b (Repeats P 1 None)
   many_means P b B mp = record {
     sound = λ next f w t a. many_front P b B mp next f t (length w) w (omega arith) a;
     complete = λ next f x u v t s a. many_read P b B mp next f t s.0 x u v s.3 a;
@@ -312,7 +312,7 @@ module _ (test : ℕ → ℕ → Bool) (rules : List Rule) where
     emptied = λ s. mp.emptied (many_emptied P s);
   }
 
-  repeated_means : (P : List ℕ → Type 0) (b : Bool) (B : Next → ℕ → Type 0) → Means B b P → (m : ℕ) (most : Option ℕ) → Means (BuiltRepeated B b m most) (null_repeated b m most) (Repeats P m most)
+  repeated_means : (P : List ℕ → Type 0) (b : Bool) (B : FollowSet → ℕ → Type 0) → Means B b P → (m : ℕ) (most : Option ℕ) → Means (BuiltRepeated B b m most) (null_repeated b m most) (Repeats P m most)
   repeated_means P b B mp m (Some n) = times_means P b B mp m n
   repeated_means P b B mp zero None =
       let j = many_means P b B mp in

@@ -3,8 +3,8 @@ use Rattle.std.proofs.Common.{◌≡◌, ◌≢◌, ℕ, zero, suc, ◌<◌, ◌
 use Rattle.std.specs.Prelude.{if◌then◌else◌, IfSome}
 use Rattle.std.proofs.lemmas.Bool.{cases_eq}
 use Rattle.std.proofs.lemmas.List.{get_or-set_same, get_or-set_other}
-use Rattle.cql_lines.specs.declared.shape.Spot.{Spot}
-use Rattle.cql_lines.specs.Lengths.{is_set, at}
+use Rattle.cql_lines.specs.declared.shape.TreeNode.{TreeNode}
+use Rattle.cql_lines.specs.Internal.Lengths.{is_set, at}
 use Rattle.cql_lines.specs.Tables.{holds}
 use Rattle.cql_lines.specs.Shapes.{joined, joined_by, is_searched}
 
@@ -20,17 +20,17 @@ put_there words node word atom a n low same other = elim (cases_eq n node) [
 ]
 
 -- what stands in a longer list
-in_longer : (spots : List Spot) (s : Spot) (n : ℕ) → (slice_get (spots ++ s ∷ []) n ≡ slice_get spots n) ⊎ ((n ≡ length spots) × (slice_get (spots ++ s ∷ []) n ≡ Some s))
+in_longer : (tree_nodes : List TreeNode) (s : TreeNode) (n : ℕ) → (slice_get (tree_nodes ++ s ∷ []) n ≡ slice_get tree_nodes n) ⊎ ((n ≡ length tree_nodes) × (slice_get (tree_nodes ++ s ∷ []) n ≡ Some s))
 in_longer [] s zero = inr (refl, refl)
 in_longer [] s (suc n) = inl refl
-in_longer (x ∷ spots) s zero = inl refl
-in_longer (x ∷ spots) s (suc n) = elim (in_longer spots s n) [
+in_longer (x ∷ tree_nodes) s zero = inl refl
+in_longer (x ∷ tree_nodes) s (suc n) = elim (in_longer tree_nodes s n) [
   | inl e ↦ inl e
   | inr e ↦ inr (ap suc e.0, e.1)
 ]
 
 -- the node above is the parent of a searched node
-above_is : (primary : Bool) (s : Spot) (p : ℕ) → joined_by primary (Some s) ≡ Some p → (s.parent ≡ Some p) × (s.searched ≡ true)
+above_is : (primary : Bool) (s : TreeNode) (p : ℕ) → joined_by primary (Some s) ≡ Some p → (s.parent ≡ Some p) × (s.searched ≡ true)
 above_is primary s p e = by_test s.searched (s.first || not primary) refl e
   where
     by_test : (a b : Bool) → s.searched ≡ a → (if a && b then s.parent else None) ≡ Some p → (s.parent ≡ Some p) × (s.searched ≡ true)
@@ -38,34 +38,34 @@ above_is primary s p e = by_test s.searched (s.first || not primary) refl e
     by_test true false is f = absurd (cc)
     by_test false b is f = absurd (cc)
 
-stays_searched : (spots : List Spot) (s : Spot) (p : ℕ) → is_searched spots p ≡ true → is_searched (spots ++ s ∷ []) p ≡ true
+stays_searched : (tree_nodes : List TreeNode) (s : TreeNode) (p : ℕ) → is_searched tree_nodes p ≡ true → is_searched (tree_nodes ++ s ∷ []) p ≡ true
 stays_searched [] s p e = absurd (cc)
-stays_searched (x ∷ spots) s zero e = e
-stays_searched (x ∷ spots) s (suc p) e = stays_searched spots s p e
+stays_searched (x ∷ tree_nodes) s zero e = e
+stays_searched (x ∷ tree_nodes) s (suc p) e = stays_searched tree_nodes s p e
 
-pub below_more : (primary : Bool) (spots : List Spot) (s : Spot) → ((p : ℕ) → s.parent ≡ Some p → p < length spots) → ((n p : ℕ) → joined primary spots n ≡ Some p → p < n)
-    → (n p : ℕ) → joined primary (spots ++ s ∷ []) n ≡ Some p → p < n
-below_more primary spots s parent all n p e = elim (in_longer spots s n) [
+pub below_more : (primary : Bool) (tree_nodes : List TreeNode) (s : TreeNode) → ((p : ℕ) → s.parent ≡ Some p → p < length tree_nodes) → ((n p : ℕ) → joined primary tree_nodes n ≡ Some p → p < n)
+    → (n p : ℕ) → joined primary (tree_nodes ++ s ∷ []) n ≡ Some p → p < n
+below_more primary tree_nodes s parent all n p e = elim (in_longer tree_nodes s n) [
   | inl old ↦ all n p (sym (ap (joined_by primary) old) ∙ e)
   | inr new ↦ let h = parent p (above_is primary s p (sym (ap (joined_by primary) new.1) ∙ e)).0 in let i = new.0 in omega arith
 ]
 
-pub whole_more : (primary : Bool) (spots : List Spot) (s : Spot) → ((p : ℕ) → s.parent ≡ Some p → s.searched ≡ true → is_searched spots p ≡ true)
-    → ((n p : ℕ) → joined primary spots n ≡ Some p → is_searched spots p ≡ true) → (n p : ℕ) → joined primary (spots ++ s ∷ []) n ≡ Some p → is_searched (spots ++ s ∷ []) p ≡ true
-whole_more primary spots s parent all n p e = elim (in_longer spots s n) [
-  | inl old ↦ stays_searched spots s p (all n p (sym (ap (joined_by primary) old) ∙ e))
-  | inr new ↦ let h = above_is primary s p (sym (ap (joined_by primary) new.1) ∙ e) in stays_searched spots s p (parent p h.0 h.1)
+pub whole_more : (primary : Bool) (tree_nodes : List TreeNode) (s : TreeNode) → ((p : ℕ) → s.parent ≡ Some p → s.searched ≡ true → is_searched tree_nodes p ≡ true)
+    → ((n p : ℕ) → joined primary tree_nodes n ≡ Some p → is_searched tree_nodes p ≡ true) → (n p : ℕ) → joined primary (tree_nodes ++ s ∷ []) n ≡ Some p → is_searched (tree_nodes ++ s ∷ []) p ≡ true
+whole_more primary tree_nodes s parent all n p e = elim (in_longer tree_nodes s n) [
+  | inl old ↦ stays_searched tree_nodes s p (all n p (sym (ap (joined_by primary) old) ∙ e))
+  | inr new ↦ let h = above_is primary s p (sym (ap (joined_by primary) new.1) ∙ e) in stays_searched tree_nodes s p (parent p h.0 h.1)
 ]
 
 -- each node stands after the one above it, and that one is searched
-pub record IsTree (primary : Bool) (spots : List Spot) : Type 0 where
-  pub below : (n p : ℕ) → joined primary spots n ≡ Some p → p < n
-  pub whole : (n p : ℕ) → joined primary spots n ≡ Some p → is_searched spots p ≡ true
+pub record IsTree (primary : Bool) (tree_nodes : List TreeNode) : Type 0 where
+  pub below : (n p : ℕ) → joined primary tree_nodes n ≡ Some p → p < n
+  pub whole : (n p : ℕ) → joined primary tree_nodes n ≡ Some p → is_searched tree_nodes p ≡ true
 
 of_some : (o : Option ℕ) (P : ℕ → Type 0) → IfSome o P → (p : ℕ) → o ≡ Some p → P p
 of_some o P h p e = subst (λ (x : Option ℕ). IfSome x P) e h
 
-pub push_keeps : (primary : Bool) (old new : List Spot) (s : Spot) (b : Bool) → new ≡ (if b then old ++ s ∷ [] else old) → IfSome s.parent (λ p. p < length old)
+pub push_keeps : (primary : Bool) (old new : List TreeNode) (s : TreeNode) (b : Bool) → new ≡ (if b then old ++ s ∷ [] else old) → IfSome s.parent (λ p. p < length old)
     → IfSome s.parent (λ p. s.searched ≡ true → is_searched old p ≡ true) → IsTree primary old → IsTree primary new
 push_keeps primary old new s true e parent searched tree = subst (IsTree primary) (sym e) record {
   below = below_more primary old s (of_some s.parent (λ p. p < length old) parent) tree.below;

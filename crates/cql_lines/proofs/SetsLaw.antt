@@ -5,13 +5,13 @@ use Rattle.std.specs.Int.{bit_at}
 use Rattle.std.proofs.lemmas.Nat.Bits.{bit_at-suc, bit_at_lowest, bit_at_cat_low}
 use Rattle.std.proofs.lemmas.Bool.{cases_lt, cases_Bool}
 use Rattle.std.proofs.lemmas.Option.{slice_get_within}
-use Rattle.cql_lines.specs.declared.automaton.Rule.{Rule}
+use Rattle.cql_lines.specs.declared.automaton.Transition.{Transition}
 use Rattle.cql_lines.specs.Places.{IsIn, when}
-use Rattle.cql_lines.specs.Reads.{FromPlace, Read}
+use Rattle.cql_lines.specs.Internal.AcceptedLengths.{AcceptedLengthFrom, AcceptedLength}
 use Rattle.cql_lines.proofs.Below.{Below}
-use Rattle.cql_lines.specs.Lengths.{is_set}
+use Rattle.cql_lines.specs.Internal.Lengths.{is_set}
 use Rattle.cql_lines.specs.Limits.{longest_limit}
-use Rattle.cql_lines.specs.Sets.{IsSet, shifted, union_in, place_set, Between}
+use Rattle.cql_lines.specs.Internal.LengthSets.{IsSet, shifted, union_in, place_set, Between}
 use Rattle.cq_common.specs.Greatest.{IsGreatest}
 use Rattle.cql_lines.specs.Tables.{holds}
 use Rattle.cql_lines.proofs.PlacesLaw.{in_left, in_right, in_either, in_none, in_when}
@@ -70,37 +70,37 @@ two_bit zero e = absurd (let h = bit_at_lowest 2 in omega arith)
 two_bit (suc zero) e = refl
 two_bit (suc (suc k)) e = absurd (in_none k (sym (bit_at-suc 2 (suc k) ∙ bit_at-suc 1 k) ∙ e))
 
-module _ (test : ℕ → ℕ → Bool) (rules : List Rule) (Edge : ℕ → ℕ → Type 0) where
-  set_longer : (n i : ℕ) (below : ℕ → ℕ) → ((j : ℕ) → IsSet (Below test rules Edge j n) (below j)) → (r : Rule) → slice_get rules i ≡ Some r → test r.atom n ≡ true
-      → (k : ℕ) → k < 128 → IsIn (shifted (union_in r.after.places below (length rules))) k → FromPlace test rules Edge i n k
+module _ (test : ℕ → ℕ → Bool) (rules : List Transition) (Edge : ℕ → ℕ → Type 0) where
+  set_longer : (n i : ℕ) (below : ℕ → ℕ) → ((j : ℕ) → IsSet (Below test rules Edge j n) (below j)) → (r : Transition) → slice_get rules i ≡ Some r → test r.atom n ≡ true
+      → (k : ℕ) → k < 128 → IsIn (shifted (union_in r.after.places below (length rules))) k → AcceptedLengthFrom test rules Edge i n k
   set_longer n i below known r rule holds zero low e = absurd (shifted_none (union_in r.after.places below (length rules)) e)
   set_longer n i below known r rule holds (suc k) low e =
       let m = union_from r.after.places below (length rules) k (sym (shifted_bit (union_in r.after.places below (length rules)) k low) ∙ e) in
       onward test rules Edge n i r rule holds m.place k m.is_in ((known m.place).on k (omega arith) m.has)
 
-  set_on : (n i : ℕ) (below : ℕ → ℕ) → ((j : ℕ) → IsSet (Below test rules Edge j n) (below j)) → (r : Rule) → slice_get rules i ≡ Some r → test r.atom n ≡ true
-      → (k : ℕ) → k < 128 → IsIn (bit_or (shifted (union_in r.after.places below (length rules))) (when r.after.ends 2)) k → FromPlace test rules Edge i n k
+  set_on : (n i : ℕ) (below : ℕ → ℕ) → ((j : ℕ) → IsSet (Below test rules Edge j n) (below j)) → (r : Transition) → slice_get rules i ≡ Some r → test r.atom n ≡ true
+      → (k : ℕ) → k < 128 → IsIn (bit_or (shifted (union_in r.after.places below (length rules))) (when r.after.ends 2)) k → AcceptedLengthFrom test rules Edge i n k
   set_on n i below known r rule holds k low e = elim (in_either (shifted (union_in r.after.places below (length rules))) (when r.after.ends 2) k e) [
     | inl longer ↦ set_longer n i below known r rule holds k low longer
     | inr short ↦
         let w = in_when r.after.ends 2 k short in
-        subst (FromPlace test rules Edge i n) (sym (two_bit k w.1)) (alone test rules Edge n i r rule holds w.0)
+        subst (AcceptedLengthFrom test rules Edge i n) (sym (two_bit k w.1)) (alone test rules Edge n i r rule holds w.0)
   ]
 
   two_in : (ends : Bool) → ends ≡ true → IsIn (when ends 2) 1
   two_in true e = refl
   two_in false e = absurd (cc)
 
-  set_off : (n i : ℕ) (below : ℕ → ℕ) → ((j : ℕ) → IsSet (Below test rules Edge j n) (below j)) → (r : Rule) → slice_get rules i ≡ Some r
-      → (k : ℕ) → k < 128 → FromPlace test rules Edge i n k → IsIn (bit_or (shifted (union_in r.after.places below (length rules))) (when r.after.ends 2)) k
+  set_off : (n i : ℕ) (below : ℕ → ℕ) → ((j : ℕ) → IsSet (Below test rules Edge j n) (below j)) → (r : Transition) → slice_get rules i ≡ Some r
+      → (k : ℕ) → k < 128 → AcceptedLengthFrom test rules Edge i n k → IsIn (bit_or (shifted (union_in r.after.places below (length rules))) (when r.after.ends 2)) k
   set_off n i below known r rule k low ([], follow, e, s, is, holds, read) =
       let same : s ≡ r = (let both = sym is ∙ rule in cc) in
       let one : k ≡ 1 = e in
       subst (IsIn (bit_or (shifted (union_in r.after.places below (length rules))) (when r.after.ends 2))) (sym one)
-      (in_right (shifted (union_in r.after.places below (length rules))) (when r.after.ends 2) 1 (two_in r.after.ends (ap (λ (t : Rule). t.after.ends) (sym same) ∙ read)))
+      (in_right (shifted (union_in r.after.places below (length rules))) (when r.after.ends 2) 1 (two_in r.after.ends (ap (λ (t : Transition). t.after.ends) (sym same) ∙ read)))
   set_off n i below known r rule k low (c ∷ w, follow, e, s, is, holds, read) =
       let same : s ≡ r = (let both = sym is ∙ rule in cc) in
-      let inside : IsIn r.after.places read.0 = subst (λ (t : Rule). IsIn t.after.places read.0) same read.2 in
+      let inside : IsIn r.after.places read.0 = subst (λ (t : Transition). IsIn t.after.places read.0) same read.2 in
       let within = slice_get_within rules read.0 read.1 read.3 in
       let short : suc (length w) < 128 = (let h = e in omega arith) in
       let has = (known read.0).off (suc (length w)) short (c, follow.0, (w, follow.1, refl, read.1, read.3, read.4, read.5)) in
@@ -111,17 +111,17 @@ module _ (test : ℕ → ℕ → Bool) (rules : List Rule) (Edge : ℕ → ℕ �
       (shifted_bit (union_in r.after.places below (length rules)) (suc (length w)) longer ∙ all))
 
   -- the lengths of one place at one node
-  pub place_set_here : (n i : ℕ) (below : ℕ → ℕ) → ((j : ℕ) → IsSet (Below test rules Edge j n) (below j)) → (r : Rule) → slice_get rules i ≡ Some r → test r.atom n ≡ true
-      → IsSet (FromPlace test rules Edge i n) (bit_or (shifted (union_in r.after.places below (length rules))) (when r.after.ends 2))
+  pub place_set_here : (n i : ℕ) (below : ℕ → ℕ) → ((j : ℕ) → IsSet (Below test rules Edge j n) (below j)) → (r : Transition) → slice_get rules i ≡ Some r → test r.atom n ≡ true
+      → IsSet (AcceptedLengthFrom test rules Edge i n) (bit_or (shifted (union_in r.after.places below (length rules))) (when r.after.ends 2))
   place_set_here n i below known r rule holds = record {
     on = λ k low e. set_on n i below known r rule holds k low e;
     off = λ k low f. set_off n i below known r rule k low f;
   }
 
-  pub place_set_off : (n i : ℕ) (r : Rule) → slice_get rules i ≡ Some r → test r.atom n ≡ false → IsSet (FromPlace test rules Edge i n) 0
+  pub place_set_off : (n i : ℕ) (r : Transition) → slice_get rules i ≡ Some r → test r.atom n ≡ false → IsSet (AcceptedLengthFrom test rules Edge i n) 0
   place_set_off n i r rule off = record {
     on = λ k low e. absurd (in_none k e);
-    off = λ k low f. absurd (let both = sym f.4 ∙ rule in let same : f.3 ≡ r = cc in let h = f.5 in let h' = ap (λ (t : Rule). test t.atom n) same in cc);
+    off = λ k low f. absurd (let both = sym f.4 ∙ rule in let same : f.3 ≡ r = cc in let h = f.5 in let h' = ap (λ (t : Transition). test t.atom n) same in cc);
   }
 
 -- numbers of two kinds
@@ -137,20 +137,20 @@ same_set P R a p back on = record { on = λ k low e. on k (p.on k low e); off = 
 pub none_set : (P : ℕ → Type 0) → ((k : ℕ) → P k → ⊥) → IsSet P 0
 none_set P never = record { on = λ k low e. absurd (in_none k e); off = λ k low p. absurd (never k p) }
 
-module _ (words : List ℕ) (rules : List Rule) (E : ℕ → ℕ → Type 0) where
-  pub place_set_known : (n i held : ℕ) (row : ℕ → ℕ) → ((j : ℕ) → IsSet (Below (holds words) rules E j n) (row j)) → (r : Rule) → slice_get rules i ≡ Some r
-      → is_set held r.atom ≡ holds words r.atom n → IsSet (FromPlace (holds words) rules E i n) (place_set r held row (length rules))
+module _ (words : List ℕ) (rules : List Transition) (E : ℕ → ℕ → Type 0) where
+  pub place_set_known : (n i held : ℕ) (row : ℕ → ℕ) → ((j : ℕ) → IsSet (Below (holds words) rules E j n) (row j)) → (r : Transition) → slice_get rules i ≡ Some r
+      → is_set held r.atom ≡ holds words r.atom n → IsSet (AcceptedLengthFrom (holds words) rules E i n) (place_set r held row (length rules))
   place_set_known n i held row known r rule table = elim (cases_Bool (is_set held r.atom)) [
     | inl set ↦
         let v : place_set r held row (length rules) ≡ bit_or (shifted (union_in r.after.places row (length rules))) (when r.after.ends 2) = (rw set refl) in
-        subst (IsSet (FromPlace (holds words) rules E i n)) (sym v) (place_set_here (holds words) rules E n i row known r rule (sym table ∙ set))
+        subst (IsSet (AcceptedLengthFrom (holds words) rules E i n)) (sym v) (place_set_here (holds words) rules E n i row known r rule (sym table ∙ set))
     | inr unset ↦
         let v : place_set r held row (length rules) ≡ 0 = (rw unset refl) in
-        subst (IsSet (FromPlace (holds words) rules E i n)) (sym v) (place_set_off (holds words) rules E n i r rule (sym table ∙ unset))
+        subst (IsSet (AcceptedLengthFrom (holds words) rules E i n)) (sym v) (place_set_off (holds words) rules E n i r rule (sym table ∙ unset))
   ]
 
   -- the lengths that some of the places read
-  pub read_set : (f n : ℕ) (values : ℕ → ℕ) → ((i : ℕ) → IsSet (FromPlace (holds words) rules E i n) (values i)) → IsSet (Read (holds words) rules E f n) (union_in f values (length rules))
+  pub read_set : (f n : ℕ) (values : ℕ → ℕ) → ((i : ℕ) → IsSet (AcceptedLengthFrom (holds words) rules E i n) (values i)) → IsSet (AcceptedLength (holds words) rules E f n) (union_in f values (length rules))
   read_set f n values known = record {
     on = λ k low e. (
         let m = union_from f values (length rules) k e in

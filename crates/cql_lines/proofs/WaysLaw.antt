@@ -3,14 +3,14 @@ use Rattle.std.proofs.Common.{◌≡◌, ℕ, zero, suc, ◌<◌, ◌≤◌, max
 use Rattle.std.proofs.lemmas.Bool.{cases_lt, cases_Bool, eqb-true}
 use Rattle.std.proofs.lemmas.Option.{slice_get_within}
 use Rattle.std.proofs.lemmas.List.{append-nil}
-use Rattle.cql_lines.specs.declared.automaton.Next.{Next}
-use Rattle.cql_lines.specs.declared.automaton.Rule.{Rule}
+use Rattle.cql_lines.specs.declared.automaton.FollowSet.{FollowSet}
+use Rattle.cql_lines.specs.declared.automaton.Transition.{Transition}
 use Rattle.cq_common.specs.Spelling.{Pattern, Spells}
 use Rattle.cql_lines.specs.Places.{IsIn, from, Accepts}
 use Rattle.cql_lines.proofs.Built.{Built}
-use Rattle.cql_lines.specs.Reads.{FromPlace, Read}
+use Rattle.cql_lines.specs.Internal.AcceptedLengths.{AcceptedLengthFrom, AcceptedLength}
 use Rattle.cql_lines.proofs.Below.{Below}
-use Rattle.cql_lines.specs.Lengths.{IsGreatestOrZero, is_set, greatest_in, farther}
+use Rattle.cql_lines.specs.Internal.Lengths.{IsGreatestOrZero, is_set, greatest_in, farther}
 use Rattle.cql_lines.proofs.PlacesLaw.{pattern_means, in_none}
 
 pub set_is_in : (mask i : ℕ) → is_set mask i ≡ true → IsIn mask i
@@ -72,30 +72,30 @@ one_at_least false zero k e h = absurd (cc)
 one_at_least true (suc m) k e h = omega arith
 one_at_least false (suc m) k e h = omega arith
 
-module _ (test : ℕ → ℕ → Bool) (rules : List Rule) (Edge : ℕ → ℕ → Type 0) where
+module _ (test : ℕ → ℕ → Bool) (rules : List Transition) (Edge : ℕ → ℕ → Type 0) where
   -- all lengths of a place are those of its rule
-  place_bounds : (n i : ℕ) (below : ℕ → ℕ) → ((j : ℕ) → IsGreatestOrZero (Below test rules Edge j n) (below j)) → (r : Rule) → slice_get rules i ≡ Some r
-      → (k : ℕ) → FromPlace test rules Edge i n k → k ≤ farther r.after.ends (greatest_in r.after.places below (length rules))
+  place_bounds : (n i : ℕ) (below : ℕ → ℕ) → ((j : ℕ) → IsGreatestOrZero (Below test rules Edge j n) (below j)) → (r : Transition) → slice_get rules i ≡ Some r
+      → (k : ℕ) → AcceptedLengthFrom test rules Edge i n k → k ≤ farther r.after.ends (greatest_in r.after.places below (length rules))
   place_bounds n i below known r rule k ([], follow, e, s, is, holds, read) =
       let same : s ≡ r = (let both = sym is ∙ rule in cc) in
-      one_at_least r.after.ends (greatest_in r.after.places below (length rules)) k (ap (λ (t : Rule). t.after.ends) (sym same) ∙ read) e
+      one_at_least r.after.ends (greatest_in r.after.places below (length rules)) k (ap (λ (t : Transition). t.after.ends) (sym same) ∙ read) e
   place_bounds n i below known r rule k (c ∷ w, follow, e, s, is, holds, read) =
       let same : s ≡ r = (let both = sym is ∙ rule in cc) in
-      let inside : IsIn r.after.places read.0 = subst (λ (t : Rule). IsIn t.after.places read.0) same read.2 in
+      let inside : IsIn r.after.places read.0 = subst (λ (t : Transition). IsIn t.after.places read.0) same read.2 in
       let within = slice_get_within rules read.0 read.1 read.3 in
       let longest = (known read.0).bounds (suc (length w)) (c, follow.0, (w, follow.1, refl, read.1, read.3, read.4, read.5)) in
       let here = greatest_bounds r.after.places below (length rules) read.0 within inside in
       more_than r.after.ends (greatest_in r.after.places below (length rules)) k (suc (length w)) e (omega arith) (omega arith)
 
-  pub alone : (n i : ℕ) (r : Rule) → slice_get rules i ≡ Some r → test r.atom n ≡ true → r.after.ends ≡ true → FromPlace test rules Edge i n 1
+  pub alone : (n i : ℕ) (r : Transition) → slice_get rules i ≡ Some r → test r.atom n ≡ true → r.after.ends ≡ true → AcceptedLengthFrom test rules Edge i n 1
   alone n i r rule holds ends = ([], tt, refl, r, rule, holds, ends)
 
-  pub onward : (n i : ℕ) (r : Rule) → slice_get rules i ≡ Some r → test r.atom n ≡ true → (j l : ℕ) → IsIn r.after.places j → Below test rules Edge j n l → FromPlace test rules Edge i n (suc l)
+  pub onward : (n i : ℕ) (r : Transition) → slice_get rules i ≡ Some r → test r.atom n ≡ true → (j l : ℕ) → IsIn r.after.places j → Below test rules Edge j n l → AcceptedLengthFrom test rules Edge i n (suc l)
   onward n i r rule holds j l inside (c, edge, (w, follow, e, s, is, held, read)) =
       (c ∷ w, (edge, follow), ap suc e, r, rule, holds, (j, s, inside, is, held, read))
 
-  place_reached : (n i : ℕ) (below : ℕ → ℕ) → ((j : ℕ) → IsGreatestOrZero (Below test rules Edge j n) (below j)) → (r : Rule) → slice_get rules i ≡ Some r → test r.atom n ≡ true
-      → (ends : Bool) (m : ℕ) → r.after.ends ≡ ends → greatest_in r.after.places below (length rules) ≡ m → 0 < farther ends m → FromPlace test rules Edge i n (farther ends m)
+  place_reached : (n i : ℕ) (below : ℕ → ℕ) → ((j : ℕ) → IsGreatestOrZero (Below test rules Edge j n) (below j)) → (r : Transition) → slice_get rules i ≡ Some r → test r.atom n ≡ true
+      → (ends : Bool) (m : ℕ) → r.after.ends ≡ ends → greatest_in r.after.places below (length rules) ≡ m → 0 < farther ends m → AcceptedLengthFrom test rules Edge i n (farther ends m)
   place_reached n i below known r rule holds true zero e g some = alone n i r rule holds e
   place_reached n i below known r rule holds false zero e g some = absurd (omega arith)
   place_reached n i below known r rule holds ends (suc m) e g some =
@@ -106,22 +106,22 @@ module _ (test : ℕ → ℕ → Bool) (rules : List Rule) (Edge : ℕ → ℕ �
       onward n i r rule holds b.place (suc m) b.is_in (subst (Below test rules Edge b.place n) is ((known b.place).reached positive))
 
   -- one place at one node
-  pub place_here : (n i : ℕ) (below : ℕ → ℕ) → ((j : ℕ) → IsGreatestOrZero (Below test rules Edge j n) (below j)) → (r : Rule) → slice_get rules i ≡ Some r
-      → test r.atom n ≡ true → IsGreatestOrZero (FromPlace test rules Edge i n) (farther r.after.ends (greatest_in r.after.places below (length rules)))
+  pub place_here : (n i : ℕ) (below : ℕ → ℕ) → ((j : ℕ) → IsGreatestOrZero (Below test rules Edge j n) (below j)) → (r : Transition) → slice_get rules i ≡ Some r
+      → test r.atom n ≡ true → IsGreatestOrZero (AcceptedLengthFrom test rules Edge i n) (farther r.after.ends (greatest_in r.after.places below (length rules)))
   place_here n i below known r rule holds = record {
     bounds = λ k f. place_bounds n i below known r rule k f;
     reached = λ some. place_reached n i below known r rule holds r.after.ends (greatest_in r.after.places below (length rules)) refl refl some;
   }
 
-  pub place_off : (n i : ℕ) (r : Rule) → slice_get rules i ≡ Some r → test r.atom n ≡ false → IsGreatestOrZero (FromPlace test rules Edge i n) 0
+  pub place_off : (n i : ℕ) (r : Transition) → slice_get rules i ≡ Some r → test r.atom n ≡ false → IsGreatestOrZero (AcceptedLengthFrom test rules Edge i n) 0
   place_off n i r rule off = record {
-    bounds = λ k f. absurd (let both = sym f.4 ∙ rule in let same : f.3 ≡ r = cc in let h = f.5 in let h' = ap (λ (t : Rule). test t.atom n) same in cc);
+    bounds = λ k f. absurd (let both = sym f.4 ∙ rule in let same : f.3 ≡ r = cc in let h = f.5 in let h' = ap (λ (t : Transition). test t.atom n) same in cc);
     reached = λ some. absurd (omega arith);
   }
 
   -- some of the places, at one node
-  pub read_here : (f n : ℕ) (values : ℕ → ℕ) → ((i : ℕ) → IsGreatestOrZero (FromPlace test rules Edge i n) (values i))
-      → IsGreatestOrZero (Read test rules Edge f n) (greatest_in f values (length rules))
+  pub read_here : (f n : ℕ) (values : ℕ → ℕ) → ((i : ℕ) → IsGreatestOrZero (AcceptedLengthFrom test rules Edge i n) (values i))
+      → IsGreatestOrZero (AcceptedLength test rules Edge f n) (greatest_in f values (length rules))
   read_here f n values known = record {
     bounds = λ k line.
         let read = line.3 in
@@ -137,10 +137,10 @@ module _ (test : ℕ → ℕ → Bool) (rules : List Rule) (Edge : ℕ → ℕ �
   }
 
 -- nothing comes after
-abbrev pub end : Next
+abbrev pub end : FollowSet
 end = record { places = 0; ends = true }
 
-module _ (test : ℕ → ℕ → Bool) (rules : List Rule) where
+module _ (test : ℕ → ℕ → Bool) (rules : List Transition) where
   at_end : (v : List ℕ) → Accepts test rules end v → v ≡ []
   at_end [] t = refl
   at_end (x ∷ v) t = absurd (in_none t.0 t.2)

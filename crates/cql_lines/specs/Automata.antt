@@ -1,7 +1,7 @@
 -- Automata as their callers see them.
 use Rattle.std.specs.Prelude.{◌≡◌, ◌↔◌, ℕ, suc, ◌+◌, ◌*◌, ◌<◌, zero, List, ◌∷◌, Bool, Some, None, slice_get}
 use Rattle.cq_common.specs.Spelling.{Pattern, one, nothing, joined, repeated, Spells}
-use Rattle.cql_lines.specs.declared.automaton.Rule.{Rule}
+use Rattle.cql_lines.specs.declared.automaton.Transition.{Transition}
 use Rattle.cql_lines.specs.declared.automaton.Automaton.{Automaton}
 use Rattle.cql_lines.specs.Places.{from, Accepts}
 
@@ -22,4 +22,4 @@ pub record IsAutomatonOf (a : Automaton) (p : Pattern ℕ) : Type 0 where
 
 -- all atoms of the automaton are below a number
 abbrev pub UsesBelow : Automaton → ℕ → Type 0
-UsesBelow a atoms = (i : ℕ) (r : Rule) → slice_get a.rules.items i ≡ Some r → r.atom < atoms
+UsesBelow a atoms = (i : ℕ) (r : Transition) → slice_get a.rules.items i ≡ Some r → r.atom < atoms

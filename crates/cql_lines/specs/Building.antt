@@ -1,13 +1,13 @@
 -- The rules of a pattern, as the private functions give them, numbered from a place on: those of what comes after a part stand before
 -- its own.
 use Rattle.std.specs.Prelude.{ℕ, zero, suc, ◌+◌, ◌-◌, ◌*◌, ◌^◌, ◌<◌, List, [], ◌∷◌, ◌++◌, Bool, true, false, ◌&&◌, Option, Some, None, bit_or}
-use Rattle.cql_lines.specs.declared.automaton.Next.{Next}
-use Rattle.cql_lines.specs.declared.automaton.Rule.{Rule}
+use Rattle.cql_lines.specs.declared.automaton.FollowSet.{FollowSet}
+use Rattle.cql_lines.specs.declared.automaton.Transition.{Transition}
 use Rattle.cq_common.specs.Spelling.{Pattern, one, nothing, joined, repeated}
 use Rattle.cql_lines.specs.Places.{when}
 
 -- these places, and where the part may be empty also what comes after it
-abbrev pub begins : ℕ → Bool → Next → Next
+abbrev pub begins : ℕ → Bool → FollowSet → FollowSet
 begins mask b next = record { places = bit_or mask (when b next.places); ends = b && next.ends }
 
 -- whether the empty list is spelled
@@ -47,12 +47,12 @@ firsts (joined p q) k = bit_or (firsts p (k + size q)) (when (nullable p) (first
 firsts (repeated least (Some n) p) k = firsts_times (firsts p) (nullable p) (size p) n k
 firsts (repeated least None p) k = firsts p k
 
-abbrev pub rows_times : (Next → ℕ → List Rule) → (ℕ → ℕ) → Bool → ℕ → ℕ → ℕ → Next → ℕ → List Rule
+abbrev pub rows_times : (FollowSet → ℕ → List Transition) → (ℕ → ℕ) → Bool → ℕ → ℕ → ℕ → FollowSet → ℕ → List Transition
 rows_times row first b len m zero next k = []
 rows_times row first b len m (suc n) next k =
     rows_times row first b len (m - 1) n next k ++ row (begins (firsts_times first b len n k) (null_times b (m - 1) n) next) (k + n * len)
 
-abbrev pub rows : Pattern ℕ → Next → ℕ → List Rule
+abbrev pub rows : Pattern ℕ → FollowSet → ℕ → List Transition
 rows (one a) next k = record { atom = a; after = next } ∷ []
 rows nothing next k = []
 rows (joined p q) next k = rows q next k ++ rows p (begins (firsts q k) (nullable q) next) (k + size q)

@@ -1,15 +1,15 @@
 -- Places: how an automaton reads a list node by node.
 use Rattle.std.specs.Prelude.{◌≡◌, ℕ, List, [], ◌∷◌, Bool, true, false, Some, slice_get, if◌then◌else◌}
 use Rattle.std.specs.Int.{bit_at}
-use Rattle.cql_lines.specs.declared.automaton.Next.{Next}
-use Rattle.cql_lines.specs.declared.automaton.Rule.{Rule}
+use Rattle.cql_lines.specs.declared.automaton.FollowSet.{FollowSet}
+use Rattle.cql_lines.specs.declared.automaton.Transition.{Transition}
 
 -- bit i of a mask of places
 abbrev pub IsIn : ℕ → ℕ → Type 0
 IsIn mask i = bit_at mask i ≡ 1
 
 -- to go on at one of these places, and not to end
-abbrev pub from : ℕ → Next
+abbrev pub from : ℕ → FollowSet
 from mask = record { places = mask; ends = false }
 
 -- a mask where something holds, else the empty one
@@ -17,7 +17,7 @@ abbrev pub when : Bool → ℕ → ℕ
 when b mask = if b then mask else 0
 
 -- The automaton reads a list to its end: some place that is in reads the first node, and what comes after that place reads the rest.
-abbrev pub Accepts : (ℕ → ℕ → Bool) → List Rule → Next → List ℕ → Type 0
+abbrev pub Accepts : (ℕ → ℕ → Bool) → List Transition → FollowSet → List ℕ → Type 0
 Accepts test rules s [] = s.ends ≡ true
 Accepts test rules s (x ∷ w) =
-    (i : ℕ) × (r : Rule) × IsIn s.places i × (slice_get rules i ≡ Some r) × (test r.atom x ≡ true) × Accepts test rules r.after w
+    (i : ℕ) × (r : Transition) × IsIn s.places i × (slice_get rules i ≡ Some r) × (test r.atom x ≡ true) × Accepts test rules r.after w

@@ -2,11 +2,11 @@
 use Rattle.std.specs.Prelude.{List, Bool, Option}
 use Rattle.cql_lines.specs.declared.shape.Limits.{Limits}
 use Rattle.cql_lines.specs.declared.shape.Shape.{Shape}
-use Rattle.cql_lines.specs.declared.shape.Spot.{Spot}
+use Rattle.cql_lines.specs.declared.shape.TreeNode.{TreeNode}
 
 -- its nodes in order
-abbrev pub spots_of : Shape → List Spot
-spots_of shape = shape.spots.items
+abbrev pub tree_nodes_of : Shape → List TreeNode
+tree_nodes_of shape = shape.tree_nodes.items
 
 -- paths go up, and not down
 abbrev pub goes_back : Shape → Bool

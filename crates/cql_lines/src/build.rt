@@ -3,13 +3,13 @@
 ghost use Rattle.std.specs.Prelude.{◌≡◌, ℕ, ◌+◌, ◌-◌, ◌*◌, ◌<◌, ◌≤◌, ◌&&◌, ◌||◌, ◌++◌, length, IfOk, OnOk, true, false, bit_or};
 ghost use Rattle.cql_lines.specs.Building.{AtomsBelow, size, firsts, firsts_times, rows, rows_times, begins, nullable, null_times};
 ghost use Rattle.cql_lines.specs.Places.{when};
-ghost use Rattle.cql_lines.specs.TreeOf.{plain_tree};
+ghost use Rattle.cql_lines.specs.Internal.BinaryPatterns.{plain_tree};
 ghost use Rattle.cql_lines.specs.PatternTrees.{pattern_tree};
 ghost use Rattle.cql_lines.specs.Automata.{places, IsAutomatonOf, UsesBelow};
 
-use crate::automaton::{Automaton, Next, Rule};
+use crate::automaton::{Automaton, FollowSet, Transition};
 use crate::pattern::Pattern;
-use crate::plain::{Plain, plain_of};
+use crate::binary_pattern::{BinaryPattern, plain_of};
 use cq_common::NoMemory;
 use std::alloc::{AllocError, Global};
 
@@ -24,7 +24,7 @@ impl Automaton {
     {
         let plain = plain_of(alloc, pattern)?;
         let mut rules = Vec::new(alloc);
-        let end = Next {
+        let end = FollowSet {
             places: 0,
             ends: true,
         };
@@ -39,30 +39,30 @@ impl Automaton {
 
 /// Whether it spells the empty list.
 #[cycle(nullable)]
-pub fn is_nullable(p: &Plain) -> bool
+pub fn is_nullable(p: &BinaryPattern) -> bool
     ensures { result ≡ nullable (plain_tree p.now) }
 {
     match p {
-        Plain::Atom(_) => false,
-        Plain::Empty | Plain::Star(_) => true,
-        Plain::Both(a, b) => is_nullable(a) && is_nullable(b),
-        Plain::Plus(a) => is_nullable(a),
-        Plain::Times(m, n, a) => *m == 0 || (*m <= *n && is_nullable(a)),
+        BinaryPattern::Atom(_) => false,
+        BinaryPattern::Empty | BinaryPattern::Star(_) => true,
+        BinaryPattern::Both(a, b) => is_nullable(a) && is_nullable(b),
+        BinaryPattern::Plus(a) => is_nullable(a),
+        BinaryPattern::Times(m, n, a) => *m == 0 || (*m <= *n && is_nullable(a)),
     }
 }
 
 /// How many places it has.
 #[cycle(size)]
-pub fn size_of(p: &Plain) -> usize
+pub fn size_of(p: &BinaryPattern) -> usize
     requires { size (plain_tree p.now) ≤ 64 }
     ensures { result ≡ size (plain_tree p.now) }
 {
     match p {
-        Plain::Atom(_) => 1,
-        Plain::Empty => 0,
-        Plain::Star(a) | Plain::Plus(a) => size_of(a),
-        Plain::Both(a, b) => size_of(b) + size_of(a),
-        Plain::Times(_, n, a) => {
+        BinaryPattern::Atom(_) => 1,
+        BinaryPattern::Empty => 0,
+        BinaryPattern::Star(a) | BinaryPattern::Plus(a) => size_of(a),
+        BinaryPattern::Both(a, b) => size_of(b) + size_of(a),
+        BinaryPattern::Times(_, n, a) => {
             if *n == 0 {
                 return 0;
             }
@@ -71,10 +71,10 @@ pub fn size_of(p: &Plain) -> usize
     }
 }
 
-fn begin(first: u64, empty: bool, next: Next) -> Next
+fn begin(first: u64, empty: bool, next: FollowSet) -> FollowSet
     ensures { result ≡ begins first empty next }
 {
-    Next {
+    FollowSet {
         places: with_where(first, empty, next.places),
         ends: empty && next.ends,
     }
@@ -88,24 +88,24 @@ fn with_where(first: u64, empty: bool, more: u64) -> u64
 
 /// The places that read its first node, where its places begin at a number.
 #[cycle(first)]
-pub fn first_of(p: &Plain, at: usize) -> u64
+pub fn first_of(p: &BinaryPattern, at: usize) -> u64
     requires { at + size (plain_tree p.now) ≤ 64 }
     ensures { result ≡ firsts (plain_tree p.now) at }
 {
     match p {
-        Plain::Atom(_) => 1 << at,
-        Plain::Empty => 0,
-        Plain::Star(a) | Plain::Plus(a) => first_of(a, at),
-        Plain::Both(a, b) => {
+        BinaryPattern::Atom(_) => 1 << at,
+        BinaryPattern::Empty => 0,
+        BinaryPattern::Star(a) | BinaryPattern::Plus(a) => first_of(a, at),
+        BinaryPattern::Both(a, b) => {
             let more = first_of(b, at);
             with_where(first_of(a, at + size_of(b)), is_nullable(a), more)
         }
-        Plain::Times(_, n, a) => first_of_times(a, *n, at),
+        BinaryPattern::Times(_, n, a) => first_of_times(a, *n, at),
     }
 }
 
 #[cycle(first)]
-fn first_of_times(p: &Plain, n: u32, at: usize) -> u64
+fn first_of_times(p: &BinaryPattern, n: u32, at: usize) -> u64
     requires { at + n * size (plain_tree p.now) ≤ 64 }
     ensures { result ≡ firsts_times (firsts (plain_tree p.now)) (nullable (plain_tree p.now)) (size (plain_tree p.now)) n at }
 {
@@ -123,42 +123,42 @@ fn first_of_times(p: &Plain, n: u32, at: usize) -> u64
 
 /// Adds the places of a pattern, after which a path goes on by `next`, and answers those that read its first node.
 #[cycle(build)]
-pub fn build(p: &Plain, next: Next, rules: &mut Vec<Rule>) -> Result<u64, AllocError>
+pub fn build(p: &BinaryPattern, next: FollowSet, rules: &mut Vec<Transition>) -> Result<u64, AllocError>
     requires { length rules.old.items + size (plain_tree p.now) ≤ 64 }
     ensures rows { OnOk result (rules.new.items ≡ rules.old.items ++ rows (plain_tree p.now) next (length rules.old.items)) }
     ensures first { IfOk result (λ f. f ≡ firsts (plain_tree p.now) (length rules.old.items)) }
     ensures len { OnOk result (length rules.new.items ≡ length rules.old.items + size (plain_tree p.now)) }
 {
     match p {
-        Plain::Atom(atom) => {
+        BinaryPattern::Atom(atom) => {
             let first = 1 << rules.len();
-            rules.push(Rule {
+            rules.push(Transition {
                 atom: *atom,
                 after: next,
             })?;
             Ok(first)
         }
-        Plain::Empty => Ok(0),
-        Plain::Star(a) | Plain::Plus(a) => {
+        BinaryPattern::Empty => Ok(0),
+        BinaryPattern::Star(a) | BinaryPattern::Plus(a) => {
             let first = first_of(a, rules.len());
             build(a, begin(first, true, next), rules)
         }
-        Plain::Both(a, b) => {
+        BinaryPattern::Both(a, b) => {
             let more = build(b, next, rules)?;
             let first = build(a, begin(more, is_nullable(b), next), rules)?;
             Ok(with_where(first, is_nullable(a), more))
         }
-        Plain::Times(m, n, a) => build_times(a, *m, *n, next, rules),
+        BinaryPattern::Times(m, n, a) => build_times(a, *m, *n, next, rules),
     }
 }
 
 #[cycle(build)]
 fn build_times(
-    p: &Plain,
+    p: &BinaryPattern,
     m: u32,
     n: u32,
-    next: Next,
-    rules: &mut Vec<Rule>,
+    next: FollowSet,
+    rules: &mut Vec<Transition>,
 ) -> Result<u64, AllocError>
     requires { length rules.old.items + n * size (plain_tree p.now) ≤ 64 }
     ensures rows { OnOk result (rules.new.items ≡ rules.old.items

@@ -7,13 +7,13 @@ mod build;
 mod lines;
 mod masks;
 pub mod pattern;
-mod plain;
-mod rows;
-mod sets;
+mod binary_pattern;
+mod state_lengths;
+mod length_sets;
 pub mod shape;
 pub mod table;
 mod tree;
-mod values;
+mod greatest_lengths;
 mod visits;
 
 pub use automaton::Automaton;

@@ -4,7 +4,7 @@ ghost use Rattle.cq_common.specs.Spelling.{Pattern as SpelledPattern};
 ghost use Rattle.cql_lines.specs.Automata.{IsAutomatonOf, UsesBelow};
 ghost use Rattle.cql_lines.specs.Shapes.{searched_count};
 ghost use Rattle.cql_lines.specs.Tables.{atoms_of, nodes_of};
-ghost use Rattle.cql_lines.specs.Trees.{spots_of};
+ghost use Rattle.cql_lines.specs.Trees.{tree_nodes_of};
 ghost use Rattle.cql_lines.specs.Values.{IsValueAt};
 
 use crate::automaton::Automaton;
@@ -26,12 +26,12 @@ pub fn line_values<L: Ledger>(
     steps: &mut Steps<L>,
 ) -> Result<Vec<Option<u32>>, NoMemory>
     requires atoms { UsesBelow automaton.now (atoms_of table.now) }
-    requires nodes { nodes_of table.now ≡ length (spots_of shape.now) }
-    ensures count { IfOk result (λ values. length values.items ≡ length (spots_of shape.now)) }
+    requires nodes { nodes_of table.now ≡ length (tree_nodes_of shape.now) }
+    ensures count { IfOk result (λ values. length values.items ≡ length (tree_nodes_of shape.now)) }
     ensures values { IfOk result (λ values. (p : SpelledPattern ℕ) → IsAutomatonOf automaton.now p
-        → (n : ℕ) → n < length (spots_of shape.now) → IsValueAt table.now shape.now p n (get_or values.items n None)) }
-    ensures cost { steps.new ≤ steps.old + atoms_of table.now * searched_count (spots_of shape.now) }
-    ensures exact { OnOk result (steps.new ≡ steps.old + atoms_of table.now * searched_count (spots_of shape.now)) }
+        → (n : ℕ) → n < length (tree_nodes_of shape.now) → IsValueAt table.now shape.now p n (get_or values.items n None)) }
+    ensures cost { steps.new ≤ steps.old + atoms_of table.now * searched_count (tree_nodes_of shape.now) }
+    ensures exact { OnOk result (steps.new ≡ steps.old + atoms_of table.now * searched_count (tree_nodes_of shape.now)) }
     ensures kept { OnErr result (steps.new ≡ steps.old) }
 {
     let rules = automaton.rules.as_slice();

@@ -1,6 +1,6 @@
 //! Where the places of a mask begin and end. Most masks have one or two places, side by side.
 ghost use Rattle.std.specs.Prelude.{◌≡◌, ℕ, ◌<◌, ◌≤◌, false};
-ghost use Rattle.cql_lines.specs.Lengths.{is_set};
+ghost use Rattle.cql_lines.specs.Internal.Lengths.{is_set};
 
 /// No place before this one is in the mask.
 pub(crate) fn first_place(mask: u64, count: usize) -> usize

@@ -8,7 +8,7 @@ use cq_common::Shared;
 
 /// A node of the tree.
 #[derive(Clone, Copy, Debug)]
-pub struct Spot {
+pub struct TreeNode {
     pub parent: Option<u32>,
     pub searched: bool,
     pub first: bool,
@@ -24,13 +24,13 @@ pub struct Limits {
 /// The tree, and which paths through it count.
 #[derive(Drop)]
 pub struct Shape {
-    pub(crate) spots: Vec<Spot>,
+    pub(crate) tree_nodes: Vec<TreeNode>,
     pub(crate) back: bool,
     pub(crate) primary: bool,
     /// Where it is missing, every length counts.
     pub(crate) extent: Option<Limits>,
-    ghost below: { (n p : ℕ) → joined primary spots.items n ≡ Some p → p < n },
-    ghost whole: { (n p : ℕ) → joined primary spots.items n ≡ Some p → is_searched spots.items p ≡ true },
+    ghost below: { (n p : ℕ) → joined primary tree_nodes.items n ≡ Some p → p < n },
+    ghost whole: { (n p : ℕ) → joined primary tree_nodes.items n ≡ Some p → is_searched tree_nodes.items p ≡ true },
     ghost short: { (e : SomeLimits) → extent ≡ Some e → e.most ≤ longest_limit },
 }
 

@@ -2,9 +2,9 @@
 ghost use Rattle.std.specs.Prelude.{◌≡◌, ◌<◌, ◌≤◌, ◌++◌, ◌∷◌, [], length, true, Some, None, IfSome, OnOk, OnErr};
 ghost use Rattle.cql_lines.specs.Limits.{longest_limit};
 ghost use Rattle.cql_lines.specs.Shapes.{joined, is_searched};
-ghost use Rattle.cql_lines.specs.Trees.{spots_of, goes_back, is_primary, limits_of};
+ghost use Rattle.cql_lines.specs.Trees.{tree_nodes_of, goes_back, is_primary, limits_of};
 
-use crate::shape::{Limits, Shape, Spot};
+use crate::shape::{Limits, Shape, TreeNode};
 use cq_common::NoMemory;
 use std::alloc::Global;
 
@@ -12,10 +12,10 @@ impl Shape {
     /// A tree without nodes, for paths down or, with `back`, up. With `primary` each step joins a node and its first child.
     /// Paths of every length count.
     pub fn new(alloc: Global, back: bool, primary: bool) -> Shape
-        ensures { (spots_of result ≡ []) × (goes_back result ≡ back) × (is_primary result ≡ primary) × (limits_of result ≡ None) }
+        ensures { (tree_nodes_of result ≡ []) × (goes_back result ≡ back) × (is_primary result ≡ primary) × (limits_of result ≡ None) }
     {
         Shape {
-            spots: Vec::new(alloc),
+            tree_nodes: Vec::new(alloc),
             back,
             primary,
             extent: None,
@@ -27,7 +27,7 @@ impl Shape {
         requires least { (0 < least) × (least ≤ longest_limit) }
         requires most { (0 < most) × (most ≤ longest_limit) }
         ensures extent { limits_of self.new ≡ Some (record { least = least; most = most }) }
-        ensures tree { (spots_of self.new ≡ spots_of self.old) × (goes_back self.new ≡ goes_back self.old)
+        ensures tree { (tree_nodes_of self.new ≡ tree_nodes_of self.old) × (goes_back self.new ≡ goes_back self.old)
             × (is_primary self.new ≡ is_primary self.old) }
     {
         self.extent = Some(Limits { least, most });
@@ -35,15 +35,15 @@ impl Shape {
 
     /// Adds a node: its parent, whether it is searched, and whether it is its parent's first child. A refused call changes nothing.
     pub fn push(&mut self, parent: Option<u32>, searched: bool, first: bool) -> Result<(), NoMemory>
-        requires parent { IfSome parent (λ p. p < length (spots_of self.old)) }
-        requires searched { IfSome parent (λ p. searched ≡ true → is_searched (spots_of self.old) p ≡ true) }
-        ensures more { OnOk result (spots_of self.new
-            ≡ spots_of self.old ++ record { parent = parent; searched = searched; first = first } ∷ []) }
-        ensures same { OnErr result (spots_of self.new ≡ spots_of self.old) }
+        requires parent { IfSome parent (λ p. p < length (tree_nodes_of self.old)) }
+        requires searched { IfSome parent (λ p. searched ≡ true → is_searched (tree_nodes_of self.old) p ≡ true) }
+        ensures more { OnOk result (tree_nodes_of self.new
+            ≡ tree_nodes_of self.old ++ record { parent = parent; searched = searched; first = first } ∷ []) }
+        ensures same { OnErr result (tree_nodes_of self.new ≡ tree_nodes_of self.old) }
         ensures way { (goes_back self.new ≡ goes_back self.old) × (is_primary self.new ≡ is_primary self.old)
             × (limits_of self.new ≡ limits_of self.old) }
     {
-        self.spots.push(Spot {
+        self.tree_nodes.push(TreeNode {
             parent,
             searched,
             first,
@@ -53,10 +53,10 @@ impl Shape {
 
     /// The node above that a node is joined to.
     pub(crate) fn joined_to(&self, node: usize) -> Option<u32>
-        requires { node < length self.now.spots.items }
-        ensures { result ≡ joined self.now.primary self.now.spots.items node }
+        requires { node < length self.now.tree_nodes.items }
+        ensures { result ≡ joined self.now.primary self.now.tree_nodes.items node }
     {
-        let spot = self.spots[node];
+        let spot = self.tree_nodes[node];
         if spot.searched && (spot.first || !self.primary) {
             return spot.parent;
         }
@@ -65,16 +65,16 @@ impl Shape {
 
     /// Whether a node is searched.
     pub(crate) fn searched(&self, node: usize) -> bool
-        requires { node < length self.now.spots.items }
-        ensures { result ≡ is_searched self.now.spots.items node }
+        requires { node < length self.now.tree_nodes.items }
+        ensures { result ≡ is_searched self.now.tree_nodes.items node }
     {
-        self.spots[node].searched
+        self.tree_nodes[node].searched
     }
 
     /// How many nodes there are.
     pub(crate) fn len(&self) -> usize
-        ensures { result ≡ length self.now.spots.items }
+        ensures { result ≡ length self.now.tree_nodes.items }
     {
-        self.spots.len()
+        self.tree_nodes.len()
     }
 }

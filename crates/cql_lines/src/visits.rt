@@ -1,16 +1,16 @@
 //! The nodes of a tree visited one by one, each after those whose lengths it needs.
 ghost use Rattle.std.specs.Prelude.{◌≡◌, ℕ, ◌+◌, ◌*◌, ◌<◌, ◌≤◌, get_or, length, map, None, ◌-◌, false, IfOk, OnErr, OnOk, replicate, true};
-ghost use Rattle.cql_lines.specs.Cells.{Known, both_kinds, Counts, Allowed};
-ghost use Rattle.cql_lines.specs.Down.{Passed, Stands, cell};
-ghost use Rattle.cql_lines.specs.Fits.{Fit};
-ghost use Rattle.cql_lines.specs.Reads.{Read};
+ghost use Rattle.cql_lines.specs.Internal.Cells.{Represents, both_kinds, Counts, AllowedLength};
+ghost use Rattle.cql_lines.specs.Internal.DownwardPass.{IsParentUpdate, DownInvariant, cell};
+ghost use Rattle.cql_lines.specs.Internal.SizesFit.{SizesFit};
+ghost use Rattle.cql_lines.specs.Internal.AcceptedLengths.{AcceptedLength};
 ghost use Rattle.cql_lines.specs.Shapes.{Edge, is_searched, joined, searched_count};
 ghost use Rattle.cql_lines.specs.Tables.{holds};
-ghost use Rattle.cql_lines.specs.Up.{StandsUp, IsAbove};
-ghost use Rattle.cql_lines.specs.Values.{AnswerAt};
+ghost use Rattle.cql_lines.specs.Internal.UpwardPass.{UpInvariant, IsAbove};
+ghost use Rattle.cql_lines.specs.Values.{GreatestWhere};
 
-use crate::automaton::Rule;
-use crate::rows::Row;
+use crate::automaton::Transition;
+use crate::state_lengths::StateLengths;
 use crate::shape::Shape;
 use crate::table::AtomTable;
 use cq_common::{NoMemory, Steps};
@@ -18,23 +18,23 @@ use std::alloc::{AllocError, Global};
 use std::sync::ledger::Ledger;
 
 // What a node's lengths give to those of the node above.
-fn pass_up<R: Row>(shape: &Shape, node: usize, rows: &mut [R], own: &R, count: usize)
+fn merge_into_parent<R: StateLengths>(shape: &Shape, node: usize, rows: &mut [R], own: &R, count: usize)
     requires count { count ≤ 64 }
     requires past { (j : ℕ) → count ≤ j → R.cells own.now j ≡ 0 }
-    requires node { node < length shape.now.spots.items }
-    requires rows { length rows.old ≡ length shape.now.spots.items }
-    ensures { Passed (both_kinds R.sets) shape.now.primary shape.now.spots.items node
+    requires node { node < length shape.now.tree_nodes.items }
+    requires rows { length rows.old ≡ length shape.now.tree_nodes.items }
+    ensures { IsParentUpdate (both_kinds R.sets) shape.now.primary shape.now.tree_nodes.items node
         (map R.cells rows.old) (map R.cells rows.new) (R.cells own.now) }
 {
     let Some(above) = shape.joined_to(node) else {
         return;
     };
-    rows[above as usize].unite(own, count);
+    rows[above as usize].merge(own, count);
 }
 
 // The greatest allowed length at one node, and what its lengths give to the row of the node above.
-fn visit_down<L: Ledger, R: Row>(
-    rules: &[Rule],
+fn visit_down<L: Ledger, R: StateLengths>(
+    rules: &[Transition],
     first: u64,
     table: &AtomTable<L>,
     shape: &Shape,
@@ -43,30 +43,30 @@ fn visit_down<L: Ledger, R: Row>(
     steps: &mut Steps<L>,
 ) -> Option<u32>
     requires counts { Counts R.sets shape.now.extent }
-    requires fit { Fit rules.now table.now shape.now }
-    requires node { node < length shape.now.spots.items }
-    requires stands { Stands (Known R.sets) table.now.words.items rules.now shape.now.primary shape.now.spots.items
-        (length shape.now.spots.items - node - 1) (map R.cells rows.old) }
-    ensures stands { Stands (Known R.sets) table.now.words.items rules.now shape.now.primary shape.now.spots.items
-        (length shape.now.spots.items - node) (map R.cells rows.new) }
-    ensures value { AnswerAt (is_searched shape.now.spots.items node)
-        (Allowed shape.now.extent
-        (Read (holds table.now.words.items) rules.now (Edge false shape.now.primary shape.now.spots.items) first node)) result }
+    requires fit { SizesFit rules.now table.now shape.now }
+    requires node { node < length shape.now.tree_nodes.items }
+    requires stands { DownInvariant (Represents R.sets) table.now.words.items rules.now shape.now.primary shape.now.tree_nodes.items
+        (length shape.now.tree_nodes.items - node - 1) (map R.cells rows.old) }
+    ensures stands { DownInvariant (Represents R.sets) table.now.words.items rules.now shape.now.primary shape.now.tree_nodes.items
+        (length shape.now.tree_nodes.items - node) (map R.cells rows.new) }
+    ensures value { GreatestWhere (is_searched shape.now.tree_nodes.items node)
+        (AllowedLength shape.now.extent
+        (AcceptedLength (holds table.now.words.items) rules.now (Edge false shape.now.primary shape.now.tree_nodes.items) first node)) result }
     ensures cost { steps.new ≤ steps.old + table.now.atoms }
-    ensures unsearched { is_searched shape.now.spots.items node ≡ false → steps.new ≡ steps.old }
-    ensures searched { is_searched shape.now.spots.items node ≡ true → steps.new ≡ steps.old + table.now.atoms }
+    ensures unsearched { is_searched shape.now.tree_nodes.items node ≡ false → steps.new ≡ steps.old }
+    ensures searched { is_searched shape.now.tree_nodes.items node ≡ true → steps.new ≡ steps.old + table.now.atoms }
 {
     if !shape.searched(node) {
         return None;
     }
     let held = table.held(node, steps);
     let own = rows[node].own(rules, held);
-    pass_up(shape, node, rows, &own, rules.len());
-    own.answer(first, rules.len(), shape.extent)
+    merge_into_parent(shape, node, rows, &own, rules.len());
+    own.greatest_allowed(first, rules.len(), shape.extent)
 }
 
 // Rows without lengths.
-fn blank_rows<R: Row>(alloc: Global, nodes: usize) -> Result<Vec<R>, AllocError>
+fn blank_rows<R: StateLengths>(alloc: Global, nodes: usize) -> Result<Vec<R>, AllocError>
     ensures count { IfOk result (λ rows. length rows.items ≡ nodes) }
     ensures blank { IfOk result (λ rows. (n j : ℕ) → cell (map R.cells rows.items) n j ≡ 0) }
 {
@@ -84,24 +84,24 @@ fn blank_values(alloc: Global, nodes: usize) -> Result<Vec<Option<u32>>, AllocEr
 }
 
 // For each node the greatest allowed length of a way down that is read.
-fn longest_down<L: Ledger, R: Row>(
+fn longest_down<L: Ledger, R: StateLengths>(
     alloc: Global,
-    rules: &[Rule],
+    rules: &[Transition],
     first: u64,
     table: &AtomTable<L>,
     shape: &Shape,
     steps: &mut Steps<L>,
 ) -> Result<Vec<Option<u32>>, NoMemory>
     requires counts { Counts R.sets shape.now.extent }
-    requires fit { Fit rules.now table.now shape.now }
-    ensures count { IfOk result (λ values. length values.items ≡ length shape.now.spots.items) }
-    ensures values { IfOk result (λ values. (n : ℕ) → n < length shape.now.spots.items →
-        AnswerAt (is_searched shape.now.spots.items n)
-        (Allowed shape.now.extent
-        (Read (holds table.now.words.items) rules.now (Edge false shape.now.primary shape.now.spots.items) first n))
+    requires fit { SizesFit rules.now table.now shape.now }
+    ensures count { IfOk result (λ values. length values.items ≡ length shape.now.tree_nodes.items) }
+    ensures values { IfOk result (λ values. (n : ℕ) → n < length shape.now.tree_nodes.items →
+        GreatestWhere (is_searched shape.now.tree_nodes.items n)
+        (AllowedLength shape.now.extent
+        (AcceptedLength (holds table.now.words.items) rules.now (Edge false shape.now.primary shape.now.tree_nodes.items) first n))
         (get_or values.items n None)) }
-    ensures cost { steps.new ≤ steps.old + table.now.atoms * searched_count shape.now.spots.items }
-    ensures exact { OnOk result (steps.new ≡ steps.old + table.now.atoms * searched_count shape.now.spots.items) }
+    ensures cost { steps.new ≤ steps.old + table.now.atoms * searched_count shape.now.tree_nodes.items }
+    ensures exact { OnOk result (steps.new ≡ steps.old + table.now.atoms * searched_count shape.now.tree_nodes.items) }
     ensures kept { OnErr result (steps.new ≡ steps.old) }
 {
     let nodes = shape.len();
@@ -116,10 +116,10 @@ fn longest_down<L: Ledger, R: Row>(
 }
 
 // The lengths of the node above, none where there is no such node.
-fn row_above<R: Row>(shape: &Shape, node: usize, rows: &[R]) -> R
-    requires node { node < length shape.now.spots.items }
-    requires rows { length rows.now ≡ length shape.now.spots.items }
-    ensures { IsAbove (joined shape.now.primary shape.now.spots.items node) (map R.cells rows.now) (R.cells result) }
+fn row_above<R: StateLengths>(shape: &Shape, node: usize, rows: &[R]) -> R
+    requires node { node < length shape.now.tree_nodes.items }
+    requires rows { length rows.now ≡ length shape.now.tree_nodes.items }
+    ensures { IsAbove (joined shape.now.primary shape.now.tree_nodes.items node) (map R.cells rows.now) (R.cells result) }
 {
     match shape.joined_to(node) {
         Some(above) => rows[above as usize],
@@ -128,8 +128,8 @@ fn row_above<R: Row>(shape: &Shape, node: usize, rows: &[R]) -> R
 }
 
 // The greatest allowed length at one node, and its lengths in its row.
-fn visit_up<L: Ledger, R: Row>(
-    rules: &[Rule],
+fn visit_up<L: Ledger, R: StateLengths>(
+    rules: &[Transition],
     first: u64,
     table: &AtomTable<L>,
     shape: &Shape,
@@ -138,18 +138,18 @@ fn visit_up<L: Ledger, R: Row>(
     steps: &mut Steps<L>,
 ) -> Option<u32>
     requires counts { Counts R.sets shape.now.extent }
-    requires fit { Fit rules.now table.now shape.now }
-    requires node { node < length shape.now.spots.items }
-    requires stands { StandsUp (Known R.sets) table.now.words.items rules.now shape.now.primary shape.now.spots.items node
+    requires fit { SizesFit rules.now table.now shape.now }
+    requires node { node < length shape.now.tree_nodes.items }
+    requires stands { UpInvariant (Represents R.sets) table.now.words.items rules.now shape.now.primary shape.now.tree_nodes.items node
         (map R.cells rows.old) }
-    ensures stands { StandsUp (Known R.sets) table.now.words.items rules.now shape.now.primary shape.now.spots.items (node + 1)
+    ensures stands { UpInvariant (Represents R.sets) table.now.words.items rules.now shape.now.primary shape.now.tree_nodes.items (node + 1)
         (map R.cells rows.new) }
-    ensures value { AnswerAt (is_searched shape.now.spots.items node)
-        (Allowed shape.now.extent
-        (Read (holds table.now.words.items) rules.now (Edge true shape.now.primary shape.now.spots.items) first node)) result }
+    ensures value { GreatestWhere (is_searched shape.now.tree_nodes.items node)
+        (AllowedLength shape.now.extent
+        (AcceptedLength (holds table.now.words.items) rules.now (Edge true shape.now.primary shape.now.tree_nodes.items) first node)) result }
     ensures cost { steps.new ≤ steps.old + table.now.atoms }
-    ensures unsearched { is_searched shape.now.spots.items node ≡ false → steps.new ≡ steps.old }
-    ensures searched { is_searched shape.now.spots.items node ≡ true → steps.new ≡ steps.old + table.now.atoms }
+    ensures unsearched { is_searched shape.now.tree_nodes.items node ≡ false → steps.new ≡ steps.old }
+    ensures searched { is_searched shape.now.tree_nodes.items node ≡ true → steps.new ≡ steps.old + table.now.atoms }
 {
     if !shape.searched(node) {
         return None;
@@ -158,28 +158,28 @@ fn visit_up<L: Ledger, R: Row>(
     let above = row_above(shape, node, rows);
     let own = above.own(rules, held);
     rows[node] = own;
-    own.answer(first, rules.len(), shape.extent)
+    own.greatest_allowed(first, rules.len(), shape.extent)
 }
 
 // For each node the greatest allowed length of a way up that is read.
-fn longest_up<L: Ledger, R: Row>(
+fn longest_up<L: Ledger, R: StateLengths>(
     alloc: Global,
-    rules: &[Rule],
+    rules: &[Transition],
     first: u64,
     table: &AtomTable<L>,
     shape: &Shape,
     steps: &mut Steps<L>,
 ) -> Result<Vec<Option<u32>>, NoMemory>
     requires counts { Counts R.sets shape.now.extent }
-    requires fit { Fit rules.now table.now shape.now }
-    ensures count { IfOk result (λ values. length values.items ≡ length shape.now.spots.items) }
-    ensures values { IfOk result (λ values. (n : ℕ) → n < length shape.now.spots.items →
-        AnswerAt (is_searched shape.now.spots.items n)
-        (Allowed shape.now.extent
-        (Read (holds table.now.words.items) rules.now (Edge true shape.now.primary shape.now.spots.items) first n))
+    requires fit { SizesFit rules.now table.now shape.now }
+    ensures count { IfOk result (λ values. length values.items ≡ length shape.now.tree_nodes.items) }
+    ensures values { IfOk result (λ values. (n : ℕ) → n < length shape.now.tree_nodes.items →
+        GreatestWhere (is_searched shape.now.tree_nodes.items n)
+        (AllowedLength shape.now.extent
+        (AcceptedLength (holds table.now.words.items) rules.now (Edge true shape.now.primary shape.now.tree_nodes.items) first n))
         (get_or values.items n None)) }
-    ensures cost { steps.new ≤ steps.old + table.now.atoms * searched_count shape.now.spots.items }
-    ensures exact { OnOk result (steps.new ≡ steps.old + table.now.atoms * searched_count shape.now.spots.items) }
+    ensures cost { steps.new ≤ steps.old + table.now.atoms * searched_count shape.now.tree_nodes.items }
+    ensures exact { OnOk result (steps.new ≡ steps.old + table.now.atoms * searched_count shape.now.tree_nodes.items) }
     ensures kept { OnErr result (steps.new ≡ steps.old) }
 {
     let nodes = shape.len();
@@ -193,24 +193,24 @@ fn longest_up<L: Ledger, R: Row>(
 }
 
 /// For each node the greatest allowed length of a way that is read.
-pub fn longest<L: Ledger, R: Row>(
+pub fn longest<L: Ledger, R: StateLengths>(
     alloc: Global,
-    rules: &[Rule],
+    rules: &[Transition],
     first: u64,
     table: &AtomTable<L>,
     shape: &Shape,
     steps: &mut Steps<L>,
 ) -> Result<Vec<Option<u32>>, NoMemory>
     requires counts { Counts R.sets shape.now.extent }
-    requires fit { Fit rules.now table.now shape.now }
-    ensures count { IfOk result (λ values. length values.items ≡ length shape.now.spots.items) }
-    ensures values { IfOk result (λ values. (n : ℕ) → n < length shape.now.spots.items →
-        AnswerAt (is_searched shape.now.spots.items n)
-        (Allowed shape.now.extent
-        (Read (holds table.now.words.items) rules.now (Edge shape.now.back shape.now.primary shape.now.spots.items) first n))
+    requires fit { SizesFit rules.now table.now shape.now }
+    ensures count { IfOk result (λ values. length values.items ≡ length shape.now.tree_nodes.items) }
+    ensures values { IfOk result (λ values. (n : ℕ) → n < length shape.now.tree_nodes.items →
+        GreatestWhere (is_searched shape.now.tree_nodes.items n)
+        (AllowedLength shape.now.extent
+        (AcceptedLength (holds table.now.words.items) rules.now (Edge shape.now.back shape.now.primary shape.now.tree_nodes.items) first n))
         (get_or values.items n None)) }
-    ensures cost { steps.new ≤ steps.old + table.now.atoms * searched_count shape.now.spots.items }
-    ensures exact { OnOk result (steps.new ≡ steps.old + table.now.atoms * searched_count shape.now.spots.items) }
+    ensures cost { steps.new ≤ steps.old + table.now.atoms * searched_count shape.now.tree_nodes.items }
+    ensures exact { OnOk result (steps.new ≡ steps.old + table.now.atoms * searched_count shape.now.tree_nodes.items) }
     ensures kept { OnErr result (steps.new ≡ steps.old) }
 {
     if shape.back {

@@ -1,4 +1,4 @@
--- Squares that are worth trying for a name.
+-- Squares that are candidates for a name.
 use Rattle.std.proofs.Common.{◌≡◌, ℕ, zero, suc, ◌^◌, ◌<◌, Bool, true, false, ◌&&◌, ◌==◌, nat_lt, List, [], ◌∷◌, length, get_or, ◌⊎◌, refl, sym, ap, ap₂, ◌∙◌, arith, inl, inr, Option, option_map, Some, None}
 use Rattle.std.specs.Prelude.{bit_and}
 use Rattle.std.specs.List.{filter, list_any, list_all}
@@ -25,17 +25,17 @@ use Rattle.cql_syntax.specs.declared.tree.Played.{Played, Played', out-Played, o
 use Rattle.cql_values.proofs.Masks.{above, in_both, is_in_bit, is_mask, nothing_in}
 use Rattle.cql_values.proofs.Evaluated.{by_settling}
 use Rattle.cql_values.proofs.Ranges.{left, right, both, same_any, same_truth, some_square, square_found}
-use Rattle.cql_values.specs.Asked.{settles}
-use Rattle.cql_local.specs.Cuts.{IsCut, IsName, IsOwn, HaveName}
+use Rattle.cql_values.specs.FilterValues.{settles}
+use Rattle.cql_local.specs.Internal.Candidates.{KeepsCandidates, IsName, GivesOnlyName, IntersectInName}
 
 -- cut twice, where what is asked asks as much each time
-pub cut_again : (test more : ℕ → Bool) (old mid new : ℕ) → ((s : ℕ) → is_in old s ≡ true → test s ≡ true → more s ≡ true) → IsCut test old mid → IsCut more mid new → IsCut test old new
+pub cut_again : (test more : ℕ → Bool) (old mid new : ℕ) → ((s : ℕ) → is_in old s ≡ true → test s ≡ true → more s ≡ true) → KeepsCandidates test old mid → KeepsCandidates more mid new → KeepsCandidates test old new
 cut_again test more old mid new implies first second = record {
   within = λ s e. first.within s (second.within s e);
   keeps = λ s e h. second.keeps s (first.keeps s e h) (implies s e h);
 }
 
-pub cut_more : (test more : ℕ → Bool) (old new : ℕ) → ((s : ℕ) → test s ≡ true → more s ≡ true) → IsCut more old new → IsCut test old new
+pub cut_more : (test more : ℕ → Bool) (old new : ℕ) → ((s : ℕ) → test s ≡ true → more s ≡ true) → KeepsCandidates more old new → KeepsCandidates test old new
 cut_more test more old new implies cut = record { within = cut.within; keeps = λ s e h. cut.keeps s e (implies s h) }
 
 -- a square of a set is one of the board
@@ -59,11 +59,11 @@ each_passes test tree e n (x ∷ fs) (suc i) f low is all =
 own_square : (s t : ℕ) → (nat_lt t 64 && (s == t)) ≡ true → s ≡ t
 own_square s t e = eqb-true s t (right (nat_lt t 64) (s == t) e)
 
-pub name_own : (name : List ℕ) (f : FilterTree) → IsName name f → IsOwn name f
+pub name_own : (name : List ℕ) (f : FilterTree) → IsName name f → GivesOnlyName name f
 name_own name f is = record { own = λ tree e n s t h. own_square s t (sym (ap (λ v. has v t) (is.own tree e n s)) ∙ h) }
 
 -- the squares of a filter that are so related to another's
-pub related_own : (name : List ℕ) (whole a b : FilterTree) (at : ℕ) (p : Pair) → (p ≡ Attacks) ⊎ (p ≡ AttackedBy) → whole ≡ filter_at at (pair p a b) → IsName name a → IsOwn name whole
+pub related_own : (name : List ℕ) (whole a b : FilterTree) (at : ℕ) (p : Pair) → (p ≡ Attacks) ⊎ (p ≡ AttackedBy) → whole ≡ filter_at at (pair p a b) → IsName name a → GivesOnlyName name whole
 unfolding value
 related_own name whole a b at p (inl e) is own = record {
   own = λ tree m n s t h. (name_own name a own).own tree m n s t
@@ -85,7 +85,7 @@ having_holds (as_squares x) s low e = some_square x s low e
 having_holds (as_number n) s low e = cc
 
 -- a filter among others that has no square but the name's
-pub named : (name : List ℕ) (fs : List Filter) (i : ℕ) (f : Filter) → i < length fs → f ≡ get_or fs i f → IsOwn name (filter_tree f) → HaveName name (filter_trees fs)
+pub named : (name : List ℕ) (fs : List Filter) (i : ℕ) (f : Filter) → i < length fs → f ≡ get_or fs i f → GivesOnlyName name (filter_tree f) → IntersectInName name (filter_trees fs)
 named name fs i f low is own = record {
   own = λ tree e n s t all. own.own tree e n s t (each_passes (λ v. has v t) tree ((name, s) ∷ e) n fs i f low is all);
 }
@@ -112,7 +112,7 @@ second_is test x y s is e =
 -- the squares of a set that are so related to a fixed set
 pub cut_related : (test : ℕ → ℕ → Bool) (v : ℕ → Value) (set other new : ℕ) → set < 2 ^ 64 → ((s : ℕ) → has (v s) ≡ is_in other)
     → (λ s. nat_lt s 64 && (is_in set s && list_any (λ t. is_in other t && test s t) squares)) ≡ is_in new
-    → IsCut (λ s. list_any (λ t. has (v s) t && test s t) squares) set new
+    → KeepsCandidates (λ s. list_any (λ t. has (v s) t && test s t) squares) set new
 cut_related test v set other new fits fixed is = record {
   within = λ s e. left (is_in set s) (list_any (λ t. is_in other t && test s t) squares)
       (right (nat_lt s 64) (is_in set s && list_any (λ t. is_in other t && test s t) squares) (ap (λ f. f s) is ∙ e));
@@ -124,17 +124,17 @@ cut_related test v set other new fits fixed is = record {
     low_test s low = lt-ltb s 64 low
 
 -- of a set the squares that are in another too
-pub cut_common : (test : ℕ → Bool) (set old more : ℕ) → ((s : ℕ) → is_in set s ≡ true → test s ≡ true → is_in more s ≡ true) → IsCut test set old → IsCut test set (bit_and old more)
+pub cut_common : (test : ℕ → Bool) (set old more : ℕ) → ((s : ℕ) → is_in set s ≡ true → test s ≡ true → is_in more s ≡ true) → KeepsCandidates test set old → KeepsCandidates test set (bit_and old more)
 cut_common test set old more keeps cut = record {
   within = λ s e. cut.within s (left (is_in old s) (is_in more s) (sym (in_both old more s) ∙ e));
   keeps = λ s e h. in_both old more s ∙ both (is_in old s) (is_in more s) (cut.keeps s e h) (keeps s e h);
 }
 
-pub uncut : (test : ℕ → Bool) (set : ℕ) → IsCut test set set
+pub uncut : (test : ℕ → Bool) (set : ℕ) → KeepsCandidates test set set
 uncut test set = record { within = λ s e. e; keeps = λ s e h. e }
 
 -- a square that all sets of a list have, where one of them is the name
-pub in_common : (tree : SearchedTree) (e : Names) (n s : ℕ) (name : List ℕ) (fs : FilterTrees) → HaveName name fs → holds (intersection_of (values tree [] ((name, s) ∷ e) fs n)) ≡ true
+pub in_common : (tree : SearchedTree) (e : Names) (n s : ℕ) (name : List ℕ) (fs : FilterTrees) → IntersectInName name fs → holds (intersection_of (values tree [] ((name, s) ∷ e) fs n)) ≡ true
     → list_all (λ v. has v s) (values tree [] ((name, s) ∷ e) fs n) ≡ true
 in_common tree e n s name fs named h =
     let f = square_found (λ t. nat_lt t 64 && list_all (λ v. has v t) (values tree [] ((name, s) ∷ e) fs n)) h in
@@ -163,7 +163,7 @@ none_met tree e n (move_of origin goal taken promoted) none h =
     let f = sym (ap (λ l. meets_all l (written_value tree [] e origin (before tree n)) (written_value tree [] e goal n) (written_value tree [] e taken (before tree n))
     (written_value tree [] e promoted n)) none) ∙ h in cc
 
-pub nothing_left : (test : ℕ → Bool) (set : ℕ) → ((s : ℕ) → test s ≡ true → ⊥) → IsCut test set 0
+pub nothing_left : (test : ℕ → Bool) (set : ℕ) → ((s : ℕ) → test s ≡ true → ⊥) → KeepsCandidates test set 0
 nothing_left test set none = record {
   within = λ s e. absurd (let f = sym (nothing_in s) ∙ e in cc);
   keeps = λ s e h. absurd (none s h);
@@ -182,7 +182,7 @@ square_of_has true x y asked e = ap (λ h. as_truth (list_all asked (filter h sq
 square_of_has false x y asked e = ap (λ h. as_truth (list_any asked (filter h squares))) e
 
 -- it holds of some square of a set where it holds of one of those that are left
-pub cut_same : (test : ℕ → Bool) (set new : ℕ) → IsCut test set new → square_of false (as_squares (is_in new)) test ≡ square_of false (as_squares (is_in set)) test
+pub cut_same : (test : ℕ → Bool) (set new : ℕ) → KeepsCandidates test set new → square_of false (as_squares (is_in new)) test ≡ square_of false (as_squares (is_in set)) test
 cut_same test set new cut =
     by_settling false (as_squares (is_in new)) test (list_any (settles false (is_in set) test) squares) (same_any (settles false (is_in set) test) (settles false (is_in new) test)
     (λ s low. same_truth (is_in set s && test s) (is_in new s && test s)

@@ -5,7 +5,7 @@ use Rattle.cq_position.specs.Games.{Node, node_at}
 use Rattle.cq_position.specs.Led.{led, led_from, led_to, taken_square}
 use Rattle.cq_position.specs.Legal.{is_none}
 use Rattle.cq_position.specs.declared.moves.Move.{Move}
-use Rattle.cql_local.specs.Moves.{AreEnds}
+use Rattle.cql_local.specs.Internal.MovesSought.{AreMoveEnds}
 
 pub no_ends : (nodes : List Node) (n p : ℕ) (m : Move) → (node_at nodes n).parent ≡ Some p → (node_at nodes n).led_by ≡ Some m → m.null ≡ true → led_to nodes n ≡ None
 unfolding led
@@ -15,7 +15,7 @@ no_ends nodes n p m parent by null =
     ∙ ap (λ b. if b then None else Some (record { origin = m.from; goal = m.to; taken = taken_square q m; promoted = not (is_none m.promotion) })) null
 
 pub ends : (nodes : List Node) (n p : ℕ) (m : Move) → (node_at nodes n).parent ≡ Some p → (node_at nodes n).led_by ≡ Some m → m.null ≡ false
-    → AreEnds nodes n (record { before = p; origin = m.from; goal = m.to })
+    → AreMoveEnds nodes n (record { before = p; origin = m.from; goal = m.to })
 unfolding led
 ends nodes n p m parent by null =
     let q = (node_at nodes p).position in

@@ -20,7 +20,7 @@ use Rattle.cql_syntax.specs.Values.{Value, as_squares, holds, has, square_of, un
 use Rattle.cql_syntax.specs.declared.tree.Filter.{Filter}
 use Rattle.cql_values.proofs.Masks.{has_bit, bit_in, nothing_in, union_is, intersection_is}
 use Rattle.cql_values.proofs.Ranges.{same_truth, some_square, square_found, both, left, right, any_mapped, all_mapped}
-use Rattle.cql_values.specs.Asked.{settles}
+use Rattle.cql_values.specs.FilterValues.{settles}
 use Rattle.cql_values.specs.Bindings.{rebound}
 use Rattle.cql_local.proofs.Cutting.{square_of_has}
 

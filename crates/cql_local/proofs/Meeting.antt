@@ -11,8 +11,8 @@ use Rattle.cql_syntax.specs.Meaning.{Names, value, written_value, played_value, 
 use Rattle.cql_syntax.specs.TreeOf.{played_tree, written_tree}
 use Rattle.cql_syntax.specs.declared.tree.Filter.{Filter}
 use Rattle.cql_syntax.specs.declared.tree.Played.{Played, out-Played}
-use Rattle.cql_local.specs.Moves.{AreEnds}
-use Rattle.cql_local.specs.declared.ends.Ends.{Ends}
+use Rattle.cql_local.specs.Internal.MovesSought.{AreMoveEnds}
+use Rattle.cql_local.specs.declared.move_ends.MoveEnds.{MoveEnds}
 use Rattle.cql_local.proofs.Cutting.{move_value, origin_of, goal_of, taken_of, promoted_of}
 
 -- no move led to the node
@@ -30,7 +30,7 @@ absent tree e (Some f) n s is = cc
 led_same : (o : Option PlainLed) (m : PlainLed) (l : Led) → o ≡ Some m → Some l ≡ option_map as_led o → l ≡ as_led m
 led_same o m l is led = let h = led ∙ ap (option_map as_led) is in cc
 
-module _ (tree : SearchedTree) (e : Names) (n : ℕ) (p : Played) (d : Ends) (ends : AreEnds tree.game.nodes n d) where
+module _ (tree : SearchedTree) (e : Names) (n : ℕ) (p : Played) (d : MoveEnds) (ends : AreMoveEnds tree.game.nodes n d) where
   -- the part is met
   abbrev pub origin_met : Bool
   origin_met = meets (written_value tree [] e (origin_of p) d.before) (Some d.origin)

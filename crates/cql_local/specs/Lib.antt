@@ -1,3 +1,2 @@
-pub mod Cuts
-pub mod Moves
-pub mod Places
+pub mod NodeScopes
+pub mod Internal

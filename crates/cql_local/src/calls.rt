@@ -1,14 +1,14 @@
 //! The public calls.
 ghost use Rattle.std.specs.Prelude.{◌≡◌, ◌<◌, ◌∷◌, [], length, IfOk, IfSome};
-ghost use Rattle.cql_local.specs.Places.{tree_of};
+ghost use Rattle.cql_local.specs.NodeScopes.{tree_of};
 ghost use Rattle.cql_syntax.specs.Meaning as meaning;
 ghost use Rattle.cql_syntax.specs.TreeOf.{filter_tree};
 ghost use Rattle.cql_syntax.specs.Values as spec;
-ghost use Rattle.cql_values.specs.Shown.{meant};
+ghost use Rattle.cql_values.specs.ValueModel.{as_value};
 
-use crate::cheap::{is_cheap, is_moved};
+use crate::local_cost::{is_cheap, is_moved};
 use crate::evaluate::square_at;
-use crate::place::Place;
+use crate::node_scope::NodeScope;
 use cq_common::{NoMemory, Refusal};
 use cql_syntax::Filter;
 use cql_values::names::Names;
@@ -18,16 +18,16 @@ use pgn_tree::Game;
 /// Whether what is asked holds of every square of a set, or of some, at one of the game's nodes, with the name bound to the square. Nothing
 /// of a filter that is not answered node by node: of a line, a family, a sum, `find` downwards, `*`, `max`, `min`, or a word that counts
 /// plies or asks for what comes after. Memory is asked for the names alone.
-pub fn square_here(
+pub fn local_square_truth(
     every: bool,
     name: &[u8],
     squares: Value,
     asked: &Filter,
-    place: &Place,
+    place: &NodeScope,
     names: &mut Names,
 ) -> Result<Option<bool>, NoMemory>
     requires { place.now.node < length place.now.game.now.nodes }
-    ensures value { IfOk result (λ found. IfSome found (λ b. spec.as_truth b ≡ spec.square_of every (meant squares)
+    ensures value { IfOk result (λ found. IfSome found (λ b. spec.as_truth b ≡ spec.square_of every (as_value squares)
         (λ s. spec.holds (meaning.value (tree_of place.now) [] ((name.now, s) ∷ names.old) (filter_tree asked.now) place.now.node)))) }
     ensures names { names.new ≡ names.old }
 {
@@ -44,8 +44,8 @@ pub fn square_here(
 const MOST_NODES: u32 = 1_024;
 
 /// Whether what is asked of every square, or of some, is answered node by node, and cheaply in this game. It is a guess, on which nothing
-/// rests. The nodes above a node are looked at where few squares are tried there.
-pub fn is_asked_here(every: bool, name: &[u8], asked: &Filter, game: &Game) -> bool {
+/// rests. The nodes above a node are looked at where few squares are looked at there.
+pub fn is_cheap_locally(every: bool, name: &[u8], asked: &Filter, game: &Game) -> bool {
     is_cheap(
         asked,
         game.len() <= MOST_NODES && is_moved(every, name, asked),

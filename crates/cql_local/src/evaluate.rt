@@ -7,27 +7,28 @@ ghost use Rattle.cq_position.specs.Games as games;
 ghost use Rattle.cq_position.specs.Games.{IsTree};
 ghost use Rattle.cq_position.specs.Search.{children_in};
 ghost use Rattle.cq_symmetry.specs.Images.{is_in};
-ghost use Rattle.cql_local.specs.Moves.{IsSought};
-ghost use Rattle.cql_local.specs.Places.{tree_of, value_at, values_at, holds_at, IsAt};
+ghost use Rattle.cql_local.specs.Internal.MovesSought.{HoldsAfterMoves};
+ghost use Rattle.cql_local.specs.NodeScopes.{tree_of, value_at, values_at, holds_at, IsAt};
 ghost use Rattle.cql_syntax.specs.Meaning as meaning;
 ghost use Rattle.cql_syntax.specs.TreeOf.{filter_tree, filters_tree, played_tree, written_tree};
 ghost use Rattle.cql_syntax.specs.Values as spec;
-ghost use Rattle.cql_values.specs.Asked.{settles};
+ghost use Rattle.cql_values.specs.FilterValues.{settles};
 ghost use Rattle.cql_values.specs.Bindings.{rebound};
-ghost use Rattle.cql_values.specs.Shown.{meant};
+ghost use Rattle.cql_values.specs.ValueModel.{as_value};
 
-use crate::ends::ends_of;
-use crate::halt::{Elsewhere, Halt};
-use crate::leaves::leaf_here;
-use crate::place::Place;
-use crate::sought::{Sought, may_hold, moves_sought};
-use crate::worth::tried;
+use crate::move_ends::ends_of;
+use crate::not_local::NotLocal;
+use cq_common::Refusal;
+use crate::leaves::local_leaf;
+use crate::node_scope::NodeScope;
+use crate::moves_sought::{MoveConstraint, may_hold, moves_sought};
+use crate::candidates::squares_to_try;
 use cq_geometry::Square;
 use cq_square_sets::lowest_square;
 use cql_played::Led;
 use cql_syntax::{Chain, Filter, Filters, Form, Kind, Played, Unary};
-use cql_values::combine::{if_of, pair_of, unary_here};
-use cql_values::led::led_to;
+use cql_values::combine::{if_of, pair_of, unary_of_value};
+use cql_values::move_filter::led_to;
 use cql_values::names::Names;
 use cql_values::sets::{has_square, reached};
 use cql_values::value::Value;
@@ -36,9 +37,9 @@ use cql_values::words::directions;
 
 /// What a filter gives at a node.
 #[cycle(evaluate)]
-pub(crate) fn evaluate(f: &Filter, place: &Place, names: &mut Names) -> Result<Value, Halt>
+pub(crate) fn evaluate(f: &Filter, place: &NodeScope, names: &mut Names) -> Result<Value, Refusal<NotLocal>>
     requires { IsAt place.now }
-    ensures value { IfOk result (λ v. meant v ≡ value_at place.now names.old (filter_tree f.now) place.now.node) }
+    ensures value { IfOk result (λ v. as_value v ≡ value_at place.now names.old (filter_tree f.now) place.now.node) }
     ensures names { names.new ≡ names.old }
 {
     match &f.form {
@@ -80,42 +81,42 @@ pub(crate) fn evaluate(f: &Filter, place: &Place, names: &mut Names) -> Result<V
             Ok(Value::Truth(value.number().is_some()))
         }
         Form::Any(kind, parts) => any_at(*kind, parts, place, names),
-        _ => leaf_here(f, place, &*names),
+        _ => local_leaf(f, place, &*names),
     }
 }
 
 // What a word or mark before a part gives.
 #[cycle(evaluate)]
-fn unary_at(word: Unary, part: &Filter, place: &Place, names: &mut Names) -> Result<Value, Halt>
+fn unary_at(word: Unary, part: &Filter, place: &NodeScope, names: &mut Names) -> Result<Value, Refusal<NotLocal>>
     requires { IsAt place.now }
-    ensures value { IfOk result (λ v. meant v ≡ meaning.unary_of (tree_of place.now) word
+    ensures value { IfOk result (λ v. as_value v ≡ meaning.unary_of (tree_of place.now) word
         (value_at place.now names.old (filter_tree part.now)) place.now.node) }
     ensures names { names.new ≡ names.old }
 {
     match word {
-        Unary::Find => Err(Halt::Fault(Elsewhere)),
+        Unary::Find => Err(Refusal::Fault(NotLocal)),
         Unary::Child => some_child(part, place, names),
         Unary::FindUp => some_above(part, place, names),
         Unary::Parent => at_parent(part, place, names),
         _ => {
             let value = evaluate(part, place, names)?;
-            Ok(unary_here(word, place.game.position(place.node), value))
+            Ok(unary_of_value(word, place.game.position(place.node), value))
         }
     }
 }
 
 // Whether a filter holds at the parent of a node, if it has one.
 #[cycle(evaluate)]
-fn at_parent(part: &Filter, place: &Place, names: &mut Names) -> Result<Value, Halt>
+fn at_parent(part: &Filter, place: &NodeScope, names: &mut Names) -> Result<Value, Refusal<NotLocal>>
     requires { IsAt place.now }
-    ensures value { IfOk result (λ v. meant v ≡ meaning.some_node (value_at place.now names.old (filter_tree part.now))
+    ensures value { IfOk result (λ v. as_value v ≡ meaning.some_node (value_at place.now names.old (filter_tree part.now))
         (option_to_list (games.node_at place.now.game.now.nodes place.now.node).parent)) }
     ensures names { names.new ≡ names.old }
 {
     let Some(parent) = place.game.parent(place.node) else {
         return Ok(Value::Truth(false));
     };
-    let above = Place {
+    let above = NodeScope {
         node: parent,
         ..*place
     };
@@ -125,15 +126,15 @@ fn at_parent(part: &Filter, place: &Place, names: &mut Names) -> Result<Value, H
 
 // Whether a filter holds at a child of a node, one of those that are searched.
 #[cycle(evaluate)]
-fn some_child(part: &Filter, place: &Place, names: &mut Names) -> Result<Value, Halt>
+fn some_child(part: &Filter, place: &NodeScope, names: &mut Names) -> Result<Value, Refusal<NotLocal>>
     requires { IsAt place.now }
-    ensures value { IfOk result (λ v. meant v ≡ meaning.some_node (value_at place.now names.old (filter_tree part.now))
+    ensures value { IfOk result (λ v. as_value v ≡ meaning.some_node (value_at place.now names.old (filter_tree part.now))
         (children_in (tree_of place.now) place.now.node)) }
     ensures names { names.new ≡ names.old }
 {
     let mut at = place.game.first_child(place.node);
     while let Some(child) = at {
-        let below = Place {
+        let below = NodeScope {
             node: child,
             ..*place
         };
@@ -148,7 +149,7 @@ fn some_child(part: &Filter, place: &Place, names: &mut Names) -> Result<Value, 
 
 // Whether a node is searched, and a filter holds there.
 #[cycle(evaluate)]
-fn holds_searched(part: &Filter, place: &Place, names: &mut Names) -> Result<bool, Halt>
+fn holds_searched(part: &Filter, place: &NodeScope, names: &mut Names) -> Result<bool, Refusal<NotLocal>>
     requires { IsAt place.now }
     ensures value { IfOk result (λ b. b ≡ (games.is_searched place.now.variations place.now.game.now.nodes place.now.node
         && spec.holds (value_at place.now names.old (filter_tree part.now) place.now.node))) }
@@ -163,16 +164,16 @@ fn holds_searched(part: &Filter, place: &Place, names: &mut Names) -> Result<boo
 
 // Whether a filter holds at a node or at one above it.
 #[cycle(evaluate)]
-fn some_above(part: &Filter, place: &Place, names: &mut Names) -> Result<Value, Halt>
+fn some_above(part: &Filter, place: &NodeScope, names: &mut Names) -> Result<Value, Refusal<NotLocal>>
     requires { IsAt place.now }
-    ensures value { IfOk result (λ v. meant v ≡ meaning.some_node (value_at place.now names.old (filter_tree part.now))
+    ensures value { IfOk result (λ v. as_value v ≡ meaning.some_node (value_at place.now names.old (filter_tree part.now))
         (games.way_up place.now.game.now.nodes place.now.node)) }
     ensures names { names.new ≡ names.old }
 {
     let moves = moves_sought(part, &*names);
     let mut at = Some(place.node);
     while let Some(node) = at {
-        let above = Place { node, ..*place };
+        let above = NodeScope { node, ..*place };
         let there = holds_after(&moves, part, &above, names)?;
         if there {
             return Ok(Value::Truth(true));
@@ -185,13 +186,13 @@ fn some_above(part: &Filter, place: &Place, names: &mut Names) -> Result<Value, 
 // Whether a filter holds at a node, which it does after some moves alone.
 #[cycle(evaluate)]
 fn holds_after(
-    moves: &Sought,
+    moves: &MoveConstraint,
     part: &Filter,
-    place: &Place,
+    place: &NodeScope,
     names: &mut Names,
-) -> Result<bool, Halt>
+) -> Result<bool, Refusal<NotLocal>>
     requires at { IsAt place.now }
-    requires sought { IsSought names.old (filter_tree part.now) moves.now }
+    requires sought { HoldsAfterMoves names.old (filter_tree part.now) moves.now }
     ensures value { IfOk result (λ b. b ≡ spec.holds (value_at place.now names.old (filter_tree part.now) place.now.node)) }
     ensures names { names.new ≡ names.old }
 {
@@ -204,9 +205,9 @@ fn holds_after(
 
 // What a chain gives.
 #[cycle(evaluate)]
-fn chain_at(chain: Chain, parts: &Filters, place: &Place, names: &mut Names) -> Result<Value, Halt>
+fn chain_at(chain: Chain, parts: &Filters, place: &NodeScope, names: &mut Names) -> Result<Value, Refusal<NotLocal>>
     requires { IsAt place.now }
-    ensures value { IfOk result (λ v. meant v
+    ensures value { IfOk result (λ v. as_value v
         ≡ spec.chain_of chain (values_at place.now names.old (filters_tree parts.now) place.now.node)) }
     ensures names { names.new ≡ names.old }
 {
@@ -215,29 +216,29 @@ fn chain_at(chain: Chain, parts: &Filters, place: &Place, names: &mut Names) -> 
         Chain::And | Chain::All => all_of(parts, place, names),
         Chain::Union => union_of(parts, place, names),
         Chain::Intersect => common_of(parts, place, names),
-        Chain::Product | Chain::Max | Chain::Min => Err(Halt::Fault(Elsewhere)),
+        Chain::Product | Chain::Max | Chain::Min => Err(Refusal::Fault(NotLocal)),
     }
 }
 
 // What one of some filters of a kind gives, or all of them together.
 #[cycle(evaluate)]
-fn any_at(kind: Kind, parts: &Filters, place: &Place, names: &mut Names) -> Result<Value, Halt>
+fn any_at(kind: Kind, parts: &Filters, place: &NodeScope, names: &mut Names) -> Result<Value, Refusal<NotLocal>>
     requires { IsAt place.now }
-    ensures value { IfOk result (λ v. meant v ≡ spec.any_of kind (values_at place.now names.old (filters_tree parts.now) place.now.node)) }
+    ensures value { IfOk result (λ v. as_value v ≡ spec.any_of kind (values_at place.now names.old (filters_tree parts.now) place.now.node)) }
     ensures names { names.new ≡ names.old }
 {
     match kind {
         Kind::Position => some_of(parts, place, names),
         Kind::Set => union_of(parts, place, names),
-        Kind::Number => Err(Halt::Fault(Elsewhere)),
+        Kind::Number => Err(Refusal::Fault(NotLocal)),
     }
 }
 
 // Whether all of some filters hold.
 #[cycle(evaluate)]
-fn all_of(parts: &Filters, place: &Place, names: &mut Names) -> Result<Value, Halt>
+fn all_of(parts: &Filters, place: &NodeScope, names: &mut Names) -> Result<Value, Refusal<NotLocal>>
     requires { IsAt place.now }
-    ensures value { IfOk result (λ v. meant v ≡ spec.all_hold (values_at place.now names.old (filters_tree parts.now) place.now.node)) }
+    ensures value { IfOk result (λ v. as_value v ≡ spec.all_hold (values_at place.now names.old (filters_tree parts.now) place.now.node)) }
     ensures names { names.new ≡ names.old }
 {
     for part in parts.as_slice() {
@@ -251,9 +252,9 @@ fn all_of(parts: &Filters, place: &Place, names: &mut Names) -> Result<Value, Ha
 
 // Whether one of some filters holds.
 #[cycle(evaluate)]
-fn some_of(parts: &Filters, place: &Place, names: &mut Names) -> Result<Value, Halt>
+fn some_of(parts: &Filters, place: &NodeScope, names: &mut Names) -> Result<Value, Refusal<NotLocal>>
     requires { IsAt place.now }
-    ensures value { IfOk result (λ v. meant v ≡ spec.some_holds (values_at place.now names.old (filters_tree parts.now) place.now.node)) }
+    ensures value { IfOk result (λ v. as_value v ≡ spec.some_holds (values_at place.now names.old (filters_tree parts.now) place.now.node)) }
     ensures names { names.new ≡ names.old }
 {
     for part in parts.as_slice() {
@@ -267,9 +268,9 @@ fn some_of(parts: &Filters, place: &Place, names: &mut Names) -> Result<Value, H
 
 // The squares that are in one of some sets.
 #[cycle(evaluate)]
-fn union_of(parts: &Filters, place: &Place, names: &mut Names) -> Result<Value, Halt>
+fn union_of(parts: &Filters, place: &NodeScope, names: &mut Names) -> Result<Value, Refusal<NotLocal>>
     requires { IsAt place.now }
-    ensures value { IfOk result (λ v. meant v ≡ spec.union_of (values_at place.now names.old (filters_tree parts.now) place.now.node)) }
+    ensures value { IfOk result (λ v. as_value v ≡ spec.union_of (values_at place.now names.old (filters_tree parts.now) place.now.node)) }
     ensures names { names.new ≡ names.old }
 {
     let mut mask = 0;
@@ -282,9 +283,9 @@ fn union_of(parts: &Filters, place: &Place, names: &mut Names) -> Result<Value, 
 
 // The squares that are in each of some sets.
 #[cycle(evaluate)]
-fn common_of(parts: &Filters, place: &Place, names: &mut Names) -> Result<Value, Halt>
+fn common_of(parts: &Filters, place: &NodeScope, names: &mut Names) -> Result<Value, Refusal<NotLocal>>
     requires { IsAt place.now }
-    ensures value { IfOk result (λ v. meant v
+    ensures value { IfOk result (λ v. as_value v
         ≡ spec.intersection_of (values_at place.now names.old (filters_tree parts.now) place.now.node)) }
     ensures names { names.new ≡ names.old }
 {
@@ -303,15 +304,15 @@ pub(crate) fn square_at(
     name: &[u8],
     set: u64,
     asked: &Filter,
-    place: &Place,
+    place: &NodeScope,
     names: &mut Names,
-) -> Result<bool, Halt>
+) -> Result<bool, Refusal<NotLocal>>
     requires { IsAt place.now }
     ensures value { IfOk result (λ b. spec.as_truth b ≡ spec.square_of every (spec.as_squares (is_in set))
         (holds_at place.now name.now names.old (filter_tree asked.now))) }
     ensures names { names.new ≡ names.old }
 {
-    let left = tried(every, &*name, set, asked, &*place, &*names);
+    let left = squares_to_try(every, &*name, set, asked, &*place, &*names);
     if left == 0 {
         return Ok(every);
     }
@@ -330,9 +331,9 @@ fn some_settles(
     every: bool,
     set: u64,
     asked: &Filter,
-    place: &Place,
+    place: &NodeScope,
     names: &mut Names,
-) -> Result<bool, Halt>
+) -> Result<bool, Refusal<NotLocal>>
     requires at { IsAt place.now }
     requires bound { 0 < length names.old }
     ensures value { IfOk result (λ b. b ≡ list_any (settles every (is_in set)
@@ -355,7 +356,7 @@ fn some_settles(
 // Whether the move that led to a node is as it is asked for: where it came from and what it took is asked at the node before, its goal and
 // what it became at the node itself.
 #[cycle(evaluate)]
-fn played_at(played: &Played, place: &Place, names: &mut Names) -> Result<bool, Halt>
+fn played_at(played: &Played, place: &NodeScope, names: &mut Names) -> Result<bool, Refusal<NotLocal>>
     requires { IsAt place.now }
     ensures value { IfOk result (λ b. b ≡ meaning.played_value (tree_of place.now) [] names.old (played_tree played.now) place.now.node) }
     ensures names { names.new ≡ names.old }
@@ -363,7 +364,7 @@ fn played_at(played: &Played, place: &Place, names: &mut Names) -> Result<bool, 
     let Some(ends) = ends_of(place.game, place.node) else {
         return Ok(false);
     };
-    let above = Place {
+    let above = NodeScope {
         node: ends.before,
         ..*place
     };
@@ -390,9 +391,9 @@ fn played_at(played: &Played, place: &Place, names: &mut Names) -> Result<bool, 
 fn is_met(
     part: &Option<Box<Filter>>,
     square: Option<Square>,
-    place: &Place,
+    place: &NodeScope,
     names: &mut Names,
-) -> Result<bool, Halt>
+) -> Result<bool, Refusal<NotLocal>>
     requires { IsAt place.now }
     ensures value { IfOk result (λ b. b ≡ meaning.meets
         (meaning.written_value (tree_of place.now) [] names.old (written_tree part.now) place.now.node) square) }

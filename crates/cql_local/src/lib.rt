@@ -5,14 +5,14 @@
 #![tactic(auto)]
 
 mod calls;
-mod cheap;
-mod ends;
+mod local_cost;
+mod move_ends;
 mod evaluate;
-mod halt;
+mod not_local;
 mod leaves;
-mod place;
-mod sought;
-mod worth;
+mod node_scope;
+mod moves_sought;
+mod candidates;
 
-pub use calls::{is_asked_here, square_here};
-pub use place::Place;
+pub use calls::{is_cheap_locally, local_square_truth};
+pub use node_scope::NodeScope;

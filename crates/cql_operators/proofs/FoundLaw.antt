@@ -9,30 +9,30 @@ use Rattle.cql_syntax.specs.Values.{Value, as_truth, holds}
 use Rattle.cql_syntax.specs.declared.leaves.Unary.{Unary}
 use Rattle.cql_syntax.specs.declared.leaves.Unary.TheVariants.{Not, Complement, Count, Power, Light, Dark, Find, FindUp, Child, Parent}
 use Rattle.cql_values.proofs.Ranges.{same_truth, both, in_range}
-use Rattle.cql_columns.specs.Columns.{is_live, AreAsked, AreTruths, IsColumn, IsNarrowed}
+use Rattle.cql_columns.specs.Columns.{is_live, IsNodeSet, AreTruths, IsColumn, IsNarrowed}
 use Rattle.cql_columns.specs.declared.filter_column.FilterColumn.{FilterColumn}
 use Rattle.cql_columns.proofs.Filling.{live_below}
 use Rattle.cql_columns.proofs.FindLaw.{any_below}
-use Rattle.cql_operators.specs.Elsewhere.{Asks, asks_elsewhere, AreFound, AreLookedAt}
-use Rattle.cql_operators.specs.Trees.{Searched, flag_of, AreRaised, AreLowered, HasParents}
-use Rattle.cql_operators.proofs.ElsewhereLaw.{holds_at}
+use Rattle.cql_operators.specs.OtherNodes.{ReadsFrom, is_from_other_nodes, FindSourceNodes, CoverSourceNodes}
+use Rattle.cql_operators.specs.Trees.{Searched, flag_of, AreWithAncestors, AreWithDescendants, HasParents}
+use Rattle.cql_operators.proofs.OtherNodesLaw.{holds_at}
 use Rattle.cql_operators.proofs.Parents.{none_there}
 use Rattle.cql_operators.proofs.Raising.{is_child}
 use Rattle.cql_operators.proofs.UnaryLaws.{any_at, any_child, start_wide, start_holds, starts}
 
 -- the nodes that each word finds
-pub raised_found : (nodes : List Node) (set found : List Bool) → AreRaised nodes set found → AreFound nodes Find set found
+pub raised_found : (nodes : List Node) (set found : List Bool) → AreWithAncestors nodes set found → FindSourceNodes nodes Find set found
 raised_found nodes set found is = record { each = λ n low. is.each n }
 
-pub lowered_found : (nodes : List Node) (set found : List Bool) → AreLowered nodes set found → AreFound nodes FindUp set found
+pub lowered_found : (nodes : List Node) (set found : List Bool) → AreWithDescendants nodes set found → FindSourceNodes nodes FindUp set found
 lowered_found nodes set found is = record { each = λ n low. is.each n low }
 
-pub parents_found : (nodes : List Node) (set start found : List Bool) (count : ℕ) → start ≡ replicate count false → HasParents nodes set start found → AreFound nodes Child set found
+pub parents_found : (nodes : List Node) (set start found : List Bool) (count : ℕ) → start ≡ replicate count false → HasParents nodes set start found → FindSourceNodes nodes Child set found
 parents_found nodes set start found count empty is = record {
   each = λ n low. (λ e. ⊎_elim (λ s. absurd (none_there start count n empty s)) (λ by. by) ((is.each n).0 e), λ by. (is.each n).1 (inr by));
 }
 
-pub flags_found : (nodes : List Node) (set found : List Bool) → ((n : ℕ) → n < length nodes → get_or found n false ≡ flag_of set (node_at nodes n).parent) → AreFound nodes Parent set found
+pub flags_found : (nodes : List Node) (set found : List Bool) → ((n : ℕ) → n < length nodes → get_or found n false ≡ flag_of set (node_at nodes n).parent) → FindSourceNodes nodes Parent set found
 flags_found nodes set found flags = record {
   each = λ n low. (λ e. by n (node_at nodes n).parent refl (sym (flags n low) ∙ e), λ x. flags n low ∙ ap (flag_of set) x.2 ∙ x.1);
 }
@@ -41,11 +41,11 @@ flags_found nodes set found flags = record {
     by n None is e = cc
     by n (Some p) is e = (p, e, is)
 
-pub never_found : (nodes : List Node) (word : Unary) (set found : List Bool) → asks_elsewhere word ≡ false → asks_elsewhere word ≡ true → AreFound nodes word set found
+pub never_found : (nodes : List Node) (word : Unary) (set found : List Bool) → is_from_other_nodes word ≡ false → is_from_other_nodes word ≡ true → FindSourceNodes nodes word set found
 never_found nodes word set found away sure = absurd (let no : false ≡ true = sym away ∙ sure in cc)
 
 -- it holds at a node at which a word asks it
-held_at : (tree : SearchedTree) (word : Unary) (v : ℕ → Value) (n m : ℕ) → asks_elsewhere word ≡ true → Asks tree.game.nodes word n m → m < length tree.game.nodes → Searched tree m
+held_at : (tree : SearchedTree) (word : Unary) (v : ℕ → Value) (n m : ℕ) → is_from_other_nodes word ≡ true → ReadsFrom tree.game.nodes word n m → m < length tree.game.nodes → Searched tree m
     → holds (v m) ≡ true → holds (unary_of tree word v n) ≡ true
 held_at tree Find v n m sure asks low seen h =
     any_below tree (λ k. holds (v k)) n
@@ -65,7 +65,7 @@ held_at tree Power v n m sure asks low seen h = cc
 held_at tree Light v n m sure asks low seen h = cc
 held_at tree Dark v n m sure asks low seen h = cc
 
-truth_of : (tree : SearchedTree) (word : Unary) (v : ℕ → Value) (n : ℕ) → asks_elsewhere word ≡ true → as_truth (holds (unary_of tree word v n)) ≡ unary_of tree word v n
+truth_of : (tree : SearchedTree) (word : Unary) (v : ℕ → Value) (n : ℕ) → is_from_other_nodes word ≡ true → as_truth (holds (unary_of tree word v n)) ≡ unary_of tree word v n
 truth_of tree Find v n sure = refl
 truth_of tree FindUp v n sure = refl
 truth_of tree Child v n sure = refl
@@ -81,12 +81,12 @@ truth_of tree Dark v n sure = cc
 pub record HeldElsewhere (tree : SearchedTree) (word : Unary) (live : List Bool) (v : ℕ → Value) (set : List Bool) : Type 0 where
   pub wide : List Bool
   pub column : FilterColumn
-  pub looked : AreLookedAt tree word live wide
+  pub looked : CoverSourceNodes tree word live wide
   pub is : IsColumn column wide v
   pub narrowed : IsNarrowed wide column true set
 
-pub elsewhere_is : (tree : SearchedTree) (word : Unary) (live set found : List Bool) (v : ℕ → Value) → asks_elsewhere word ≡ true → AreAsked tree live
-    → HeldElsewhere tree word live v set → AreFound tree.game.nodes word set found → AreTruths found live (unary_of tree word v)
+pub elsewhere_is : (tree : SearchedTree) (word : Unary) (live set found : List Bool) (v : ℕ → Value) → is_from_other_nodes word ≡ true → IsNodeSet tree live
+    → HeldElsewhere tree word live v set → FindSourceNodes tree.game.nodes word set found → AreTruths found live (unary_of tree word v)
 elsewhere_is tree word live set found v sure known held from = λ n l.
     let low : n < length tree.game.nodes = omega (arith, live_below live n l, known.count) in
     ap as_truth (same_truth (get_or found n false) (holds (unary_of tree word v n)) (to n low) (back n low l)) ∙ truth_of tree word v n sure

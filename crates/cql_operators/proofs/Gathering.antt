@@ -9,7 +9,7 @@ use Rattle.cql_syntax.specs.declared.tree.Filter.{Filter}
 use Rattle.cql_syntax.specs.declared.tree.Term.{Term}
 use Rattle.cql_syntax.proofs.Lists.{term_trees_more}
 use Rattle.cql_values.proofs.Evaluated.{map_snoc, terms_snoc}
-use Rattle.cql_values.specs.Shown.{meant, terms_meant}
+use Rattle.cql_values.specs.ValueModel.{as_value, terms_as_values}
 use Rattle.cql_values.specs.declared.value.Value.{Value as Kept}
 use Rattle.cql_columns.specs.Columns.{Where, IsColumn, shown, all_shown, terms_shown, kept_at}
 use Rattle.cql_columns.specs.declared.filter_column.FilterColumn.{FilterColumn}
@@ -56,13 +56,13 @@ take_next xs i x h is = take_more xs i x h ∙ ap (λ y. take i xs ++ y ∷ []) 
 
 -- the kept values of columns at a node
 pub kept_more : (columns : List FilterColumn) (n i : ℕ) (c : FilterColumn) (before later : List Kept) → i < length columns → c ≡ get_or columns i c
-    → map meant before ≡ all_shown (take i columns) n → later ≡ before ++ kept_at c n ∷ [] → map meant later ≡ all_shown (take (i + 1) columns) n
+    → map as_value before ≡ all_shown (take i columns) n → later ≡ before ++ kept_at c n ∷ [] → map as_value later ≡ all_shown (take (i + 1) columns) n
 kept_more columns n i c before later below is had more =
-    ap (map meant) more ∙ map_snoc meant before (kept_at c n) ∙ ap (λ vs. vs ++ shown c n ∷ []) had
+    ap (map as_value) more ∙ map_snoc as_value before (kept_at c n) ∙ ap (λ vs. vs ++ shown c n ∷ []) had
     ∙ sym (ap (λ cs. all_shown cs n) (take_next columns i c below is) ∙ map_snoc (λ x. shown x n) (take i columns) c)
 
 pub terms_kept_more : (columns : List (Bool × FilterColumn)) (n i : ℕ) (t : Bool × FilterColumn) (before later : List (Bool × Kept)) → i < length columns → t ≡ get_or columns i t
-    → terms_meant before ≡ terms_shown (take i columns) n → later ≡ before ++ (t.0, kept_at t.1 n) ∷ [] → terms_meant later ≡ terms_shown (take (i + 1) columns) n
+    → terms_as_values before ≡ terms_shown (take i columns) n → later ≡ before ++ (t.0, kept_at t.1 n) ∷ [] → terms_as_values later ≡ terms_shown (take (i + 1) columns) n
 terms_kept_more columns n i t before later below is had more =
-    ap terms_meant more ∙ map_snoc (λ (x : Bool × Kept). (x.0, meant x.1)) before (t.0, kept_at t.1 n) ∙ ap (λ vs. vs ++ (t.0, shown t.1 n) ∷ []) had
+    ap terms_as_values more ∙ map_snoc (λ (x : Bool × Kept). (x.0, as_value x.1)) before (t.0, kept_at t.1 n) ∙ ap (λ vs. vs ++ (t.0, shown t.1 n) ∷ []) had
     ∙ sym (ap (λ cs. terms_shown cs n) (take_next columns i t below is) ∙ map_snoc (λ (x : Bool × FilterColumn). (x.0, shown x.1 n)) (take i columns) t)

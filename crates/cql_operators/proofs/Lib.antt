@@ -1,4 +1,4 @@
-pub mod ElsewhereLaw
+pub mod OtherNodesLaw
 pub mod FoundLaw
 pub mod Gathering
 pub mod LineAtoms

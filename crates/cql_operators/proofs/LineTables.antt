@@ -10,7 +10,7 @@ use Rattle.cql_syntax.specs.TreeOf.{body_tree, part_trees}
 use Rattle.cql_syntax.specs.Trees.{FilterTree, PartTrees, no_parts, BodyTree, atom, group}
 use Rattle.cql_syntax.specs.Values.{Value, holds as value_holds}
 use Rattle.cql_syntax.specs.declared.tree.Constituent.{Constituent}
-use Rattle.cql_columns.specs.Columns.{is_live, shown, IsColumn, AreAsked, IsPart}
+use Rattle.cql_columns.specs.Columns.{is_live, shown, IsColumn, IsNodeSet, IsPart}
 use Rattle.cql_columns.specs.Costs.{parts_atoms, body_atoms}
 use Rattle.cql_columns.specs.Scopes.{tree_in}
 use Rattle.cql_columns.specs.declared.scope.Scope.{Scope}
@@ -18,7 +18,7 @@ use Rattle.cql_columns.proofs.Costing.{ItemOf}
 use Rattle.cql_columns.specs.declared.filter_column.FilterColumn.{FilterColumn}
 use Rattle.cql_columns.proofs.Filling.{split_last, live_below}
 use Rattle.cql_operators.specs.LineAtoms.{parts_numbered, body_numbered, AreClearFrom, HasRoom, IsPut, IsFilledIn}
-use Rattle.cql_operators.specs.SpelledParts.{IsLive, AreAlike, IsNever, Agrees, AreTabled, AreOnward, LeadsOn, EndsHere}
+use Rattle.cql_operators.specs.SpelledParts.{IsLive, AreAlike, IsNever, Agrees, AreTabled, AreOnward, LeadsOn, SpellsNothing}
 use Rattle.cql_operators.proofs.Lives.{none_live}
 use Rattle.cql_operators.proofs.SpelledAlike.{InTable, atom_alike, after_atom, never_atom, never_there, never_one}
 use Rattle.cql_operators.proofs.LineAtoms.{atoms_end, atoms_left, drop_all, drop_parts}
@@ -98,7 +98,7 @@ never_next row part now next leads had last =
     (leads.never (pattern row.walk.tree [] row.walk.names (part_trees (drop (part.index + 1) row.parts))) last)
 
 ends_next : {L : Type 0} {own : _} (row : Row (AtomTable L own)) (part : ItemOf row.parts) (starts : List Bool)
-    → EndsHere row.walk.tree row.walk.back starts (marked part.item.mark (body_pattern row.walk.tree [] row.walk.names (body_tree part.item.body)))
+    → SpellsNothing row.walk.tree row.walk.back starts (marked part.item.mark (body_pattern row.walk.tree [] row.walk.names (body_tree part.item.body)))
     → NeverAll row (part_trees (drop part.index row.parts)) starts → NeverSpelled row.walk row.begun.starts (part_trees row.parts)
 unfolding pattern
 ends_next row part starts ends had =
@@ -112,7 +112,7 @@ unfolding pattern
 tells_end row now had test same = had test same (λ w way. (λ x. x, λ x. x))
 
 pub record TableSoFar {L : Type 0} {own : _} (row : Row (AtomTable L own)) (i : ℕ) (now : Stage (AtomTable L own)) : Type 0 where
-  pub asked : AreAsked row.walk.tree now.starts
+  pub asked : IsNodeSet row.walk.tree now.starts
   pub tells : TellsAll row (part_trees (drop i row.parts)) now
   pub never : NeverAll row (part_trees (drop i row.parts)) now.starts
   pub ends : row.begun.met ≡ true → now.met ≡ false → NeverSpelled row.walk row.begun.starts (part_trees row.parts)
@@ -132,10 +132,10 @@ none_dropped (x ∷ xs) = refl
 abbrev pub started : {L : Type 0} {own : _} → Stage (AtomTable L own) → List Bool → Stage (AtomTable L own)
 started begun starts = stage begun.at starts begun.met begun.table
 
-pub table_begun : {L : Type 0} {own : _} (row : Row (AtomTable L own)) (starts : List Bool) → AreAsked row.walk.tree row.begun.starts → starts ≡ row.begun.starts
+pub table_begun : {L : Type 0} {own : _} (row : Row (AtomTable L own)) (starts : List Bool) → IsNodeSet row.walk.tree row.begun.starts → starts ≡ row.begun.starts
     → TableSoFar row 0 (started row.begun starts)
 table_begun row starts asked is = record {
-  asked = subst (AreAsked row.walk.tree) (sym is) asked;
+  asked = subst (IsNodeSet row.walk.tree) (sym is) asked;
   tells = λ test same last.
       subst (λ ys. SpelledFrom row.walk test row.begun.at row.begun.starts (part_trees ys)) (none_dropped row.parts)
       (subst (λ l. SpelledFrom row.walk test row.begun.at l (part_trees (drop 0 row.parts))) is last);
@@ -154,7 +154,7 @@ truth_or P false f g = g refl
 pub table_more : {L : Type 0} {own : _} (row : Row (AtomTable L own)) (part : ItemOf row.parts) (now next : Stage (AtomTable L own)) → next.at ≡ now.at + body_atoms (body_tree part.item.body)
     → PartLeads row.walk part.item now next
     → (now.met ≡ true → next.met ≡ false
-    → EndsHere row.walk.tree row.walk.back now.starts (marked part.item.mark (body_pattern row.walk.tree [] row.walk.names (body_tree part.item.body))))
+    → SpellsNothing row.walk.tree row.walk.back now.starts (marked part.item.mark (body_pattern row.walk.tree [] row.walk.names (body_tree part.item.body))))
     → IsFilledIn now.table next.table now.at (now.at + body_atoms (body_tree part.item.body)) → TableSoFar row part.index now → TableSoFar row (part.index + 1) next
 table_more row part now next on leads ends filled had = record {
   asked = leads.asked;
@@ -245,7 +245,7 @@ put_more test which k there old table new is step had = record {
 }
 
 -- an atom's column stands in the table, at the nodes for which it is asked
-module _ {L : Type 0} {own : _} (tree : SearchedTree) (back : Bool) (table : AtomTable L own) (which : ℕ) (c : FilterColumn) (v : ℕ → Value) (live : List Bool) (asked : AreAsked tree live)
+module _ {L : Type 0} {own : _} (tree : SearchedTree) (back : Bool) (table : AtomTable L own) (which : ℕ) (c : FilterColumn) (v : ℕ → Value) (live : List Bool) (asked : IsNodeSet tree live)
     (column : IsColumn c live v)
     (put : (n : ℕ) → n < length tree.game.nodes → holds_in table which n ≡ (is_live live n && value_holds (shown c n))) where
   atom_there : (test : ℕ → ℕ → Bool) → Agrees test table (which + 1) → (n : ℕ) → IsLive live n → test which n ≡ value_holds (v n)
@@ -271,12 +271,12 @@ module _ {L : Type 0} {own : _} (tree : SearchedTree) (back : Bool) (table : Ato
     pub atom_never : list_any (λ b. b) held ≡ false → IsNever (IsStep tree back false) (IsLive live) (one v)
     atom_never none = never_one (IsStep tree back false) (IsLive live) v (λ n l h. none_live held none n (is_held n l h))
 
-    pub atom_ends : list_any (λ b. b) held ≡ false → EndsHere tree back live (one v)
+    pub atom_ends : list_any (λ b. b) held ≡ false → SpellsNothing tree back live (one v)
     atom_ends none s = never_there (IsStep tree back false) (IsLive live) v (λ n l h. none_live held none n (is_held n l h)) s
 
 -- an atom that is asked for nowhere holds nowhere
 module _ (tree : SearchedTree) (back : Bool) (v : ℕ → Value) (live : List Bool) (none : list_any (λ b. b) live ≡ false) where
-  pub none_ends : EndsHere tree back live (one v)
+  pub none_ends : SpellsNothing tree back live (one v)
   none_ends s = never_there (IsStep tree back false) (IsLive live) v (λ n l h. none_live live none n l) s
 
 -- an atom or a group as the body of a part
@@ -304,9 +304,9 @@ leads_form walk old new table first b f is h =
     subst (λ x. LeadsOn walk.tree walk.back old new table (first + body_atoms x) (body_numbered first x) (body_pattern walk.tree [] walk.names x)) (sym is) h
 
 pub ends_form : (tree : SearchedTree) (back : Bool) (e : Names) (live : List Bool) (b : BodyTree) (f : FilterTree) → b ≡ atom f
-    → EndsHere tree back live (one (value tree [] e f)) → EndsHere tree back live (body_pattern tree [] e b)
+    → SpellsNothing tree back live (one (value tree [] e f)) → SpellsNothing tree back live (body_pattern tree [] e b)
 unfolding value
-ends_form tree back e live b f is h = subst (λ x. EndsHere tree back live (body_pattern tree [] e x)) (sym is) h
+ends_form tree back e live b f is h = subst (λ x. SpellsNothing tree back live (body_pattern tree [] e x)) (sym is) h
 
 pub group_tabled : {L : Type 0} {own : _} (tree : SearchedTree) (back : Bool) (e : Names) (In : ℕ → Type 0) (table : AtomTable L own) (first : ℕ) (b : BodyTree) (cs : PartTrees) → b ≡ group cs
     → AreTabled tree back In table (first + parts_atoms cs) (parts_numbered first cs) (pattern tree [] e cs)

@@ -14,7 +14,7 @@ use Rattle.std.proofs.lemmas.List.FromFn.{get_or-map-range_with_len, length-map-
 use Rattle.std.proofs.lemmas.List.Sums.{sum_by-cons, length-filter}
 use Rattle.cq_common.specs.Greatest.{IsGreatest}
 use Rattle.cq_common.specs.Spelling.{Pattern, nothing}
-use Rattle.cq_common.specs.Ways.{Line}
+use Rattle.cq_common.specs.Walks.{Line}
 use Rattle.cq_position.specs.Games.{IsTree, node_at, is_first_child, is_searched, searched, numbers}
 use Rattle.cq_position.specs.Search.{SearchedTree, IsStep}
 use Rattle.cq_position.proofs.WaysUp.{searched_up, parent_before}
@@ -22,13 +22,13 @@ use Rattle.cql_lines.specs.Shapes as shapes
 use Rattle.cql_lines.specs.Shapes.{joined_by, Edge, searched_count}
 use Rattle.cql_lines.specs.Tables.{nodes_of, words_of, holds, holds_in}
 use Rattle.cql_lines.specs.Values as values
-use Rattle.cql_lines.specs.Values.{AnswerAt}
+use Rattle.cql_lines.specs.Values.{GreatestWhere}
 use Rattle.cql_lines.specs.declared.shape.Limits.{Limits}
-use Rattle.cql_lines.specs.declared.shape.Spot.{Spot}
+use Rattle.cql_lines.specs.declared.shape.TreeNode.{TreeNode}
 use Rattle.cql_lines.specs.declared.table.AtomTable.{AtomTable}
 use Rattle.cql_syntax.specs.Meaning.{Names, value, pattern, line_value}
 use Rattle.cql_syntax.specs.Places.{parts_places}
-use Rattle.cql_syntax.specs.TabledLines.{Searched, IsAsked, AreSpelledAlike, AreParents}
+use Rattle.cql_syntax.specs.LineTables.{IsSearched, IsSearchedNode, SpellTheSame, AreParents}
 use Rattle.cql_syntax.specs.TreeOf.{body_tree, part_trees, parts_tree, line_tree}
 use Rattle.cql_syntax.specs.Trees.{PartTrees}
 use Rattle.cql_syntax.specs.Values.{as_number, holds as value_holds}
@@ -53,7 +53,7 @@ spot_there tree count p h =
     slice_get-get_or (map (spot_at tree) (range_with_len 0 count)) p (spot_at tree p) (let e = length-map-range_with_len (spot_at tree) 0 count in omega (arith, h, e))
     ∙ ap Some (get_or-map-range_with_len (spot_at tree) 0 count p p (spot_at tree p) h (omega arith))
 
-pub parent_in : (tree : SearchedTree) (k : ℕ) (spots : List Spot) (o : Option ℕ) → IsTree tree.game.nodes → spots ≡ map (spot_at tree) (range_with_len 0 k) → o ≡ (node_at tree.game.nodes k).parent
+pub parent_in : (tree : SearchedTree) (k : ℕ) (spots : List TreeNode) (o : Option ℕ) → IsTree tree.game.nodes → spots ≡ map (spot_at tree) (range_with_len 0 k) → o ≡ (node_at tree.game.nodes k).parent
     → IfSome o (λ p. p < length spots)
 parent_in tree k spots None is_tree is here = tt
 parent_in tree k spots (Some p) is_tree is here =
@@ -61,7 +61,7 @@ parent_in tree k spots (Some p) is_tree is here =
     let e = ap length is ∙ length-map-range_with_len (spot_at tree) 0 k in
     omega (arith, b.0, e)
 
-pub searched_in : (tree : SearchedTree) (k : ℕ) (spots : List Spot) (o : Option ℕ) (there : Bool) → IsTree tree.game.nodes
+pub searched_in : (tree : SearchedTree) (k : ℕ) (spots : List TreeNode) (o : Option ℕ) (there : Bool) → IsTree tree.game.nodes
     → spots ≡ map (spot_at tree) (range_with_len 0 k) → o ≡ (node_at tree.game.nodes k).parent
     → there ≡ is_searched tree.variations tree.game.nodes k → IfSome o (λ p. there ≡ true → shapes.is_searched spots p ≡ true)
 searched_in tree k spots None there is_tree is here s = tt
@@ -69,10 +69,10 @@ searched_in tree k spots (Some p) there is_tree is here s = λ e.
     let b = parent_before tree.game.nodes k p is_tree (sym here) in
     ap (λ xs. shapes.is_searched xs p) is ∙ ap shapes.searched_by (spot_there tree k p b.0) ∙ searched_up tree.variations tree.game.nodes k p is_tree (sym here) (sym s ∙ e)
 
-abbrev spot_of : Option ℕ → Bool → Bool → Spot
+abbrev spot_of : Option ℕ → Bool → Bool → TreeNode
 spot_of parent searched first = record { parent = parent; searched = searched; first = first }
 
-pub spots_more : (tree : SearchedTree) (k : ℕ) (spots : List Spot) (o : Option ℕ) (there first : Bool) → spots ≡ map (spot_at tree) (range_with_len 0 k) → o ≡ (node_at tree.game.nodes k).parent
+pub spots_more : (tree : SearchedTree) (k : ℕ) (spots : List TreeNode) (o : Option ℕ) (there first : Bool) → spots ≡ map (spot_at tree) (range_with_len 0 k) → o ≡ (node_at tree.game.nodes k).parent
     → there ≡ is_searched tree.variations tree.game.nodes k → first ≡ is_first_child tree.game.nodes k
     → spots ++ record { parent = o; searched = there; first = first } ∷ [] ≡ map (spot_at tree) (range_with_len 0 (k + 1))
 spots_more tree k spots o there first before parent searched is_first =
@@ -96,36 +96,36 @@ to_join true false true o p s e f = absurd (let x : false ≡ true = f refl in c
 to_join true false false o p s e f = e
 
 -- the nodes of a game as a line's tree has them
-abbrev spots_in : SearchedTree → List Spot
+abbrev spots_in : SearchedTree → List TreeNode
 spots_in tree = map (spot_at tree) (numbers tree.game.nodes)
 
 spots_join : (tree : SearchedTree) (primary : Bool) → IsTree tree.game.nodes → AreParents tree primary (shapes.joined primary (spots_in tree))
 spots_join tree primary is_tree = record { are_parents = are; all_parents = all }
   where
-    are : (n p : ℕ) → shapes.joined primary (spots_in tree) n ≡ Some p → Searched tree n × ((node_at tree.game.nodes n).parent ≡ Some p) × (primary ≡ true → is_first_child tree.game.nodes n ≡ true)
+    are : (n p : ℕ) → shapes.joined primary (spots_in tree) n ≡ Some p → IsSearched tree n × ((node_at tree.game.nodes n).parent ≡ Some p) × (primary ≡ true → is_first_child tree.game.nodes n ≡ true)
     are n p e = ⊎_elim
         (λ there. joined_to (is_searched tree.variations tree.game.nodes n) (is_first_child tree.game.nodes n) primary (node_at tree.game.nodes n).parent p
         (sym (ap (joined_by primary) (spot_there tree (length tree.game.nodes) n (let l = length-map-range_with_len (spot_at tree) 0 (length tree.game.nodes) in omega (arith, there.1, l)))) ∙ e))
         (λ past. absurd (let x : None ≡ Some p = sym (ap (joined_by primary) past.1) ∙ e in cc))
         (slice_get_cases (spots_in tree) n).1
 
-    all : (n p : ℕ) → Searched tree n → (node_at tree.game.nodes n).parent ≡ Some p → (primary ≡ true → is_first_child tree.game.nodes n ≡ true) → shapes.joined primary (spots_in tree) n ≡ Some p
+    all : (n p : ℕ) → IsSearched tree n → (node_at tree.game.nodes n).parent ≡ Some p → (primary ≡ true → is_first_child tree.game.nodes n ≡ true) → shapes.joined primary (spots_in tree) n ≡ Some p
     all n p s e f =
         ap (joined_by primary) (spot_there tree (length tree.game.nodes) n (parent_before tree.game.nodes n p is_tree e).1)
         ∙ to_join (is_searched tree.variations tree.game.nodes n) (is_first_child tree.game.nodes n) primary (node_at tree.game.nodes n).parent p s e f
 
-answer_there : (b : Bool) (P : ℕ → Type 0) (o : Option ℕ) → b ≡ true → AnswerAt b P o → IsGreatest P o
+answer_there : (b : Bool) (P : ℕ → Type 0) (o : Option ℕ) → b ≡ true → GreatestWhere b P o → IsGreatest P o
 answer_there true P o e h = h
 answer_there false P o e h = cc
 
-abbrev Wanted : (ℕ → ℕ → Bool) → Pattern ℕ → ℕ → Option ℕ → List Spot → Bool → Bool → Option Limits → Type 0
+abbrev Wanted : (ℕ → ℕ → Bool) → Pattern ℕ → ℕ → Option ℕ → List TreeNode → Bool → Bool → Option Limits → Type 0
 Wanted test p n o xs x y z = IsGreatest (λ len. Line test (Edge x y xs) p n len × (values.allows z len ≡ true)) o
 
 -- a pattern's numbers spell at a node what the parts of a line spell there
 abbrev pub SpellsLine : SearchedTree → Names → OneLine → (ℕ → ℕ → Bool) → Pattern ℕ → ℕ → Type 0
-SpellsLine tree e l test p n = AreSpelledAlike tree (out-Line l).back (out-Line l).primary test p (pattern tree [] e (parts_tree (out-Line l).parts)) n
+SpellsLine tree e l test p n = SpellTheSame tree (out-Line l).back (out-Line l).primary test p (pattern tree [] e (parts_tree (out-Line l).parts)) n
 
-greatest_is : (tree : SearchedTree) → IsTree tree.game.nodes → (e : Names) (l : OneLine) (test : ℕ → ℕ → Bool) (p : Pattern ℕ) (n : ℕ) → IsAsked tree n → SpellsLine tree e l test p n
+greatest_is : (tree : SearchedTree) → IsTree tree.game.nodes → (e : Names) (l : OneLine) (test : ℕ → ℕ → Bool) (p : Pattern ℕ) (n : ℕ) → IsSearchedNode tree n → SpellsLine tree e l test p n
     → (o : Option ℕ) → Wanted test p n o (spots_in tree) (out-Line l).back (out-Line l).primary (limits_in (out-Line l).extent) → as_number (option_map pos o) ≡ line_value tree [] e (line_tree l) n
 unfolding value out-Line Carrier.out
 greatest_is tree is_tree e (Line' true primary Any cs) test p n asked alike o g = spelled_lines_are_theirs tree is_tree true primary
@@ -139,14 +139,14 @@ greatest_is tree is_tree e (Line' false primary (Within least most) cs) test p n
 
 -- the steps of a line
 
-count_map : (test : Spot → Bool) (spot : ℕ → Spot) (ns : List ℕ) → count_by test (map spot ns) ≡ count_by (λ n. test (spot n)) ns
+count_map : (test : TreeNode → Bool) (spot : ℕ → TreeNode) (ns : List ℕ) → count_by test (map spot ns) ≡ count_by (λ n. test (spot n)) ns
 count_map test spot [] = refl
 count_map test spot (n ∷ ns) =
     sum_by-cons (λ s. if test s then 1 else 0) (spot n) (map spot ns) ∙ ap (λ k. (if test (spot n) then 1 else 0) + k) (count_map test spot ns)
     ∙ sym (sum_by-cons (λ m. if test (spot m) then 1 else 0) n ns)
 
 -- a line's tree has as many searched nodes as the tree of the game
-spots_searched : (tree : SearchedTree) (spots : List Spot) → spots ≡ map (spot_at tree) (numbers tree.game.nodes) → searched_count spots ≡ searched_len tree
+spots_searched : (tree : SearchedTree) (spots : List TreeNode) → spots ≡ map (spot_at tree) (numbers tree.game.nodes) → searched_count spots ≡ searched_len tree
 unfolding searched
 spots_searched tree spots is =
     ap searched_count is ∙ count_map (λ s. s.searched) (spot_at tree) (numbers tree.game.nodes)
@@ -187,7 +187,7 @@ line_costs nodes (Line' back primary extent cs) = refl
 pub atoms_within : (nodes : ℕ) (l : OneLine) (before now : ℕ) → now ≤ before + parts_cost nodes (parts_tree (out-Line l).parts) → now ≤ before + line_cost nodes (line_tree l)
 atoms_within nodes l before now h = omega (arith, line_costs nodes l, h)
 
-pub looks_within : (tree : SearchedTree) (l : OneLine) (before now later atoms : ℕ) (spots : List Spot)
+pub looks_within : (tree : SearchedTree) (l : OneLine) (before now later atoms : ℕ) (spots : List TreeNode)
     → spots ≡ map (spot_at tree) (numbers tree.game.nodes) → atoms ≡ parts_atoms (parts_tree (out-Line l).parts)
     → now ≤ before + parts_cost (searched_len tree) (parts_tree (out-Line l).parts) → later ≤ now + atoms * searched_count spots
     → later ≤ before + line_cost (searched_len tree) (line_tree l)
@@ -202,7 +202,7 @@ same_words d (suc j) (suc m) = same_words d j m
 
 -- the parts of the shape that was made of a game for a line
 pub record ShapeOf (tree : SearchedTree) (l : OneLine) : Type 0 where
-  pub spots : List Spot
+  pub spots : List TreeNode
   pub back : Bool
   pub primary : Bool
   pub limits : Option Limits
@@ -213,12 +213,12 @@ pub record ShapeOf (tree : SearchedTree) (l : OneLine) : Type 0 where
 
 -- the parts of a line stand in a table, and a pattern has their numbers
 pub line_spelled : {L : Type 0} {own : _} (tree : SearchedTree) (e : Names) (l : OneLine) (table : AtomTable L own) (p : Pattern ℕ) → p ≡ parts_numbered 0 (parts_tree (out-Line l).parts)
-    → AreTabled tree (out-Line l).back (IsAsked tree) table (0 + parts_atoms (parts_tree (out-Line l).parts))
+    → AreTabled tree (out-Line l).back (IsSearchedNode tree) table (0 + parts_atoms (parts_tree (out-Line l).parts))
     (parts_numbered 0 (parts_tree (out-Line l).parts)) (pattern tree [] e (parts_tree (out-Line l).parts))
-    → (n : ℕ) → IsAsked tree n → SpellsLine tree e l (holds_in table) p n
+    → (n : ℕ) → IsSearchedNode tree n → SpellsLine tree e l (holds_in table) p n
 line_spelled tree e l table p is tabled n asked =
     alike_on tree (out-Line l).back (out-Line l).primary (holds_in table) p (pattern tree [] e (parts_tree (out-Line l).parts))
-    (subst (λ x. AreAlike (IsStep tree (out-Line l).back false) (IsAsked tree) (holds_in table) x (pattern tree [] e (parts_tree (out-Line l).parts))) (sym is)
+    (subst (λ x. AreAlike (IsStep tree (out-Line l).back false) (IsSearchedNode tree) (holds_in table) x (pattern tree [] e (parts_tree (out-Line l).parts))) (sym is)
     (tabled (holds_in table) (λ a m h. refl))) n asked
 
 -- a number of another type at a node
@@ -227,8 +227,8 @@ wide_at wide found is n = ap as_number (ap (λ xs. get_or xs n None) is ∙ get_
 
 -- the value at a searched node, by the shape that was made of the game
 pub numbers_are : (tree : SearchedTree) → IsTree tree.game.nodes → (e : Names) (l : OneLine) (shape : ShapeOf tree l) (test : ℕ → ℕ → Bool) (p : Pattern ℕ) (n : ℕ)
-    → IsAsked tree n → SpellsLine tree e l test p n → (o : Option ℕ)
-    → AnswerAt (shapes.is_searched shape.spots n) (λ len. Line test (Edge shape.back shape.primary shape.spots) p n len × (values.allows shape.limits len ≡ true)) o
+    → IsSearchedNode tree n → SpellsLine tree e l test p n → (o : Option ℕ)
+    → GreatestWhere (shapes.is_searched shape.spots n) (λ len. Line test (Edge shape.back shape.primary shape.spots) p n len × (values.allows shape.limits len ≡ true)) o
     → as_number (option_map pos o) ≡ line_value tree [] e (line_tree l) n
 numbers_are tree is_tree e l shape test p n asked alike o answer =
     greatest_is tree is_tree e l test p n asked alike o
@@ -252,7 +252,7 @@ held_put tree live c held shown_held test count part same put n h = put n h ∙ 
 
 -- where a line's pattern is never spelled it has no number
 pub no_line : (tree : SearchedTree) → IsTree tree.game.nodes → (e : Names) (l : OneLine) (wide : List (Option ℤ)) → wide ≡ []
-    → IsNever (IsStep tree (out-Line l).back false) (IsAsked tree) (pattern tree [] e (parts_tree (out-Line l).parts)) → (n : ℕ) → IsAsked tree n
+    → IsNever (IsStep tree (out-Line l).back false) (IsSearchedNode tree) (pattern tree [] e (parts_tree (out-Line l).parts)) → (n : ℕ) → IsSearchedNode tree n
     → as_number (get_or wide n None) ≡ line_value tree [] e (line_tree l) n
 unfolding value out-Line Carrier.out
 no_line tree is_tree e (Line' back primary extent cs) wide is never n asked =

@@ -5,7 +5,7 @@ use Rattle.std.proofs.lemmas.List.{get_or-set_same, get_or-set_other, length-set
 use Rattle.cq_position.specs.Games.{Node, node_at, IsTree, is_below}
 use Rattle.cq_position.proofs.WaysUp.{is_below_self, below_parent, root_below, parent_before}
 use Rattle.cql_columns.proofs.Filling.{split_last, equal_or, or_left, or_right}
-use Rattle.cql_operators.specs.Trees.{flag_of, AreLowered}
+use Rattle.cql_operators.specs.Trees.{flag_of, AreWithDescendants}
 use Rattle.cql_operators.proofs.Raising.{either}
 
 -- a node of the set is n or above it
@@ -67,7 +67,7 @@ pub lowered_more : (nodes : List Node) (tree : IsTree nodes) (set : List Bool) (
 lowered_more nodes tree set end k found given x same low new had =
     lowered_next nodes tree set end k found had x low (new ∙ ap (λ f. get_or set k false || flag_of f (node_at nodes k).parent) same)
 
-pub lowered_all : (nodes : List Node) (set found : List Bool) (k : ℕ) → k ≡ length nodes → LoweredTo nodes set (length nodes) k found → AreLowered nodes set found
+pub lowered_all : (nodes : List Node) (set found : List Bool) (k : ℕ) → k ≡ length nodes → LoweredTo nodes set (length nodes) k found → AreWithDescendants nodes set found
 lowered_all nodes set found k end had = record {
   count = had.count;
   each = λ n h. (λ e. had.to n (omega (arith, h, end)) e, λ u. had.from n (omega (arith, h, end)) u);

@@ -5,9 +5,9 @@ use Rattle.cq_position.specs.Games.{Node, node_at, IsTree, is_below, is_child_of
 use Rattle.cq_position.specs.Search.{SearchedTree}
 use Rattle.cq_position.proofs.WaysUp.{below_parent, root_below, parent_before, searched_up}
 use Rattle.cql_values.proofs.Ranges.{left, right, both}
-use Rattle.cql_columns.specs.Columns.{AreAsked}
+use Rattle.cql_columns.specs.Columns.{IsNodeSet}
 use Rattle.cql_columns.proofs.Filling.{equal_or, split_last, live_below, or_left, or_right}
-use Rattle.cql_operators.specs.Trees.{IsRaised, AreRaised, HasParents, IsAboveLive, AreParentsOfLive, AreBeforeLive}
+use Rattle.cql_operators.specs.Trees.{AddsParent, AreWithAncestors, HasParents, IsAboveLive, AreParentsOfLive, AreBeforeLive}
 use Rattle.cql_operators.proofs.Raising.{either, child_is, is_child}
 
 -- a node was there, or is the parent of one of the first t that are in the set
@@ -26,7 +26,7 @@ parents_begun nodes set start = record {
   from = λ n h. ⊎_elim (λ e. e) (λ by. absurd (omega (arith, by.1))) h;
 }
 
-pub parents_more : (nodes : List Node) (set start old new : List Bool) (k : ℕ) (there : Bool) → there ≡ get_or set k false → IsRaised nodes k there old new
+pub parents_more : (nodes : List Node) (set start old new : List Bool) (k : ℕ) (there : Bool) → there ≡ get_or set k false → AddsParent nodes k there old new
     → HasParentsTo nodes set start k old → HasParentsTo nodes set start (k + 1) new
 parents_more nodes set start old new k there is r had = record {
   count = r.count ∙ had.count;
@@ -66,7 +66,7 @@ nowhere (suc count) (suc n) = nowhere count n
 pub none_there : (set : List Bool) (count n : ℕ) → set ≡ replicate count false → get_or set n false ≡ true → ⊥
 none_there set count n is e = let f : true ≡ false = sym e ∙ ap (λ l. get_or l n false) is ∙ nowhere count n in cc
 
-module _ (tree : SearchedTree) (is_tree : IsTree tree.game.nodes) (live : List Bool) (asked : AreAsked tree live) where
+module _ (tree : SearchedTree) (is_tree : IsTree tree.game.nodes) (live : List Bool) (asked : IsNodeSet tree live) where
   parents_searched : (start found : List Bool) → ((n : ℕ) → get_or start n false ≡ true → is_searched tree.variations tree.game.nodes n ≡ true) → HasParents tree.game.nodes live start found
       → (n : ℕ) → get_or found n false ≡ true → is_searched tree.variations tree.game.nodes n ≡ true
   parents_searched start found begun has n e = ⊎_elim (λ s. begun n s)
@@ -115,14 +115,14 @@ module _ (tree : SearchedTree) (is_tree : IsTree tree.game.nodes) (live : List B
       (λ other. up_at m n (node_at tree.game.nodes n).parent (λ p less below up. up_within i m p (omega (arith, h, less)) below up) b s other refl)
       (equal_or n m)
 
-  pub above_asked : (start found : List Bool) → start ≡ live → AreRaised tree.game.nodes start found → IsAboveLive tree live found
+  pub above_asked : (start found : List Bool) → start ≡ live → AreWithAncestors tree.game.nodes start found → IsAboveLive tree live found
   above_asked start found begun raised_start = record {
     asked = record {
-      count = raised.count ∙ asked.count;
-      searched = λ m e. let x = (raised.each m).0 e in up_within (x.0 + 1) m x.0 (omega arith) x.2 (asked.searched x.0 x.1);
+      count = with_ancestors.count ∙ asked.count;
+      searched = λ m e. let x = (with_ancestors.each m).0 e in up_within (x.0 + 1) m x.0 (omega arith) x.2 (asked.searched x.0 x.1);
     };
-    covers = λ n m l b. (raised.each m).1 (n, l, b);
+    covers = λ n m l b. (with_ancestors.each m).1 (n, l, b);
   }
     where
-      raised : AreRaised tree.game.nodes live found
-      raised = subst (λ l. AreRaised tree.game.nodes l found) begun raised_start
+      with_ancestors : AreWithAncestors tree.game.nodes live found
+      with_ancestors = subst (λ l. AreWithAncestors tree.game.nodes l found) begun raised_start

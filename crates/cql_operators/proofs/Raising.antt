@@ -5,7 +5,7 @@ use Rattle.std.proofs.lemmas.Bool.{cases_order, eq-eqb}
 use Rattle.cq_position.specs.Games.{Node, node_at, IsTree, is_below, is_child_of, is_number}
 use Rattle.cq_position.proofs.WaysUp.{is_below_self, below_parent, root_below, parent_before}
 use Rattle.cql_columns.proofs.Filling.{equal_or, or_left, or_right}
-use Rattle.cql_operators.specs.Trees.{IsRaised, AreRaised}
+use Rattle.cql_operators.specs.Trees.{AddsParent, AreWithAncestors}
 
 -- a node of the set is n, or below a child of n that is not before t
 abbrev pub Via : List Node → ℕ → ℕ → ℕ → Type 0
@@ -109,7 +109,7 @@ module _ (nodes : List Node) (tree : IsTree nodes) where
     );
   }
 
-  pub raised_more : (set old new : List Bool) (k t : ℕ) (there : Bool) → t ≡ k + 1 → there ≡ get_or old k false → IsRaised nodes k there old new → RaisedTo nodes set t old
+  pub raised_more : (set old new : List Bool) (k t : ℕ) (there : Bool) → t ≡ k + 1 → there ≡ get_or old k false → AddsParent nodes k there old new → RaisedTo nodes set t old
       → RaisedTo nodes set k new
   raised_more set old new k t there next same r had = record {
     count = r.count ∙ had.count;
@@ -146,11 +146,11 @@ module _ (nodes : List Node) (tree : IsTree nodes) where
           split : (c : ℕ) → k ≤ c → (c ≡ k) ⊎ (k < c)
           split c h = ⊎_elim (λ same. inl same) (λ o. ⊎_elim (λ less. absurd (omega (arith, h, less))) (λ more. inr more) o) (cases_order c k)
 
-  pub raised_next : (set old new : List Bool) (k t later : ℕ) (there : Bool) → t ≡ k + 1 → k ≡ later → there ≡ get_or old k false → IsRaised nodes k there old new → RaisedTo nodes set t old
+  pub raised_next : (set old new : List Bool) (k t later : ℕ) (there : Bool) → t ≡ k + 1 → k ≡ later → there ≡ get_or old k false → AddsParent nodes k there old new → RaisedTo nodes set t old
       → RaisedTo nodes set later new
   raised_next set old new k t later there next same is r had = subst (λ i. RaisedTo nodes set i new) same (raised_more set old new k t there next is r had)
 
-  pub raised_all : (set found : List Bool) (t : ℕ) → t ≡ 0 → RaisedTo nodes set t found → AreRaised nodes set found
+  pub raised_all : (set found : List Bool) (t : ℕ) → t ≡ 0 → RaisedTo nodes set t found → AreWithAncestors nodes set found
   raised_all set found t end had = record {
     count = had.count;
     each = λ n. (

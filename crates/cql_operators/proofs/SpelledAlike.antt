@@ -7,14 +7,14 @@ use Rattle.cq_position.specs.Search.{SearchedTree, IsStep, Along}
 use Rattle.cq_position.proofs.WaysUp.{is_below_self, below_parent, parent_before}
 use Rattle.cql_lines.specs.declared.table.AtomTable.{AtomTable}
 use Rattle.cql_syntax.specs.Meaning.{marked}
-use Rattle.cql_syntax.specs.TabledLines.{IsAsked, AreSpelledAlike}
+use Rattle.cql_syntax.specs.LineTables.{IsSearchedNode, SpellTheSame}
 use Rattle.cql_syntax.specs.Values.{Value, holds}
 use Rattle.cql_syntax.specs.declared.leaves.Mark.{Mark}
 use Rattle.cql_syntax.specs.declared.leaves.Mark.TheVariants.{Once, Star, Plus, Maybe, Times as Repeated}
-use Rattle.cql_columns.specs.Columns.{AreAsked}
+use Rattle.cql_columns.specs.Columns.{IsNodeSet}
 use Rattle.cql_columns.proofs.Filling.{equal_or, live_below}
 use Rattle.cql_operators.specs.LineAtoms.{AreAllAsked}
-use Rattle.cql_operators.specs.SpelledParts.{IsLive, IsWay, AreAlike, IsNever, AreTabled, Leads, AreOnward, AreReached, LeadsOn, EndsHere, is_needed}
+use Rattle.cql_operators.specs.SpelledParts.{IsLive, IsWay, AreAlike, IsNever, AreTabled, Leads, AreOnward, AreReached, LeadsOn, SpellsNothing, is_needed}
 use Rattle.cql_operators.specs.Trees.{IsBelowLive, IsAboveLive, AreChildrenOfLive, AreParentsOfLive}
 use Rattle.cql_operators.proofs.Raising.{below_up}
 
@@ -145,7 +145,7 @@ abbrev ReachedFrom : SearchedTree → Bool → (ℕ → Type 0) → ℕ → Type
 ReachedFrom tree back In m = (n : ℕ) × In n × Leads tree back n m
 
 module _ (tree : SearchedTree) (is_tree : IsTree tree.game.nodes) where
-  leads_self : (back : Bool) (n : ℕ) → IsAsked tree n → Leads tree back n n
+  leads_self : (back : Bool) (n : ℕ) → IsSearchedNode tree n → Leads tree back n n
   leads_self true n asked = is_below_self tree.game.nodes n is_tree
   leads_self false n asked = (is_below_self tree.game.nodes n is_tree, asked)
 
@@ -159,10 +159,10 @@ module _ (tree : SearchedTree) (is_tree : IsTree tree.game.nodes) where
     (step.is_in, (parent_before tree.game.nodes k m is_tree step.child).1),
   )
 
-  live_asked : (live : List Bool) → AreAsked tree live → (n : ℕ) → IsLive live n → IsAsked tree n
+  live_asked : (live : List Bool) → IsNodeSet tree live → (n : ℕ) → IsLive live n → IsSearchedNode tree n
   live_asked live asked n l = (asked.searched n l, omega (arith, live_below live n l, asked.count))
 
-  reached_own : (back : Bool) (live : List Bool) → AreAsked tree live → (n : ℕ) → IsLive live n → ReachedFrom tree back (IsLive live) n
+  reached_own : (back : Bool) (live : List Bool) → IsNodeSet tree live → (n : ℕ) → IsLive live n → ReachedFrom tree back (IsLive live) n
   reached_own back live asked n l = (n, l, leads_self back n (live_asked live asked n l))
 
   reached_on : (back : Bool) (live : List Bool) (n m : ℕ) → ReachedFrom tree back (IsLive live) n → IsStep tree back false n m → ReachedFrom tree back (IsLive live) m
@@ -183,11 +183,11 @@ module _ (tree : SearchedTree) (is_tree : IsTree tree.game.nodes) where
 pub record Reach (tree : SearchedTree) (back : Bool) : Type 0 where
   pub old : List Bool
   pub wide : List Bool
-  pub asked : AreAsked tree old
+  pub asked : IsNodeSet tree old
   pub reached : AreReached tree back old wide
 
 -- the same, where the first are given by others that are equal to them
-abbrev pub reach_from : (tree : SearchedTree) (back : Bool) (old given wide : List Bool) → given ≡ old → AreAsked tree old → AreReached tree back given wide → Reach tree back
+abbrev pub reach_from : (tree : SearchedTree) (back : Bool) (old given wide : List Bool) → given ≡ old → IsNodeSet tree old → AreReached tree back given wide → Reach tree back
 reach_from tree back old given wide is asked reached = record { old = old; wide = wide; asked = asked; reached = subst (λ l. AreReached tree back l wide) is reached }
 
 -- a pattern of atoms in a table of a type, and what it stands for
@@ -226,7 +226,7 @@ module _ (tree : SearchedTree) (is_tree : IsTree tree.game.nodes) (back : Bool) 
 
   -- it is needed, and isn't spelled
   pub wide_ends : (shown : List Bool) → shown ≡ from.wide → (r : Pattern (ℕ → Value)) (m : Mark) → is_needed m ≡ true
-      → IsNever (IsStep tree back false) (IsLive shown) r → EndsHere tree back from.old (marked m r)
+      → IsNever (IsStep tree back false) (IsLive shown) r → SpellsNothing tree back from.old (marked m r)
   wide_ends shown is r m e f s = never_before (IsStep tree back false) (IsLive from.old) (marked m r) s
       (marked_never (IsStep tree back false) (IsLive from.old) m r e
       (never_wider (IsStep tree back false) (IsLive from.old) (IsLive from.wide) (λ n l. in_wide n (begins n l)) r
@@ -245,7 +245,7 @@ module _ (tree : SearchedTree) (is_tree : IsTree tree.game.nodes) (back : Bool) 
         (never_wider (IsStep tree back false) (ReachedFrom tree back (IsLive from.old)) (IsLive from.wide) in_wide s g);
   }
 
-pub group_ends : (tree : SearchedTree) (back : Bool) (live : List Bool) (r : Pattern (ℕ → Value)) → IsNever (IsStep tree back false) (IsLive live) r → EndsHere tree back live r
+pub group_ends : (tree : SearchedTree) (back : Bool) (live : List Bool) (r : Pattern (ℕ → Value)) → IsNever (IsStep tree back false) (IsLive live) r → SpellsNothing tree back live r
 group_ends tree back live r f s = never_before (IsStep tree back false) (IsLive live) r s f
 
 pub parents_onward : (tree : SearchedTree) (live next : List Bool) → AreParentsOfLive tree live next → AreOnward tree true live next
@@ -264,8 +264,8 @@ pub along_wider : (tree : SearchedTree) (back primary : Bool) (n : ℕ) (w : Lis
 along_wider tree back primary n [] a = tt
 along_wider tree back primary n (m ∷ w) a = (step_wider tree back primary n m a.0, along_wider tree back primary m w a.1)
 
-pub alike_on : (tree : SearchedTree) (back primary : Bool) (test : ℕ → ℕ → Bool) (p : Pattern ℕ) (r : Pattern (ℕ → Value)) → AreAlike (IsStep tree back false) (IsAsked tree) test p r
-    → (n : ℕ) → IsAsked tree n → AreSpelledAlike tree back primary test p r n
+pub alike_on : (tree : SearchedTree) (back primary : Bool) (test : ℕ → ℕ → Bool) (p : Pattern ℕ) (r : Pattern (ℕ → Value)) → AreAlike (IsStep tree back false) (IsSearchedNode tree) test p r
+    → (n : ℕ) → IsSearchedNode tree n → SpellTheSame tree back primary test p r n
 alike_on tree back primary test p r f n asked w goes = f (n ∷ w) (asked, along_wider tree back primary n w goes)
 
 pub not_met : (m i n : Bool) → m ≡ true → (m && (i || not n)) ≡ false → (i ≡ false) × (n ≡ true)
@@ -277,12 +277,12 @@ not_met false i n e f = cc
 -- where all searched nodes are asked for
 
 pub all_tabled : {L : Type 0} {own : _} (tree : SearchedTree) (back : Bool) (all : List Bool) (table : AtomTable L own) (past : ℕ) (p : Pattern ℕ) (r : Pattern (ℕ → Value)) → AreAllAsked tree all
-    → AreTabled tree back (IsLive all) table past p r → AreTabled tree back (IsAsked tree) table past p r
-all_tabled tree back all table past p r every f test same = alike_wider (IsStep tree back false) (IsAsked tree) (IsLive all) (λ n asked. every.covers n asked) test p r (f test same)
+    → AreTabled tree back (IsLive all) table past p r → AreTabled tree back (IsSearchedNode tree) table past p r
+all_tabled tree back all table past p r every f test same = alike_wider (IsStep tree back false) (IsSearchedNode tree) (IsLive all) (λ n asked. every.covers n asked) test p r (f test same)
 
 pub all_never : (tree : SearchedTree) (back : Bool) (all : List Bool) (r : Pattern (ℕ → Value)) → AreAllAsked tree all
-    → IsNever (IsStep tree back false) (IsLive all) r → IsNever (IsStep tree back false) (IsAsked tree) r
-all_never tree back all r every f = never_wider (IsStep tree back false) (IsAsked tree) (IsLive all) (λ n asked. every.covers n asked) r f
+    → IsNever (IsStep tree back false) (IsLive all) r → IsNever (IsStep tree back false) (IsSearchedNode tree) r
+all_never tree back all r every f = never_wider (IsStep tree back false) (IsSearchedNode tree) (IsLive all) (λ n asked. every.covers n asked) r f
 
 -- the same, where sets are given by others that are equal to them
 
@@ -290,8 +290,8 @@ pub leads_at : {L : Type 0} {own : _} (tree : SearchedTree) (back : Bool) (old g
     → LeadsOn tree back given new part.table part.past part.numbered part.stands_for → LeadsOn tree back old new part.table part.past part.numbered part.stands_for
 leads_at tree back old given new is part h = subst (λ l. LeadsOn tree back l new part.table part.past part.numbered part.stands_for) is h
 
-pub ends_at : (tree : SearchedTree) (back : Bool) (old given : List Bool) → given ≡ old → (r : Pattern (ℕ → Value)) → EndsHere tree back given r → EndsHere tree back old r
-ends_at tree back old given is r h = subst (λ l. EndsHere tree back l r) is h
+pub ends_at : (tree : SearchedTree) (back : Bool) (old given : List Bool) → given ≡ old → (r : Pattern (ℕ → Value)) → SpellsNothing tree back given r → SpellsNothing tree back old r
+ends_at tree back old given is r h = subst (λ l. SpellsNothing tree back l r) is h
 
 pub onward_at : (tree : SearchedTree) (back : Bool) (held given next : List Bool) → given ≡ held → AreOnward tree back given next → AreOnward tree back held next
 onward_at tree back held given next is h = subst (λ l. AreOnward tree back l next) is h

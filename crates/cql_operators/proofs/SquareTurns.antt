@@ -9,30 +9,30 @@ use Rattle.cql_syntax.specs.Meaning.{Names, value, unary_of}
 use Rattle.cql_syntax.specs.Trees.{FilterTree, filter_at, unary, if_, square}
 use Rattle.cql_syntax.specs.Values.{Value, holds, has, as_truth, if_of, square_of}
 use Rattle.cql_syntax.specs.declared.leaves.Unary.{Unary}
-use Rattle.cql_values.specs.Asked.{settles}
+use Rattle.cql_values.specs.FilterValues.{settles}
 use Rattle.cql_values.proofs.Evaluated.{by_settling}
 use Rattle.cql_values.proofs.Ranges.{any_last}
-use Rattle.cql_columns.specs.Asked.{AreUnsettled, AreHaving, AreLeftOpen}
-use Rattle.cql_columns.specs.Columns.{is_live, shown, AreAsked, AreTruths, IsColumn}
+use Rattle.cql_columns.specs.SquareTrials.{AreUnsettled, AreNodesWithSquare, AreLeftOpen}
+use Rattle.cql_columns.specs.Columns.{is_live, shown, IsNodeSet, AreTruths, IsColumn}
 use Rattle.cql_columns.specs.declared.filter_column.FilterColumn.{FilterColumn}
 use Rattle.cql_columns.proofs.Filling.{both_left, live_below}
 
 -- of the nodes that are asked for those that pass a test
 pub record LeftOf (tree : SearchedTree) (live : List Bool) (test : ℕ → Bool) (left : List Bool) : Type 0 where
-  pub asked : AreAsked tree left
+  pub asked : IsNodeSet tree left
   pub within : (n : ℕ) → is_live left n ≡ true → is_live live n ≡ true
   pub each : (n : ℕ) → is_live live n ≡ true → is_live left n ≡ test n
 
-pub left_begun : (tree : SearchedTree) (live : List Bool) (test : ℕ → Bool) (left : List Bool) → AreAsked tree live → left ≡ live → ((n : ℕ) → test n ≡ true) → LeftOf tree live test left
+pub left_begun : (tree : SearchedTree) (live : List Bool) (test : ℕ → Bool) (left : List Bool) → IsNodeSet tree live → left ≡ live → ((n : ℕ) → test n ≡ true) → LeftOf tree live test left
 left_begun tree live test left asked is all = record {
-  asked = subst (AreAsked tree) (sym is) asked;
+  asked = subst (IsNodeSet tree) (sym is) asked;
   within = λ n e. ap (λ l. is_live l n) (sym is) ∙ e;
   each = λ n e. ap (λ l. is_live l n) is ∙ e ∙ sym (all n);
 }
 
 -- one square more
 pub turn_law : (every : Bool) (x : ℕ → Value) (v : ℕ → Value) (s : ℕ) (left there later : List Bool) (c : FilterColumn)
-    → AreHaving x s left there → IsColumn c there v → AreLeftOpen every (λ n. holds (shown c n)) left there later → AreUnsettled every x (λ n. holds (v n)) s left later
+    → AreNodesWithSquare x s left there → IsColumn c there v → AreLeftOpen every (λ n. holds (shown c n)) left there later → AreUnsettled every x (λ n. holds (v n)) s left later
 turn_law every x v s left there later c having column is = record {
   count = is.count;
   each = λ n. is.each n ∙ by (is_live left n) (has (x n) s) (is_live there n) (holds (shown c n)) (holds (v n)) (having.each n) (λ l. ap holds (column n l));
@@ -43,7 +43,7 @@ turn_law every x v s left there later c having column is = record {
     by true true t p q e f = ap not (ap (λ b. b && (if every then not p else p)) e ∙ ap (λ b. if every then not b else b) (f e))
     by true false t p q e f = ap (λ b. not (b && (if every then not p else p))) e
 
-pub turn_none : (every : Bool) (x : ℕ → Value) (asked : ℕ → Bool) (s : ℕ) (left there : List Bool) → AreHaving x s left there → list_any (λ b. b) there ≡ false → AreUnsettled every x asked s left left
+pub turn_none : (every : Bool) (x : ℕ → Value) (asked : ℕ → Bool) (s : ℕ) (left there : List Bool) → AreNodesWithSquare x s left there → list_any (λ b. b) there ≡ false → AreUnsettled every x asked s left left
 turn_none every x asked s left there having none = record {
   count = refl;
   each = λ n. by (is_live left n) (has (x n) s) (if every then not (asked n) else asked n) (sym (having.each n) ∙ nowhere there n none);
@@ -84,7 +84,7 @@ square_more tree live every x asked k s left later same had is = record {
     kept : (n : ℕ) → is_live later n ≡ true → is_live left n ≡ true
     kept n e = both_left (is_live left n) (not (settles every (has (x n)) (λ t. asked n s) s)) (sym (is.each n) ∙ e)
 
-pub square_end : (tree : SearchedTree) (live : List Bool) (every : Bool) (x : ℕ → Value) (asked : ℕ → ℕ → Bool) (k : ℕ) (left bs : List Bool) → k ≡ 64 → AreAsked tree live
+pub square_end : (tree : SearchedTree) (live : List Bool) (every : Bool) (x : ℕ → Value) (asked : ℕ → ℕ → Bool) (k : ℕ) (left bs : List Bool) → k ≡ 64 → IsNodeSet tree live
     → LeftOf tree live (unsettled_by every x asked k) left → ((n : ℕ) → n < length left → get_or bs n false ≡ (if get_or left n false then every else not every))
     → AreTruths bs live (λ n. square_of every (x n) (asked n))
 unfolding squares
@@ -99,9 +99,9 @@ square_end tree live every x asked k left bs end whole had is = λ n l.
     turned true = refl
     turned false = refl
 
-pub turn_stop : (every : Bool) (x : ℕ → Value) (asked : ℕ → Bool) (s : ℕ) (left there g1 g2 : List Bool) → g1 ≡ left → g2 ≡ there → AreHaving x s g1 there → list_any (λ b. b) g2 ≡ false
+pub turn_stop : (every : Bool) (x : ℕ → Value) (asked : ℕ → Bool) (s : ℕ) (left there g1 g2 : List Bool) → g1 ≡ left → g2 ≡ there → AreNodesWithSquare x s g1 there → list_any (λ b. b) g2 ≡ false
     → AreUnsettled every x asked s left left
-turn_stop every x asked s left there g1 g2 e1 e2 having none = turn_none every x asked s left there (subst (λ l. AreHaving x s l there) e1 having) (ap (list_any (λ b. b)) (sym e2) ∙ none)
+turn_stop every x asked s left there g1 g2 e1 e2 having none = turn_none every x asked s left there (subst (λ l. AreNodesWithSquare x s l there) e1 having) (ap (list_any (λ b. b)) (sym e2) ∙ none)
 
 pub unary_form : (tree : SearchedTree) (e : Names) (f part : FilterTree) (at : ℕ) (u : Unary) → f ≡ filter_at at (unary u part) → unary_of tree u (value tree [] e part) ≡ value tree [] e f
 unfolding value

@@ -7,7 +7,7 @@ use Rattle.cq_position.specs.Search.{SearchedTree, children_in}
 use Rattle.cql_syntax.specs.Values.{Value, holds}
 use Rattle.cql_values.proofs.Ranges.{left, right, both}
 use Rattle.cql_columns.proofs.Filling.{or_right}
-use Rattle.cql_columns.specs.Columns.{is_live, is_so, shown, IsColumn, IsNarrowed}
+use Rattle.cql_columns.specs.Columns.{is_live, is_as_wanted, shown, IsColumn, IsNarrowed}
 use Rattle.cql_columns.specs.declared.filter_column.FilterColumn.{FilterColumn}
 use Rattle.cql_columns.proofs.FindLaw.{any_filtered}
 
@@ -43,13 +43,13 @@ module _ (wide asked again start : List Bool) (c : FilterColumn) (v : ℕ → Va
   narrowed = subst (λ w. IsNarrowed w c true start) is_too narrowed_again
 
   pub start_wide : (m : ℕ) → get_or start m false ≡ true → is_live wide m ≡ true
-  start_wide m e = left (is_live wide m) (is_so true (holds (shown c m))) (sym (narrowed.each m) ∙ e)
+  start_wide m e = left (is_live wide m) (is_as_wanted true (holds (shown c m))) (sym (narrowed.each m) ∙ e)
 
   pub start_holds : (m : ℕ) → get_or start m false ≡ true → holds (v m) ≡ true
-  start_holds m e = sym (ap holds (column m (start_wide m e))) ∙ right (is_live wide m) (is_so true (holds (shown c m))) (sym (narrowed.each m) ∙ e)
+  start_holds m e = sym (ap holds (column m (start_wide m e))) ∙ right (is_live wide m) (is_as_wanted true (holds (shown c m))) (sym (narrowed.each m) ∙ e)
 
   pub starts : (m : ℕ) → is_live wide m ≡ true → holds (v m) ≡ true → get_or start m false ≡ true
-  starts m l h = narrowed.each m ∙ both (is_live wide m) (is_so true (holds (shown c m))) l (ap holds (column m l) ∙ h)
+  starts m l h = narrowed.each m ∙ both (is_live wide m) (is_as_wanted true (holds (shown c m))) l (ap holds (column m l) ∙ h)
 
 -- all searched children of n
 pub any_child : (tree : SearchedTree) (h : ℕ → Bool) (n : ℕ)

@@ -1,4 +1,4 @@
-pub mod Elsewhere
+pub mod OtherNodes
 pub mod LineAtoms
 pub mod SpelledParts
 pub mod Trees

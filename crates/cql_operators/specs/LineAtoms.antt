@@ -5,22 +5,22 @@ use Rattle.cq_position.specs.Games.{node_at, is_first_child, is_searched}
 use Rattle.cq_position.specs.Search.{SearchedTree}
 use Rattle.cql_lines.specs.Tables.{atoms_of, nodes_of, holds_in}
 use Rattle.cql_lines.specs.declared.shape.Limits.{Limits}
-use Rattle.cql_lines.specs.declared.shape.Spot.{Spot}
+use Rattle.cql_lines.specs.declared.shape.TreeNode.{TreeNode}
 use Rattle.cql_lines.specs.declared.table.AtomTable.{AtomTable}
 use Rattle.cql_syntax.specs.Meaning.{marked}
-use Rattle.cql_syntax.specs.TabledLines.{IsAsked}
+use Rattle.cql_syntax.specs.LineTables.{IsSearchedNode}
 use Rattle.cql_syntax.specs.Trees.{PartTrees, no_parts, more_parts, BodyTree, atom, group}
 use Rattle.cql_syntax.specs.TreeOf.{parts_tree}
 use Rattle.cql_syntax.specs.declared.tree.Line.{Line as OneLine, out-Line}
 use Rattle.cql_syntax.specs.declared.extents.Extent.{Extent}
 use Rattle.cql_syntax.specs.declared.extents.Extent.TheVariants.{Any, Within}
-use Rattle.cql_columns.specs.Columns.{is_live, AreAsked}
+use Rattle.cql_columns.specs.Columns.{is_live, IsNodeSet}
 use Rattle.cql_columns.specs.Costs.{body_atoms}
 
 -- all searched nodes are asked for
 pub record AreAllAsked (tree : SearchedTree) (all : List Bool) : Type 0 where
-  pub asked : AreAsked tree all
-  pub covers : (n : ℕ) → IsAsked tree n → is_live all n ≡ true
+  pub asked : IsNodeSet tree all
+  pub covers : (n : ℕ) → IsSearchedNode tree n → is_live all n ≡ true
 
 -- the parts of a line
 abbrev pub parts_within : OneLine → PartTrees
@@ -42,7 +42,7 @@ limits_in Any = None
 limits_in (Within least most) = Some (record { least = least; most = most })
 
 -- a node as a line's tree has it
-abbrev pub spot_at : SearchedTree → ℕ → Spot
+abbrev pub spot_at : SearchedTree → ℕ → TreeNode
 spot_at tree n = record {
   parent = (node_at tree.game.nodes n).parent;
   searched = is_searched tree.variations tree.game.nodes n;

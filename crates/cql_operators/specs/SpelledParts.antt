@@ -5,11 +5,11 @@ use Rattle.cq_position.specs.Games.{is_below}
 use Rattle.cq_position.specs.Search.{SearchedTree, IsStep, Along}
 use Rattle.cql_lines.specs.Tables.{holds_in}
 use Rattle.cql_lines.specs.declared.table.AtomTable.{AtomTable}
-use Rattle.cql_syntax.specs.TabledLines.{IsAsked}
+use Rattle.cql_syntax.specs.LineTables.{IsSearchedNode}
 use Rattle.cql_syntax.specs.Values.{Value, holds}
 use Rattle.cql_syntax.specs.declared.leaves.Mark.{Mark}
 use Rattle.cql_syntax.specs.declared.leaves.Mark.TheVariants.{Once, Star, Plus, Maybe, Times}
-use Rattle.cql_columns.specs.Columns.{is_live, AreAsked}
+use Rattle.cql_columns.specs.Columns.{is_live, IsNodeSet}
 
 -- a node of a set
 abbrev pub IsLive : List Bool → ℕ → Type 0
@@ -41,23 +41,23 @@ AreTabled tree back In table past p r =
 -- ways lead from a node to another
 abbrev pub Leads : SearchedTree → Bool → ℕ → ℕ → Type 0
 Leads tree true n m = is_below tree.game.nodes m n ≡ true
-Leads tree false n m = (is_below tree.game.nodes n m ≡ true) × IsAsked tree m
+Leads tree false n m = (is_below tree.game.nodes n m ≡ true) × IsSearchedNode tree m
 
 -- searched nodes, among them all that a step leads to from those of a set
 pub record AreOnward (tree : SearchedTree) (back : Bool) (live next : List Bool) : Type 0 where
-  pub asked : AreAsked tree next
+  pub asked : IsNodeSet tree next
   pub covers : (n m : ℕ) → IsLive live n → IsStep tree back false n m → IsLive next m
 
 -- searched nodes, among them all that ways lead to from those of a set
 pub record AreReached (tree : SearchedTree) (back : Bool) (live wide : List Bool) : Type 0 where
-  pub asked : AreAsked tree wide
+  pub asked : IsNodeSet tree wide
   pub covers : (n m : ℕ) → IsLive live n → Leads tree back n m → IsLive wide m
 
 -- What a part of a row and all that follows it spell on ways from the nodes of one set is right where what follows is right on ways from
 -- those of the next set.
 pub record LeadsOn {L : Type 0} {own : _} (tree : SearchedTree) (back : Bool) (old new : List Bool) (table : AtomTable L own) (past : ℕ)
     (p : Pattern ℕ) (r : Pattern (ℕ → Value)) : Type 0 where
-  pub asked : AreAsked tree new
+  pub asked : IsNodeSet tree new
   pub alike : (test : ℕ → ℕ → Bool) → Agrees test table past → (q : Pattern ℕ) (s : Pattern (ℕ → Value))
       → AreAlike (IsStep tree back false) (IsLive new) test q s
       → AreAlike (IsStep tree back false) (IsLive old) test (joined p q) (joined r s)
@@ -65,8 +65,8 @@ pub record LeadsOn {L : Type 0} {own : _} (tree : SearchedTree) (back : Bool) (o
       → IsNever (IsStep tree back false) (IsLive old) (joined r s)
 
 -- no way from the nodes of a set is spelled by a part, whatever follows it
-abbrev pub EndsHere : SearchedTree → Bool → List Bool → Pattern (ℕ → Value) → Type 0
-EndsHere tree back live r = (s : Pattern (ℕ → Value)) → IsNever (IsStep tree back false) (IsLive live) (joined r s)
+abbrev pub SpellsNothing : SearchedTree → Bool → List Bool → Pattern (ℕ → Value) → Type 0
+SpellsNothing tree back live r = (s : Pattern (ℕ → Value)) → IsNever (IsStep tree back false) (IsLive live) (joined r s)
 
 -- whether a part with a mark stands at least once
 abbrev pub is_needed : Mark → Bool

@@ -4,13 +4,13 @@ ghost use Rattle.cq_position.specs.Attacks.{attacks};
 ghost use Rattle.cq_position.specs.Games.{node_at};
 ghost use Rattle.cql_syntax.specs.Meaning as meaning;
 ghost use Rattle.cql_syntax.specs.Values as spec;
-ghost use Rattle.cql_columns.specs.Columns.{AreAsked, AreTruths, shown};
+ghost use Rattle.cql_columns.specs.Columns.{IsNodeSet, AreTruths, shown};
 ghost use Rattle.cql_columns.specs.Scopes.{tree_in};
 
 use crate::combine::{held, pair_column};
 use cq_common::NoMemory;
 use cql_columns::filter_column::FilterColumn;
-use cql_columns::leaves::standing_sets;
+use cql_columns::standing_squares::standing_sets;
 use cql_columns::scope::Scope;
 use cql_syntax::{Designator, Pair};
 use std::alloc::Global;
@@ -23,7 +23,7 @@ pub fn attack_truths(
     scope: &Scope,
     live: &[bool],
 ) -> Result<Vec<bool>, NoMemory>
-    requires asked { AreAsked (tree_in scope.now) live.now }
+    requires asked { IsNodeSet (tree_in scope.now) live.now }
     ensures { IfOk result (λ truths. AreTruths truths.items live.now
         (λ n. spec.as_truth (spec.holds (spec.related (attacks (node_at scope.now.game.now.nodes n).position.men) (shown squares.now n)
         (meaning.standing_of (node_at scope.now.game.now.nodes n).position.men (Some d.now)))))) }

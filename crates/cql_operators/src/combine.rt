@@ -4,9 +4,9 @@ ghost use Rattle.cq_position.specs.Games.{node_at};
 ghost use Rattle.cq_position.specs.declared.men.Man.{Man};
 ghost use Rattle.cq_symmetry.specs.Images.{is_in};
 ghost use Rattle.cql_syntax.specs.Values as spec;
-ghost use Rattle.cql_values.specs.Asked.{of_value, is_true};
-ghost use Rattle.cql_values.specs.Shown.{meant, terms_meant};
-ghost use Rattle.cql_columns.specs.Columns.{AreAsked, AreSets, AreTruths, AreValues, IsColumn, IsNumbered, shown, all_shown, terms_shown};
+ghost use Rattle.cql_values.specs.FilterValues.{unary_result, is_true};
+ghost use Rattle.cql_values.specs.ValueModel.{as_value, terms_as_values};
+ghost use Rattle.cql_columns.specs.Columns.{IsNodeSet, AreSets, AreTruths, AreValues, IsColumn, IsNumbered, shown, all_shown, terms_shown};
 ghost use Rattle.cql_columns.specs.Scopes.{tree_in};
 
 use crate::narrow::has_number;
@@ -14,9 +14,9 @@ use cq_common::NoMemory;
 use cq_geometry::Compass;
 use cql_columns::filter_column::{FilterColumn, blank_sets, blank_truths, blank_values};
 use cql_columns::scope::Scope;
-use cql_columns::spans::{asked_end, end_of, first_asked, first_live};
+use cql_columns::spans::{live_node_end, live_end, first_live_node, first_live};
 use cql_syntax::{Chain, Kind, Pair, Unary};
-use cql_values::combine::{any_of, chain_of, compares, if_of, related, unary_here};
+use cql_values::combine::{any_of, chain_of, compares, if_of, related, unary_of_value};
 use cql_values::numbers::total;
 use cql_values::sets::reached;
 use cql_values::value::Value;
@@ -24,10 +24,10 @@ use pgn_tree::Game;
 use std::alloc::Global;
 
 /// Where a column doesn't hold.
-pub fn negated(alloc: Global, column: &FilterColumn, live: &[bool]) -> Result<Vec<bool>, NoMemory>
+pub fn negated_truths(alloc: Global, column: &FilterColumn, live: &[bool]) -> Result<Vec<bool>, NoMemory>
     ensures { IfOk result (λ truths. AreTruths truths.items live.now (λ n. spec.as_truth (not (spec.holds (shown column.now n))))) }
 {
-    let end = end_of(live);
+    let end = live_end(live);
     let mut truths = blank_truths(alloc, end)?;
     for n in first_live(live)..end {
         truths[n] = fails(live[n], column, n);
@@ -45,7 +45,7 @@ fn fails(asked: bool, column: &FilterColumn, n: usize) -> bool
 pub fn held(alloc: Global, column: &FilterColumn, live: &[bool]) -> Result<Vec<bool>, NoMemory>
     ensures { IfOk result (λ truths. AreTruths truths.items live.now (λ n. spec.as_truth (spec.holds (shown column.now n)))) }
 {
-    let end = end_of(live);
+    let end = live_end(live);
     let mut truths = blank_truths(alloc, end)?;
     for n in first_live(live)..end {
         truths[n] = holds_at(live[n], column, n);
@@ -71,7 +71,7 @@ pub fn numbered(alloc: Global, column: &FilterColumn, live: &[bool]) -> Result<V
 }
 
 /// The second column where the first holds, else the third.
-pub fn chosen(
+pub fn if_truths(
     alloc: Global,
     first: &FilterColumn,
     second: &FilterColumn,
@@ -81,7 +81,7 @@ pub fn chosen(
     ensures { IfOk result (λ truths. AreTruths truths.items live.now
         (λ n. spec.if_of (shown first.now n) (shown second.now n) (shown third.now n))) }
 {
-    let end = end_of(live);
+    let end = live_end(live);
     let mut truths = blank_truths(alloc, end)?;
     for n in first_live(live)..end {
         truths[n] = is_chosen(first, second, third, n);
@@ -103,13 +103,13 @@ pub fn unary_values(
     column: &FilterColumn,
     live: &[bool],
 ) -> Result<Vec<Value>, NoMemory>
-    requires asked { AreAsked (tree_in scope.now) live.now }
+    requires asked { IsNodeSet (tree_in scope.now) live.now }
     ensures { IfOk result (λ values. AreValues values.items live.now
-        (λ n. of_value (node_at scope.now.game.now.nodes n).position.men word (shown column.now n))) }
+        (λ n. unary_result (node_at scope.now.game.now.nodes n).position.men word (shown column.now n))) }
 {
-    let end = asked_end(live, scope.game.len());
+    let end = live_node_end(live, scope.game.len());
     let mut values = blank_values(alloc, end as usize)?;
-    for n in first_asked(live, scope.game.len())..end {
+    for n in first_live_node(live, scope.game.len())..end {
         values[n as usize] = unary_value(live[n as usize], word, scope.game, column, n);
     }
     Ok(values)
@@ -117,10 +117,10 @@ pub fn unary_values(
 
 fn unary_value(asked: bool, word: Unary, game: &Game, column: &FilterColumn, n: u32) -> Value
     requires { n < length game.now.nodes }
-    ensures { asked ≡ true → meant result ≡ of_value (node_at game.now.nodes n).position.men word (shown column.now n) }
+    ensures { asked ≡ true → as_value result ≡ unary_result (node_at game.now.nodes n).position.men word (shown column.now n) }
 {
     if asked {
-        unary_here(word, game.position(n), column.at(n as usize))
+        unary_of_value(word, game.position(n), column.at(n as usize))
     } else {
         Value::Truth(false)
     }
@@ -138,7 +138,7 @@ pub fn reached_values(
     ensures { IfOk result (λ values. AreValues values.items live.now
         (λ n. spec.reached_of directions.now least most (shown column.now n))) }
 {
-    let end = end_of(live);
+    let end = live_end(live);
     let mut values = blank_values(alloc, end)?;
     for n in first_live(live)..end {
         values[n] = reached_value(live[n], directions, least, most, column.at(n));
@@ -147,7 +147,7 @@ pub fn reached_values(
 }
 
 fn reached_value(asked: bool, directions: &[Compass], least: u32, most: u32, value: Value) -> Value
-    ensures { asked ≡ true → meant result ≡ spec.reached_of directions.now least most (meant value) }
+    ensures { asked ≡ true → as_value result ≡ spec.reached_of directions.now least most (as_value value) }
 {
     if asked {
         reached(directions, least, most, value)
@@ -165,7 +165,7 @@ pub fn pair_column(
     second: &FilterColumn,
     live: &[bool],
 ) -> Result<FilterColumn, NoMemory>
-    requires asked { AreAsked (tree_in scope.now) live.now }
+    requires asked { IsNodeSet (tree_in scope.now) live.now }
     ensures { IfOk result (λ c. IsColumn c live.now
         (λ n. spec.pair_of (node_at scope.now.game.now.nodes n).position.men pair (shown first.now n) (shown second.now n))) }
 {
@@ -190,13 +190,13 @@ pub fn pair_sets(
     second: &FilterColumn,
     live: &[bool],
 ) -> Result<Vec<u64>, NoMemory>
-    requires asked { AreAsked (tree_in scope.now) live.now }
+    requires asked { IsNodeSet (tree_in scope.now) live.now }
     ensures { IfOk result (λ sets. AreSets sets.items live.now (λ n. spec.as_squares (spec.has
         (spec.pair_of (node_at scope.now.game.now.nodes n).position.men pair (shown first.now n) (shown second.now n))))) }
 {
-    let end = asked_end(live, scope.game.len());
+    let end = live_node_end(live, scope.game.len());
     let mut sets = blank_sets(alloc, end as usize)?;
-    for n in first_asked(live, scope.game.len())..end {
+    for n in first_live_node(live, scope.game.len())..end {
         sets[n as usize] = pair_set(live[n as usize], pair, scope.game, first, second, n);
     }
     Ok(sets)
@@ -236,7 +236,7 @@ fn pair_truths(
     ensures { IfOk result (λ truths. (men : ℕ → List Man) → AreTruths truths.items live.now
         (λ n. spec.as_truth (is_true (spec.pair_of (men n) pair (shown first.now n) (shown second.now n))))) }
 {
-    let end = end_of(live);
+    let end = live_end(live);
     let mut truths = blank_truths(alloc, end)?;
     for n in first_live(live)..end {
         truths[n] = pair_truth(live[n], pair, first, second, n);
@@ -265,7 +265,7 @@ pub fn chain_values(
 ) -> Result<Vec<Value>, NoMemory>
     ensures { IfOk result (λ values. AreValues values.items live.now (λ n. spec.chain_of chain (all_shown columns.now n))) }
 {
-    let end = end_of(live);
+    let end = live_end(live);
     let mut values = blank_values(alloc, end)?;
     let mut row = Vec::with_capacity(alloc, columns.len())?;
     for n in first_live(live)..end {
@@ -281,7 +281,7 @@ fn chain_value(
     columns: &[FilterColumn],
     n: usize,
 ) -> Result<Value, NoMemory>
-    ensures { IfOk result (λ value. asked ≡ true → meant value ≡ spec.chain_of chain (all_shown columns.now n)) }
+    ensures { IfOk result (λ value. asked ≡ true → as_value value ≡ spec.chain_of chain (all_shown columns.now n)) }
 {
     if !asked {
         return Ok(Value::Truth(false));
@@ -299,7 +299,7 @@ pub fn any_values(
 ) -> Result<Vec<Value>, NoMemory>
     ensures { IfOk result (λ values. AreValues values.items live.now (λ n. spec.any_of kind (all_shown columns.now n))) }
 {
-    let end = end_of(live);
+    let end = live_end(live);
     let mut values = blank_values(alloc, end)?;
     let mut row = Vec::with_capacity(alloc, columns.len())?;
     for n in first_live(live)..end {
@@ -315,7 +315,7 @@ fn any_value(
     columns: &[FilterColumn],
     n: usize,
 ) -> Result<Value, NoMemory>
-    ensures { IfOk result (λ value. asked ≡ true → meant value ≡ spec.any_of kind (all_shown columns.now n)) }
+    ensures { IfOk result (λ value. asked ≡ true → as_value value ≡ spec.any_of kind (all_shown columns.now n)) }
 {
     if !asked {
         return Ok(Value::Truth(false));
@@ -326,7 +326,7 @@ fn any_value(
 
 // Writes the values of columns at a node in place of what was there.
 fn put_values(row: &mut Vec<Value>, columns: &[FilterColumn], n: usize) -> Result<(), NoMemory>
-    ensures { OnOk result (map meant row.new.items ≡ all_shown columns.now n) }
+    ensures { OnOk result (map as_value row.new.items ≡ all_shown columns.now n) }
 {
     row.clear();
     for column in columns {
@@ -343,7 +343,7 @@ pub fn sum_values(
 ) -> Result<Vec<Value>, NoMemory>
     ensures { IfOk result (λ values. AreValues values.items live.now (λ n. spec.total_of (terms_shown terms.now n))) }
 {
-    let end = end_of(live);
+    let end = live_end(live);
     let mut values = blank_values(alloc, end)?;
     let mut row = Vec::with_capacity(alloc, terms.len())?;
     for n in first_live(live)..end {
@@ -358,7 +358,7 @@ fn sum_value(
     terms: &[(bool, FilterColumn)],
     n: usize,
 ) -> Result<Value, NoMemory>
-    ensures { IfOk result (λ value. asked ≡ true → meant value ≡ spec.total_of (terms_shown terms.now n)) }
+    ensures { IfOk result (λ value. asked ≡ true → as_value value ≡ spec.total_of (terms_shown terms.now n)) }
 {
     if !asked {
         return Ok(Value::Truth(false));
@@ -373,7 +373,7 @@ fn put_terms(
     terms: &[(bool, FilterColumn)],
     n: usize,
 ) -> Result<(), NoMemory>
-    ensures { OnOk result (terms_meant row.new.items ≡ terms_shown terms.now n) }
+    ensures { OnOk result (terms_as_values row.new.items ≡ terms_shown terms.now n) }
 {
     row.clear();
     for term in terms {

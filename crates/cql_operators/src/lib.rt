@@ -6,7 +6,7 @@
 
 pub mod attacks;
 pub mod combine;
-pub mod elsewhere;
+pub mod from_other_nodes;
 pub mod narrow;
 pub mod nodes;
 pub mod patterns;

@@ -1,16 +1,16 @@
 //! Nodes that are taken out of a set by a column.
 ghost use Rattle.std.specs.Prelude.{◌≡◌, ◌&&◌, get_or, length, false, None, is_some, IfOk};
 ghost use Rattle.cql_syntax.specs.Values.{holds, amount};
-ghost use Rattle.cql_values.specs.Shown.{meant};
+ghost use Rattle.cql_values.specs.ValueModel.{as_value};
 ghost use Rattle.cql_values.specs.declared.value.Value.TheVariants.{Truth, Set, Number};
-ghost use Rattle.cql_columns.specs.Columns.{is_so, shown, AreAsked, AreKept, IsNarrowed, IsNumbered, IsPart};
+ghost use Rattle.cql_columns.specs.Columns.{is_as_wanted, shown, IsNodeSet, AreKept, IsNarrowed, IsNumbered, IsPart};
 ghost use Rattle.cql_columns.specs.Scopes.{tree_in};
 
 use cq_common::NoMemory;
 use cql_columns::filter_column::{FilterColumn, number_at, set_at, truth_at, value_at};
 use cql_columns::nodes::same;
 use cql_columns::scope::Scope;
-use cql_columns::spans::{end_of, first_live};
+use cql_columns::spans::{live_end, first_live};
 use cql_values::value::Value;
 use std::alloc::Global;
 
@@ -24,7 +24,7 @@ pub fn narrow(left: &mut [bool], column: &FilterColumn, want: bool)
         FilterColumn::Sets(sets) => keep_by_sets(left, sets, want),
         FilterColumn::Numbers(numbers) => keep_by_numbers(left, numbers, want),
         FilterColumn::Values(values) => keep_by_values(left, values, want),
-        FilterColumn::Same(value) => keep_if(left, value.holds() == want),
+        FilterColumn::Constant(value) => keep_if(left, value.holds() == want),
     }
 }
 
@@ -36,57 +36,57 @@ pub fn keep_true(left: &mut [bool], truths: &[bool])
 }
 
 fn keep_by_truths(left: &mut [bool], truths: &[bool], want: bool)
-    ensures { AreKept (λ n. is_so want (holds (meant (Truth (get_or truths.now n false))))) left.old left.new }
+    ensures { AreKept (λ n. is_as_wanted want (holds (as_value (Truth (get_or truths.now n false))))) left.old left.new }
 {
-    for n in first_live(left)..end_of(left) {
+    for n in first_live(left)..live_end(left) {
         left[n] = kept_by_truths(left[n], truths, n, want);
     }
 }
 
 fn kept_by_truths(asked: bool, truths: &[bool], n: usize, want: bool) -> bool
-    ensures { result ≡ (asked && is_so want (holds (meant (Truth (get_or truths.now n false))))) }
+    ensures { result ≡ (asked && is_as_wanted want (holds (as_value (Truth (get_or truths.now n false))))) }
 {
     asked && Value::Truth(truth_at(truths, n)).holds() == want
 }
 
 fn keep_by_sets(left: &mut [bool], sets: &[u64], want: bool)
-    ensures { AreKept (λ n. is_so want (holds (meant (Set (get_or sets.now n 0))))) left.old left.new }
+    ensures { AreKept (λ n. is_as_wanted want (holds (as_value (Set (get_or sets.now n 0))))) left.old left.new }
 {
-    for n in first_live(left)..end_of(left) {
+    for n in first_live(left)..live_end(left) {
         left[n] = kept_by_sets(left[n], sets, n, want);
     }
 }
 
 fn kept_by_sets(asked: bool, sets: &[u64], n: usize, want: bool) -> bool
-    ensures { result ≡ (asked && is_so want (holds (meant (Set (get_or sets.now n 0))))) }
+    ensures { result ≡ (asked && is_as_wanted want (holds (as_value (Set (get_or sets.now n 0))))) }
 {
     asked && Value::Set(set_at(sets, n)).holds() == want
 }
 
 fn keep_by_numbers(left: &mut [bool], numbers: &[Option<i64>], want: bool)
-    ensures { AreKept (λ n. is_so want (holds (meant (Number (get_or numbers.now n None))))) left.old left.new }
+    ensures { AreKept (λ n. is_as_wanted want (holds (as_value (Number (get_or numbers.now n None))))) left.old left.new }
 {
-    for n in first_live(left)..end_of(left) {
+    for n in first_live(left)..live_end(left) {
         left[n] = kept_by_numbers(left[n], numbers, n, want);
     }
 }
 
 fn kept_by_numbers(asked: bool, numbers: &[Option<i64>], n: usize, want: bool) -> bool
-    ensures { result ≡ (asked && is_so want (holds (meant (Number (get_or numbers.now n None))))) }
+    ensures { result ≡ (asked && is_as_wanted want (holds (as_value (Number (get_or numbers.now n None))))) }
 {
     asked && Value::Number(number_at(numbers, n)).holds() == want
 }
 
 fn keep_by_values(left: &mut [bool], values: &[Value], want: bool)
-    ensures { AreKept (λ n. is_so want (holds (meant (get_or values.now n (Truth false))))) left.old left.new }
+    ensures { AreKept (λ n. is_as_wanted want (holds (as_value (get_or values.now n (Truth false))))) left.old left.new }
 {
-    for n in first_live(left)..end_of(left) {
+    for n in first_live(left)..live_end(left) {
         left[n] = kept_by_values(left[n], values, n, want);
     }
 }
 
 fn kept_by_values(asked: bool, values: &[Value], n: usize, want: bool) -> bool
-    ensures { result ≡ (asked && is_so want (holds (meant (get_or values.now n (Truth false))))) }
+    ensures { result ≡ (asked && is_as_wanted want (holds (as_value (get_or values.now n (Truth false))))) }
 {
     asked && value_at(values, n).holds() == want
 }
@@ -96,7 +96,7 @@ pub fn keep_numbered(left: &mut [bool], column: &FilterColumn)
     ensures len { length left.new ≡ length left.old }
     ensures nodes { IsNumbered left.old column.now left.new }
 {
-    for n in first_live(left)..end_of(left) {
+    for n in first_live(left)..live_end(left) {
         left[n] = has_number(left[n], column, n);
     }
 }
@@ -138,7 +138,7 @@ pub fn part_of(
     column: &FilterColumn,
     want: bool,
 ) -> Result<Vec<bool>, NoMemory>
-    requires asked { AreAsked (tree_in scope.now) live.now }
+    requires asked { IsNodeSet (tree_in scope.now) live.now }
     ensures { IfOk result (λ left. IsPart (tree_in scope.now) live.now column.now want left.items) }
 {
     narrowed(alloc, live, column, want)

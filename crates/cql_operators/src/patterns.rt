@@ -4,7 +4,7 @@ ghost use Rattle.std.specs.List.{range_with_len};
 ghost use Rattle.cq_position.specs.Games.{IsTree, numbers};
 ghost use Rattle.cql_lines.specs.PatternTrees.{pattern_tree};
 ghost use Rattle.cql_lines.specs.Tables.{atoms_of, nodes_of, holds_in};
-ghost use Rattle.cql_lines.specs.Trees.{spots_of, goes_back, is_primary, limits_of};
+ghost use Rattle.cql_lines.specs.Trees.{tree_nodes_of, goes_back, is_primary, limits_of};
 ghost use Rattle.cql_syntax.specs.Meaning as meaning;
 ghost use Rattle.cql_syntax.specs.TreeOf.{body_tree, parts_tree};
 ghost use Rattle.cql_columns.specs.Columns.{is_live};
@@ -80,7 +80,7 @@ pub fn shape_of(
     extent: &Extent,
 ) -> Result<Shape, NoMemory>
     requires tree { IsTree scope.now.game.now.nodes }
-    ensures spots { IfOk result (λ shape. spots_of shape
+    ensures spots { IfOk result (λ shape. tree_nodes_of shape
         ≡ map (spot_at (tree_in scope.now)) (numbers scope.now.game.now.nodes)) }
     ensures way { IfOk result (λ shape.
         (goes_back shape ≡ back) × (is_primary shape ≡ primary) × (limits_of shape ≡ limits_in extent.now)) }
@@ -97,7 +97,7 @@ pub fn shape_of(
 fn limit(shape: &mut Shape, extent: &Extent)
     requires { limits_of shape.old ≡ None }
     ensures extent { limits_of shape.new ≡ limits_in extent.now }
-    ensures tree { (spots_of shape.new ≡ spots_of shape.old) × (goes_back shape.new ≡ goes_back shape.old)
+    ensures tree { (tree_nodes_of shape.new ≡ tree_nodes_of shape.old) × (goes_back shape.new ≡ goes_back shape.old)
         × (is_primary shape.new ≡ is_primary shape.old) }
 {
     match extent {
@@ -110,8 +110,8 @@ fn limit(shape: &mut Shape, extent: &Extent)
 fn push_node(shape: &mut Shape, scope: &Scope, k: u32) -> Result<(), NoMemory>
     requires tree { IsTree scope.now.game.now.nodes }
     requires node { k < length scope.now.game.now.nodes }
-    requires before { spots_of shape.old ≡ map (spot_at (tree_in scope.now)) (range_with_len 0 k) }
-    ensures more { OnOk result (spots_of shape.new ≡ map (spot_at (tree_in scope.now)) (range_with_len 0 (k + 1))) }
+    requires before { tree_nodes_of shape.old ≡ map (spot_at (tree_in scope.now)) (range_with_len 0 k) }
+    ensures more { OnOk result (tree_nodes_of shape.new ≡ map (spot_at (tree_in scope.now)) (range_with_len 0 (k + 1))) }
     ensures way { (goes_back shape.new ≡ goes_back shape.old) × (is_primary shape.new ≡ is_primary shape.old)
         × (limits_of shape.new ≡ limits_of shape.old) }
 {

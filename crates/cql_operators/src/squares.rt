@@ -2,8 +2,8 @@
 ghost use Rattle.std.specs.Prelude.{◌≡◌, ℕ, ◌<◌, ◌&&◌, length, get_or, true, false, not, IfOk, if◌then◌else◌};
 ghost use Rattle.cq_symmetry.specs.Images.{is_in};
 ghost use Rattle.cql_syntax.specs.Values as spec;
-ghost use Rattle.cql_values.specs.Shown.{meant};
-ghost use Rattle.cql_columns.specs.Asked.{AreHaving, AreLeftOpen, AreWanted};
+ghost use Rattle.cql_values.specs.ValueModel.{as_value};
+ghost use Rattle.cql_columns.specs.SquareTrials.{AreNodesWithSquare, AreLeftOpen, CoverSquares};
 ghost use Rattle.cql_values.specs.declared.value.Value.TheVariants.{Set};
 ghost use Rattle.cql_columns.specs.Columns.{shown, AreKept};
 
@@ -11,14 +11,14 @@ use cq_common::NoMemory;
 use cq_geometry::Square;
 use cql_columns::filter_column::{FilterColumn, set_at, truth_at};
 use cql_columns::nodes::same;
-use cql_columns::spans::{end_of, first_live};
+use cql_columns::spans::{live_end, first_live};
 use cql_values::sets::has_square;
 use cql_values::value::Value;
 use std::alloc::Global;
 
 /// Squares among which are those that a column has at the nodes of a set.
 pub fn wanted_squares(live: &[bool], squares: &FilterColumn) -> u64
-    ensures { AreWanted (shown squares.now) live.now result }
+    ensures { CoverSquares (shown squares.now) live.now result }
 {
     let mut wanted = 0;
     for n in 0..live.len() {
@@ -40,7 +40,7 @@ pub fn having(
     squares: &FilterColumn,
     square: Square,
 ) -> Result<Vec<bool>, NoMemory>
-    ensures { IfOk result (λ there. AreHaving (shown squares.now) square left.now there.items) }
+    ensures { IfOk result (λ there. AreNodesWithSquare (shown squares.now) square left.now there.items) }
 {
     let mut there = same(alloc, left)?;
     keep_having(&mut there, squares, square);
@@ -57,7 +57,7 @@ fn keep_having(there: &mut [bool], squares: &FilterColumn, square: Square)
 }
 
 fn keep_by_sets(there: &mut [bool], sets: &[u64], square: Square)
-    ensures { AreKept (λ n. spec.has (meant (Set (get_or sets.now n 0))) square) there.old there.new }
+    ensures { AreKept (λ n. spec.has (as_value (Set (get_or sets.now n 0))) square) there.old there.new }
 {
     for n in 0..there.len() {
         there[n] = has_in_sets(there[n], sets, square, n);
@@ -65,7 +65,7 @@ fn keep_by_sets(there: &mut [bool], sets: &[u64], square: Square)
 }
 
 fn has_in_sets(asked: bool, sets: &[u64], square: Square, n: usize) -> bool
-    ensures { result ≡ (asked && spec.has (meant (Set (get_or sets.now n 0))) square) }
+    ensures { result ≡ (asked && spec.has (as_value (Set (get_or sets.now n 0))) square) }
 {
     asked && has_one(Value::Set(set_at(sets, n)), square)
 }
@@ -85,7 +85,7 @@ fn has_there(asked: bool, squares: &FilterColumn, square: Square, n: usize) -> b
 }
 
 fn has_one(value: Value, square: Square) -> bool
-    ensures { result ≡ spec.has (meant value) square }
+    ensures { result ≡ spec.has (as_value value) square }
 {
     has_square(value.squares(), square)
 }
@@ -104,7 +104,7 @@ fn settle(every: bool, left: &mut [bool], there: &[bool], column: &FilterColumn)
     requires { length there.now ≡ length left.old }
     ensures { AreLeftOpen every (λ n. spec.holds (shown column.now n)) left.old there.now left.new }
 {
-    for n in first_live(there)..end_of(there) {
+    for n in first_live(there)..live_end(there) {
         left[n] = keeps(every, left[n], truth_at(there, n), column, n);
     }
 }

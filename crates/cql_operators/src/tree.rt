@@ -1,10 +1,10 @@
 //! Sets of nodes that follow the tree, for all nodes in one pass.
 ghost use Rattle.std.specs.Prelude.{◌≡◌, ℕ, ◌<◌, ◌&&◌, ◌||◌, length, get_or, replicate, false, IfOk};
 ghost use Rattle.cq_position.specs.Games.{IsTree, is_searched as is_searched_in, node_at};
-ghost use Rattle.cql_columns.specs.Columns.{AreAsked};
+ghost use Rattle.cql_columns.specs.Columns.{IsNodeSet};
 ghost use Rattle.cql_columns.specs.Scopes.{tree_in};
 ghost use Rattle.cql_operators.specs.SpelledParts.{AreOnward, AreReached};
-ghost use Rattle.cql_operators.specs.Trees.{IsBelowLive, IsAboveLive, AreChildrenOfLive, AreParentsOfLive, AreBeforeLive, is_below_live, flag_of, IsRaised, AreRaised, AreLowered, HasParents};
+ghost use Rattle.cql_operators.specs.Trees.{IsBelowLive, IsAboveLive, AreChildrenOfLive, AreParentsOfLive, AreBeforeLive, is_below_live, flag_of, AddsParent, AreWithAncestors, AreWithDescendants, HasParents};
 
 use cq_common::NoMemory;
 use cql_columns::filter_column::{blank_truths, truth_at};
@@ -17,7 +17,7 @@ use std::alloc::Global;
 /// The nodes that are asked for, and the searched nodes below them.
 pub fn below(alloc: Global, scope: &Scope, live: &[bool]) -> Result<Vec<bool>, NoMemory>
     requires tree { IsTree scope.now.game.now.nodes }
-    requires asked { AreAsked (tree_in scope.now) live.now }
+    requires asked { IsNodeSet (tree_in scope.now) live.now }
     ensures { IfOk result (λ wide. IsBelowLive (tree_in scope.now) live.now wide.items) }
 {
     let mut wide = blank_truths(alloc, scope.game.len() as usize)?;
@@ -46,10 +46,10 @@ fn is_flagged(node: Option<u32>, flags: &[bool]) -> bool
 }
 
 /// For each node whether a node of a set is that node or below it.
-pub fn raised(game: &Game, set: Vec<bool>) -> Vec<bool>
+pub fn with_ancestors(game: &Game, set: Vec<bool>) -> Vec<bool>
     requires tree { IsTree game.now.nodes }
     requires count { length set.items ≡ length game.now.nodes }
-    ensures { AreRaised game.now.nodes set.items result.items }
+    ensures { AreWithAncestors game.now.nodes set.items result.items }
 {
     let mut found = set;
     let count = game.len();
@@ -65,7 +65,7 @@ pub fn raised(game: &Game, set: Vec<bool>) -> Vec<bool>
 fn raise(found: &mut Vec<bool>, game: &Game, k: u32, there: bool)
     requires node { k < length game.now.nodes }
     requires count { length found.old.items ≡ length game.now.nodes }
-    ensures { IsRaised game.now.nodes k there found.old.items found.new.items }
+    ensures { AddsParent game.now.nodes k there found.old.items found.new.items }
 {
     if there {
         if let Some(parent) = game.parent(k) {
@@ -75,9 +75,9 @@ fn raise(found: &mut Vec<bool>, game: &Game, k: u32, there: bool)
 }
 
 /// For each node whether a node of a set is that node or on its way up.
-pub fn lowered(alloc: Global, game: &Game, set: &[bool]) -> Result<Vec<bool>, NoMemory>
+pub fn with_descendants(alloc: Global, game: &Game, set: &[bool]) -> Result<Vec<bool>, NoMemory>
     requires tree { IsTree game.now.nodes }
-    ensures { IfOk result (λ found. AreLowered game.now.nodes set.now found.items) }
+    ensures { IfOk result (λ found. AreWithDescendants game.now.nodes set.now found.items) }
 {
     let mut found = blank_truths(alloc, game.len() as usize)?;
     for k in 0..game.len() {
@@ -119,17 +119,17 @@ pub fn none(alloc: Global, game: &Game) -> Result<Vec<bool>, NoMemory>
 /// The nodes on the ways up from those that are asked for.
 pub fn above(alloc: Global, scope: &Scope, live: &[bool]) -> Result<Vec<bool>, NoMemory>
     requires tree { IsTree scope.now.game.now.nodes }
-    requires asked { AreAsked (tree_in scope.now) live.now }
+    requires asked { IsNodeSet (tree_in scope.now) live.now }
     ensures { IfOk result (λ wide. IsAboveLive (tree_in scope.now) live.now wide.items) }
 {
     let start = same(alloc, live)?;
-    Ok(raised(scope.game, start))
+    Ok(with_ancestors(scope.game, start))
 }
 
 /// The searched children of the nodes that are asked for.
 pub fn children(alloc: Global, scope: &Scope, live: &[bool]) -> Result<Vec<bool>, NoMemory>
     requires tree { IsTree scope.now.game.now.nodes }
-    requires asked { AreAsked (tree_in scope.now) live.now }
+    requires asked { IsNodeSet (tree_in scope.now) live.now }
     ensures { IfOk result (λ wide. AreChildrenOfLive (tree_in scope.now) live.now wide.items) }
 {
     let mut wide = blank_truths(alloc, scope.game.len() as usize)?;
@@ -151,7 +151,7 @@ fn is_child(scope: &Scope, live: &[bool], k: u32) -> bool
 /// The parents of the nodes that are asked for.
 pub fn parents(alloc: Global, scope: &Scope, live: &[bool]) -> Result<Vec<bool>, NoMemory>
     requires tree { IsTree scope.now.game.now.nodes }
-    requires asked { AreAsked (tree_in scope.now) live.now }
+    requires asked { IsNodeSet (tree_in scope.now) live.now }
     ensures { IfOk result (λ wide. AreParentsOfLive (tree_in scope.now) live.now wide.items) }
 {
     let start = none(alloc, scope.game)?;
@@ -159,9 +159,9 @@ pub fn parents(alloc: Global, scope: &Scope, live: &[bool]) -> Result<Vec<bool>,
 }
 
 /// The nodes before those that are asked for.
-pub fn befores(alloc: Global, scope: &Scope, live: &[bool]) -> Result<Vec<bool>, NoMemory>
+pub fn nodes_before(alloc: Global, scope: &Scope, live: &[bool]) -> Result<Vec<bool>, NoMemory>
     requires tree { IsTree scope.now.game.now.nodes }
-    requires asked { AreAsked (tree_in scope.now) live.now }
+    requires asked { IsNodeSet (tree_in scope.now) live.now }
     ensures { IfOk result (λ wide. AreBeforeLive (tree_in scope.now) live.now wide.items) }
 {
     let start = same(alloc, live)?;
@@ -188,7 +188,7 @@ pub fn onward(
     live: &[bool],
 ) -> Result<Vec<bool>, NoMemory>
     requires tree { IsTree scope.now.game.now.nodes }
-    requires asked { AreAsked (tree_in scope.now) live.now }
+    requires asked { IsNodeSet (tree_in scope.now) live.now }
     ensures { IfOk result (λ next. AreOnward (tree_in scope.now) back live.now next.items) }
 {
     if back {
@@ -207,7 +207,7 @@ pub fn reached(
     live: &[bool],
 ) -> Result<Vec<bool>, NoMemory>
     requires tree { IsTree scope.now.game.now.nodes }
-    requires asked { AreAsked (tree_in scope.now) live.now }
+    requires asked { IsNodeSet (tree_in scope.now) live.now }
     ensures { IfOk result (λ wide. AreReached (tree_in scope.now) back live.now wide.items) }
 {
     if back {

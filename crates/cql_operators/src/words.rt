@@ -4,17 +4,17 @@ ghost use Rattle.cq_position.specs.Games.{IsTree};
 ghost use Rattle.cql_syntax.specs.Meaning as meaning;
 ghost use Rattle.cql_syntax.specs.Values.{count};
 ghost use Rattle.cql_values.specs.Counts.{moves_on};
-ghost use Rattle.cql_values.specs.Shown.{meant};
-ghost use Rattle.cql_columns.specs.Columns.{AreAsked, AreValues};
+ghost use Rattle.cql_values.specs.ValueModel.{as_value};
+ghost use Rattle.cql_columns.specs.Columns.{IsNodeSet, AreValues};
 ghost use Rattle.cql_columns.specs.Scopes.{tree_in};
 
 use cq_common::NoMemory;
 use cql_columns::filter_column::blank_values;
 use cql_columns::scope::Scope;
-use cql_columns::spans::{asked_end, first_asked};
+use cql_columns::spans::{live_node_end, first_live_node};
 use cql_syntax::Plain;
 use cql_values::counts::counts;
-use cql_values::numbers::counted;
+use cql_values::numbers::count_value;
 use cql_values::value::Value;
 use cql_values::words::word_at;
 use std::alloc::Global;
@@ -27,7 +27,7 @@ pub fn word_values(
     live: &[bool],
 ) -> Result<Vec<Value>, NoMemory>
     requires tree { IsTree scope.now.game.now.nodes }
-    requires asked { AreAsked (tree_in scope.now) live.now }
+    requires asked { IsNodeSet (tree_in scope.now) live.now }
     ensures { IfOk result (λ values. AreValues values.items live.now (meaning.word_of (tree_in scope.now) word)) }
 {
     match word {
@@ -44,14 +44,14 @@ fn counted_values(
     live: &[bool],
 ) -> Result<Vec<Value>, NoMemory>
     requires tree { IsTree scope.now.game.now.nodes }
-    requires asked { AreAsked (tree_in scope.now) live.now }
+    requires asked { IsNodeSet (tree_in scope.now) live.now }
     ensures { IfOk result (λ values. AreValues values.items live.now (λ n. count (moves_on variations_alone scope.now.game.now.nodes n))) }
 {
     let counts = counts(alloc, scope.game, variations_alone)?;
-    let end = asked_end(live, scope.game.len());
+    let end = live_node_end(live, scope.game.len());
     let mut values = blank_values(alloc, end as usize)?;
-    for n in first_asked(live, scope.game.len())..end {
-        values[n as usize] = counted(counts[n as usize]);
+    for n in first_live_node(live, scope.game.len())..end {
+        values[n as usize] = count_value(counts[n as usize]);
     }
     Ok(values)
 }
@@ -63,12 +63,12 @@ fn values_one_by_one(
     live: &[bool],
 ) -> Result<Vec<Value>, NoMemory>
     requires tree { IsTree scope.now.game.now.nodes }
-    requires asked { AreAsked (tree_in scope.now) live.now }
+    requires asked { IsNodeSet (tree_in scope.now) live.now }
     ensures { IfOk result (λ values. AreValues values.items live.now (meaning.word_of (tree_in scope.now) word)) }
 {
-    let end = asked_end(live, scope.game.len());
+    let end = live_node_end(live, scope.game.len());
     let mut values = blank_values(alloc, end as usize)?;
-    for n in first_asked(live, scope.game.len())..end {
+    for n in first_live_node(live, scope.game.len())..end {
         values[n as usize] = word_value(alloc, live[n as usize], word, scope, n)?;
     }
     Ok(values)
@@ -83,7 +83,7 @@ fn word_value(
 ) -> Result<Value, NoMemory>
     requires tree { IsTree scope.now.game.now.nodes }
     requires node { n < length scope.now.game.now.nodes }
-    ensures { IfOk result (λ value. asked ≡ true → meant value ≡ meaning.word_of (tree_in scope.now) word n) }
+    ensures { IfOk result (λ value. asked ≡ true → as_value value ≡ meaning.word_of (tree_in scope.now) word n) }
 {
     if asked {
         word_at(alloc, word, scope.game, scope.variations, n)

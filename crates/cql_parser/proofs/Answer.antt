@@ -2,12 +2,12 @@
 use Rattle.std.proofs.Common.{◌≡◌, ℕ, List, [], ◌∷◌, ◌++◌, refl, sym, ap, ap₂, ◌∙◌, subst}
 use Rattle.cql_syntax.specs.Trees.{QueryTree}
 use Rattle.cql_syntax.specs.declared.token.QueryToken.{QueryToken}
-use Rattle.cql_parser.specs.Grammar.{Items, Begins}
-use Rattle.cql_parser.specs.Drafts.{query_of, opening, Spells}
-use Rattle.cql_parser.specs.Machine.{Opening, Reading, Done, Deep, Stuck, feed, begun, written}
+use Rattle.cql_parser.specs.Grammar.{Items, IsGrammaticalPrefix}
+use Rattle.cql_parser.specs.PartialFilters.{query_of, opening, Spells}
+use Rattle.cql_parser.specs.Internal.Machine.{Opening, Reading, Done, Deep, Stuck, feed, begun, written}
 use Rattle.cql_parser.proofs.Begun.{Lives, alive}
 use Rattle.cql_parser.proofs.Read.{St, go, go_append, query_read}
-use Rattle.cql_parser.proofs.Told.{Stands, told}
+use Rattle.cql_parser.proofs.ReadIsWritten.{Stands, told}
 
 -- a token list is written in one way
 abbrev IsDone : List QueryToken → Items → St → Type 0
@@ -37,19 +37,19 @@ deep_stays l (x ∷ ts) = deep_stays l ts
 
 never_done : (l : ℕ) (ts : List QueryToken) (s : St) → go l (begun written) ts ≡ s
     → ((more_ : List QueryToken) → go l s more_ ≡ s) → ((h : List QueryToken) (b : Items) → s ≡ Done h b → ⊥)
-    → Begins l ts → ⊥
+    → IsGrammaticalPrefix l ts → ⊥
 never_done l ts s is stays undone b =
     undone b.query.opening b.query.items
     (sym (stays b.rest) ∙ ap (λ u. go l u b.rest) (sym is) ∙ sym (go_append l (begun written) ts b.rest)
     ∙ query_read l (ts ++ b.rest) b.query)
 
-pub stuck_is_dead : (l : ℕ) (ts : List QueryToken) → go l (begun written) ts ≡ Stuck → Begins l ts → ⊥
+pub stuck_is_dead : (l : ℕ) (ts : List QueryToken) → go l (begun written) ts ≡ Stuck → IsGrammaticalPrefix l ts → ⊥
 stuck_is_dead l ts is = never_done l ts Stuck is (stuck_stays l) (λ h b e. cc)
 
-pub deep_is_dead : (l : ℕ) (ts : List QueryToken) → go l (begun written) ts ≡ Deep → Begins l ts → ⊥
+pub deep_is_dead : (l : ℕ) (ts : List QueryToken) → go l (begun written) ts ≡ Deep → IsGrammaticalPrefix l ts → ⊥
 deep_is_dead l ts is = never_done l ts Deep is (deep_stays l) (λ h b e. cc)
 
-pub living_begins : (l : ℕ) (ts : List QueryToken) → Lives (go l (begun written) ts) → Begins l ts
+pub living_begins : (l : ℕ) (ts : List QueryToken) → Lives (go l (begun written) ts) → IsGrammaticalPrefix l ts
 living_begins l ts live = alive l ts (go l (begun written) ts) (told l ts) live
 
 pub done_spells : (l : ℕ) (ts : List QueryToken) (h : List QueryToken) (b : Items) → go l (begun written) ts ≡ Done h b

@@ -5,23 +5,23 @@ use Rattle.cql_syntax.specs.Words.{word_of, sign_of}
 use Rattle.cql_syntax.specs.declared.token.QueryToken.{QueryToken}
 use Rattle.cql_syntax.specs.declared.token.QueryTokenKind.{QueryTokenKind}
 use Rattle.cql_syntax.specs.declared.token.QueryTokenKind.TheVariants as tokens
-use Rattle.cql_parser.specs.declared.place.Context.{Context}
-use Rattle.cql_parser.specs.declared.place.Context.TheVariants.{Within}
-use Rattle.cql_parser.specs.declared.place.Heading.{Heading}
-use Rattle.cql_parser.specs.declared.place.Heading.TheVariants.{Start, ListDue, Params, FileDue, MatchDue, Over}
-use Rattle.cql_parser.specs.declared.place.Place.{Place}
-use Rattle.cql_parser.specs.declared.place.Place.TheVariants.{Leaf}
-use Rattle.cql_parser.specs.declared.role.Joint.{Joint}
-use Rattle.cql_parser.specs.declared.role.Joint.TheVariants.{Chained, Added, Paired}
+use Rattle.cql_parser.specs.declared.rule_state.OperandContext.{OperandContext}
+use Rattle.cql_parser.specs.declared.rule_state.OperandContext.TheVariants.{Within}
+use Rattle.cql_parser.specs.declared.rule_state.HeadState.{HeadState}
+use Rattle.cql_parser.specs.declared.rule_state.HeadState.TheVariants.{Start, ListDue, Params, FileDue, MatchDue, Over}
+use Rattle.cql_parser.specs.declared.rule_state.RuleState.{RuleState}
+use Rattle.cql_parser.specs.declared.rule_state.RuleState.TheVariants.{Leaf}
+use Rattle.cql_parser.specs.declared.role.InfixOperator.{InfixOperator}
+use Rattle.cql_parser.specs.declared.role.InfixOperator.TheVariants.{Chained, Added, Paired}
 use Rattle.cql_syntax.specs.declared.leaves.Chain.TheVariants as chains
 use Rattle.cql_syntax.specs.declared.leaves.Pair.TheVariants as pairs
 use Rattle.cql_parser.specs.declared.role.Role.TheVariants.{End}
-use Rattle.cql_parser.specs.Places.{role, heads, opens, goes, context, least, next, whole, level_of, depth_of, joint_level, takes, spot}
-use Rattle.cql_parser.specs.Grammar.{Phrase, made, joined, Parts, first, add, put, root, end, Items, none, more, text, texts, items_text, head_of, level, IsOver, AreOver, Fits, Goes, AllFit, head_step, heading, Written, Begins}
-use Rattle.cql_parser.specs.Machine.{InRule, Joining, Opening, Reading, Done, Deep, Stuck, depth, due, around, written}
+use Rattle.cql_parser.specs.RuleStates.{role, heads, opens, goes, context, least, next, whole, level_of, depth_of, infix_level, takes, spot}
+use Rattle.cql_parser.specs.Grammar.{Phrase, made, joined, Parts, first, add, put, root, end, Items, none, more, text, texts, items_text, head_of, level, IsOver, AreOver, Fits, Goes, AllFit, head_step, heading, IsGrammatical, IsGrammaticalPrefix}
+use Rattle.cql_parser.specs.Internal.Machine.{InRule, Joining, Opening, Reading, Done, Deep, Stuck, depth, due, around, written}
 use Rattle.cql_parser.proofs.Exits.{Exit, ended, by_token, by_check, exit, rank, check, IsExit, is_exit, Quiet, q_check, q_end, quiet_role, quiet_joins, quiet_goes, IsQuiet, quiet_exit}
 use Rattle.cql_parser.proofs.Read.{Frames, St}
-use Rattle.cql_parser.proofs.Told.{Stands, Good, Has, Under, stack_text, one_more, two_more, regroup, joined_text, end_text}
+use Rattle.cql_parser.proofs.ReadIsWritten.{Stands, Good, Has, Under, stack_text, one_more, two_more, regroup, joined_text, end_text}
 
 abbrev token : QueryTokenKind → QueryToken
 token kind = record { at = 0; kind = kind }
@@ -43,22 +43,22 @@ end_role = refl
 
 -- quiet tokens belong to nothing that is whole
 mutual
-  pub over_quiet : (l n : ℕ) (c : Context) (p : Phrase) (q : Quiet) → Fits l n c p → IsOver p (quiet_role q)
+  pub over_quiet : (l n : ℕ) (c : OperandContext) (p : Phrase) (q : Quiet) → Fits l n c p → IsOver p (quiet_role q)
   over_quiet l n c (made ps) q fits = (are_quiet l n c ps q fits.0, quiet_goes (end ps) q fits.1)
-  over_quiet l n c (joined p x j r) q fits = (over_quiet l n Within r q fits.5, quiet_joins (joint_level j + 1) q)
+  over_quiet l n c (joined p x j r) q fits = (over_quiet l n Within r q fits.5, quiet_joins (infix_level j + 1) q)
 
-  pub are_quiet : (l n : ℕ) (c : Context) (ps : Parts) (q : Quiet) → Goes l n c ps → AreOver ps (quiet_role q)
+  pub are_quiet : (l n : ℕ) (c : OperandContext) (ps : Parts) (q : Quiet) → Goes l n c ps → AreOver ps (quiet_role q)
   are_quiet l n c (first x s) q goes_ = tt
   are_quiet l n c (add ps x s) q goes_ = tt
   are_quiet l n c (put ps p s) q goes_ =
       (over_quiet l (n + depth_of (root ps)) (context (end ps)) p q goes_.6, quiet_joins (least (end ps)) q)
 
-few : (l n : ℕ) (c : Context) (ps : Parts) → Goes l n c ps → n + depth_of (root ps) ≤ l
+few : (l n : ℕ) (c : OperandContext) (ps : Parts) → Goes l n c ps → n + depth_of (root ps) ≤ l
 few l n c (first x s) goes_ = goes_.1
 few l n c (add ps x s) goes_ = few l n c ps goes_.2
 few l n c (put ps p s) goes_ = few l n c ps goes_.5
 
-check_fits : (l n : ℕ) (c : Context) → opens c check ≡ Some Leaf → n ≤ l → Fits l n c check_phrase
+check_fits : (l n : ℕ) (c : OperandContext) → opens c check ≡ Some Leaf → n ≤ l → Fits l n c check_phrase
 unfolding depth_of whole spot
 check_fits l n c opens_ low = ((ap (opens c) check_role ∙ opens_, (let h : n ≤ l = low in omega arith)), refl)
 
@@ -67,7 +67,7 @@ unfolding level_of spot
 check_level = refl
 
 -- a rule at its end that begins with given parts
-pub record Ended (l n : ℕ) (c : Context) (ps : Parts) : Type 0 where
+pub record Ended (l n : ℕ) (c : OperandContext) (ps : Parts) : Type 0 where
   pub parts : Parts
   pub goes_ : Goes l n c parts
   pub is_whole : whole (end parts) ≡ true
@@ -76,7 +76,7 @@ pub record Ended (l n : ℕ) (c : Context) (ps : Parts) : Type 0 where
   pub same_root : root parts ≡ root ps
   pub same_head : head_of parts ≡ head_of ps
 
-ended_after : (l n : ℕ) (c : Context) (ps qs : Parts) (more_ : List QueryToken) → texts qs ≡ texts ps ++ more_ → root qs ≡ root ps
+ended_after : (l n : ℕ) (c : OperandContext) (ps qs : Parts) (more_ : List QueryToken) → texts qs ≡ texts ps ++ more_ → root qs ≡ root ps
     → head_of qs ≡ head_of ps → Ended l n c qs → Ended l n c ps
 ended_after l n c ps qs more_ longer root_ head_ e = record {
   parts = e.parts;
@@ -89,7 +89,7 @@ ended_after l n c ps qs more_ longer root_ head_ e = record {
 }
 
 -- the token by which a rule goes on belongs to nothing before
-exit_over : (l n : ℕ) (c : Context) (ps : Parts) (t : QueryTokenKind) (p : Place) → Goes l n c ps → exit (end ps) ≡ by_token t p
+exit_over : (l n : ℕ) (c : OperandContext) (ps : Parts) (t : QueryTokenKind) (p : RuleState) → Goes l n c ps → exit (end ps) ≡ by_token t p
     → AreOver ps (role t)
 exit_over l n c (first x s) t p goes_ is = tt
 exit_over l n c (add ps x s) t p goes_ is = tt
@@ -97,7 +97,7 @@ exit_over l n c (put ps a s) t p goes_ is =
     let quiet : IsQuiet (by_token t p) = subst IsQuiet (ap exit goes_.0 ∙ is) (quiet_exit (end ps)) in
     subst (AreOver (put ps a s)) (sym quiet.1) (are_quiet l n c (put ps a s) quiet.0 goes_)
 
-end_by : (fuel l n : ℕ) (c : Context) (ps : Parts) (e : Exit) → Goes l n c ps → rank (end ps) ≤ fuel → exit (end ps) ≡ e
+end_by : (fuel l n : ℕ) (c : OperandContext) (ps : Parts) (e : Exit) → Goes l n c ps → rank (end ps) ≤ fuel → exit (end ps) ≡ e
     → IsExit (end ps) e → Ended l n c ps
 end_by fuel l n c ps ended goes_ low is ok = record {
   parts = ps;
@@ -132,11 +132,11 @@ end_by (suc fuel) l n c ps by_check goes_ low is ok =
     ended_after l n c ps (put ps check_phrase (next (end ps))) (check_token ∷ []) refl refl refl
     (end_by fuel l n c (put ps check_phrase (next (end ps))) (exit (next (end ps))) longer less refl (is_exit (next (end ps))))
 
-pub end_parts : (l n : ℕ) (c : Context) (ps : Parts) → Goes l n c ps → Ended l n c ps
+pub end_parts : (l n : ℕ) (c : OperandContext) (ps : Parts) → Goes l n c ps → Ended l n c ps
 end_parts l n c ps goes_ = end_by (rank (end ps)) l n c ps (exit (end ps)) goes_ (omega arith) refl (is_exit (end ps))
 
-pub begins_less : (l : ℕ) (ts more_ : List QueryToken) → Begins l (ts ++ more_) → Begins l ts
-begins_less l ts more_ b = record { rest = more_ ++ b.rest; query = subst (Written l) (append_assoc ts more_ b.rest) b.query }
+pub begins_less : (l : ℕ) (ts more_ : List QueryToken) → IsGrammaticalPrefix l (ts ++ more_) → IsGrammaticalPrefix l ts
+begins_less l ts more_ b = record { rest = more_ ++ b.rest; query = subst (IsGrammatical l) (append_assoc ts more_ b.rest) b.query }
 
 -- what follows where a rule is at its end
 rule_ends : (l : ℕ) (h : List QueryToken) (b : Items) (d : Parts) (k : Frames) (ts : List QueryToken) → heading h ≡ Some Over
@@ -156,7 +156,7 @@ rule_ends l h b d k ts heads_ all good low under spelled e = record {
 }
 
 pub finish : (l : ℕ) (h : List QueryToken) (b : Items) (v : ℕ) (p : Phrase) (k : Frames) (ts : List QueryToken) → Has l h b v p k ts
-    → Begins l ts
+    → IsGrammaticalPrefix l ts
 finish l h b v p [] ts has = record {
   rest = token tokens.End ∷ [];
   query = record {
@@ -173,8 +173,8 @@ finish l h b v p [] ts has = record {
 }
 finish l h b v p (Joining e f y j ∷ k) ts has =
     let g = has.good.0 in
-    let upper : joint_level j < level p = (let u : joint_level j + 1 ≤ level p = has.low in omega arith) in
-    finish l h b (joint_level j) (joined f y j p) k ts (record {
+    let upper : infix_level j < level p = (let u : infix_level j + 1 ≤ level p = has.low in omega arith) in
+    finish l h b (infix_level j) (joined f y j p) k ts (record {
       heads_ = has.heads_;
       all = has.all;
       good = has.good.1;
@@ -199,12 +199,12 @@ check_opens : opens Within check ≡ Some Leaf
 unfolding opens
 check_opens = refl
 
-head_append : (ts more_ : List QueryToken) (o : Option Heading)
+head_append : (ts more_ : List QueryToken) (o : Option HeadState)
     → fold head_step o (ts ++ more_) ≡ fold head_step (fold head_step o ts) more_
 head_append [] more_ o = refl
 head_append (t ∷ ts) more_ o = head_append ts more_ (head_step o t)
 
-abbrev head_rest : Heading → List QueryToken
+abbrev head_rest : HeadState → List QueryToken
 head_rest Start = token (tokens.Word 0) ∷ token (tokens.Mark 15) ∷ token (tokens.Mark 16) ∷ []
 head_rest ListDue = token (tokens.Mark 15) ∷ token (tokens.Mark 16) ∷ []
 head_rest Params = token (tokens.Mark 16) ∷ []
@@ -212,7 +212,7 @@ head_rest FileDue = token (tokens.Text []) ∷ token (tokens.Mark 16) ∷ []
 head_rest MatchDue = token (tokens.Text []) ∷ token (tokens.Mark 16) ∷ []
 head_rest Over = []
 
-head_rest_over : (place : Heading) → fold head_step (Some place) (head_rest place) ≡ Some Over
+head_rest_over : (place : HeadState) → fold head_step (Some place) (head_rest place) ≡ Some Over
 unfolding heads role word_of sign_of
 head_rest_over Start = refl
 head_rest_over ListDue = refl
@@ -229,8 +229,8 @@ Lives (Done h b) = Unit {0}
 Lives Deep = ⊥
 Lives Stuck = ⊥
 
-joint_few : (j : Joint) → joint_level j + 1 ≤ 10
-unfolding joint_level
+joint_few : (j : InfixOperator) → infix_level j + 1 ≤ 10
+unfolding infix_level
 joint_few (Chained chains.Or) = omega arith
 joint_few (Chained chains.And) = omega arith
 joint_few (Chained chains.All) = omega arith
@@ -269,7 +269,7 @@ check_has l h b k ts heads_ all good within low under spelled = record {
   spelled = one_more h (items_text b) (stack_text k) ts (check_token ∷ []) spelled;
 }
 
-pub alive : (l : ℕ) (ts : List QueryToken) (s : St) → Stands l ts s → Lives s → Begins l ts
+pub alive : (l : ℕ) (ts : List QueryToken) (s : St) → Stands l ts s → Lives s → IsGrammaticalPrefix l ts
 alive l ts (Opening h place) good live =
     let over : heading (h ++ head_rest place) ≡ Some Over =
     head_append h (head_rest place) (Some Start) ∙ ap (λ o. fold head_step o (head_rest place)) good.1 ∙ head_rest_over place in
@@ -290,6 +290,6 @@ alive l ts (Reading h b (InRule d ∷ k)) good live =
     begins_less l ts e.rest
     (finish l h b (level_of (root e.parts)) (made e.parts) k (ts ++ e.rest)
     (rule_ends l h b d k ts good.heads_ good.fits good.good.1 g.low g.under good.spelled e))
-alive l ts (Done h b) good live = record { rest = []; query = subst (Written l) (sym (append-nil ts)) good.query }
+alive l ts (Done h b) good live = record { rest = []; query = subst (IsGrammatical l) (sym (append-nil ts)) good.query }
 alive l ts Deep good live = absurd live
 alive l ts Stuck good live = absurd live

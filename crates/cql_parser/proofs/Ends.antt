@@ -2,22 +2,22 @@
 use Rattle.std.proofs.Common.{◌≡◌, ℕ, ◌+◌, List, [], ◌∷◌, ◌++◌, None, Bool, true, false, refl, sym, ap, ◌∙◌, subst}
 use Rattle.cql_syntax.specs.declared.token.QueryToken.{QueryToken}
 use Rattle.cql_syntax.specs.declared.token.QueryTokenKind.TheVariants as tokens
-use Rattle.cql_parser.specs.declared.place.Context.{Context}
-use Rattle.cql_parser.specs.declared.place.Context.TheVariants.{Within, NoNumber, Along, Nowhere}
-use Rattle.cql_parser.specs.declared.place.Heading.{Heading}
-use Rattle.cql_parser.specs.declared.place.Heading.TheVariants.{Start, ListDue, Params, FileDue, MatchDue, Over}
-use Rattle.cql_parser.specs.declared.place.Place.{Place}
-use Rattle.cql_parser.specs.declared.place.Place.TheVariants.{Leaf, ResultDue, PlayerDue, TextDue, EloDue, Pre, PreDone, FindDue, Condition, ThenDue, Consequence, ElseDue, AllDue, NameDue, InDue, SquaresDue, MinDue, SortText, Tight, TightDone, Direction, OneNumber, TwoNumbers, BetweenOpen, BetweenFirst, BetweenSecond, BetweenClose, ListOpen, ListFirst, ListSecond, ListMore, Parens, ParensClose, Braces, BracesMore, Closed, LineStart, LineExtent, LineMost, LineArrow, Move, Origin, MovedFrom, Goal, MovedTo, Taken, MovedTaking, Promoted, Part, Bare, Count, Counted, UpTo, UpEnd, Marked}
+use Rattle.cql_parser.specs.declared.rule_state.OperandContext.{OperandContext}
+use Rattle.cql_parser.specs.declared.rule_state.OperandContext.TheVariants.{Within, NoNumber, LinePart, NoOperand}
+use Rattle.cql_parser.specs.declared.rule_state.HeadState.{HeadState}
+use Rattle.cql_parser.specs.declared.rule_state.HeadState.TheVariants.{Start, ListDue, Params, FileDue, MatchDue, Over}
+use Rattle.cql_parser.specs.declared.rule_state.RuleState.{RuleState}
+use Rattle.cql_parser.specs.declared.rule_state.RuleState.TheVariants.{Leaf, ResultDue, PlayerDue, TextDue, EloDue, Pre, PreDone, FindDue, Condition, ThenDue, Consequence, ElseDue, AllDue, NameDue, InDue, SquaresDue, MinDue, SortText, Tight, TightDone, Direction, OneNumber, TwoNumbers, BetweenOpen, BetweenFirst, BetweenSecond, BetweenClose, ListOpen, ListFirst, ListSecond, ListMore, Parens, ParensClose, Braces, BracesMore, Closed, LineStart, LineExtent, LineMost, LineArrow, Move, Origin, MovedFrom, Goal, MovedTo, Taken, MovedTaking, Promoted, Part, Bare, Count, Counted, UpTo, UpEnd, Marked}
 use Rattle.cql_parser.specs.declared.role.Role.TheVariants.{End}
-use Rattle.cql_parser.specs.Places.{role, heads, opens, goes, least, next, whole, level_of, joint, joint_level, joins}
+use Rattle.cql_parser.specs.RuleStates.{role, heads, opens, goes, least, next, whole, level_of, joint, infix_level, joins}
 use Rattle.cql_parser.specs.Grammar.{Phrase, made, joined, Parts, put, root, end, Items, more}
 use Rattle.cql_parser.specs.Faults.{IsEnded}
-use Rattle.cql_parser.specs.Machine.{InRule, Joining, Opening, Reading, Done, Deep, Stuck, around, choose, begin_at, start, join, after_item, onward_by, onward, after, head_to, feed, begun, written}
+use Rattle.cql_parser.specs.Internal.Machine.{InRule, Joining, Opening, Reading, Done, Deep, Stuck, around, choose, begin_at, start, join, after_item, onward_by, onward, after, head_to, feed, begun, written}
 use Rattle.cql_parser.proofs.Begun.{Lives}
 use Rattle.cql_parser.proofs.Exits.{q_end, quiet_joins}
 use Rattle.cql_parser.proofs.Read.{Frames, St, go}
 
-goes_end : (s : Place) → goes s End ≡ None
+goes_end : (s : RuleState) → goes s End ≡ None
 unfolding goes
 goes_end Leaf = refl
 goes_end ResultDue = refl
@@ -77,14 +77,14 @@ goes_end (UpEnd g b) = refl
 goes_end (Marked true b) = refl
 goes_end (Marked false b) = refl
 
-opens_end : (c : Context) → opens c End ≡ None
+opens_end : (c : OperandContext) → opens c End ≡ None
 unfolding opens
-opens_end Nowhere = refl
+opens_end NoOperand = refl
 opens_end NoNumber = refl
-opens_end (Along b) = refl
+opens_end (LinePart b) = refl
 opens_end Within = refl
 
-heads_end : (place : Heading) → heads place End ≡ None
+heads_end : (place : HeadState) → heads place End ≡ None
 unfolding heads
 heads_end Start = refl
 heads_end ListDue = refl
@@ -123,9 +123,9 @@ after_halts : (l : ℕ) (h : List QueryToken) (b : Items) (v : ℕ) (p : Phrase)
 unfolding after
 after_halts l h b v p [] x = passes 0 (join written h b v p [] x (joint End)) (after_item written l h (more b p) x End) tt
 after_halts l h b v p (Joining e f y j ∷ k) x =
-    passes (joint_level j + 1) (join written h b v p (Joining e f y j ∷ k) x (joint End))
-    (after written l h b (joint_level j) (joined f y j p) k x End)
-    (after_halts l h b (joint_level j) (joined f y j p) k x)
+    passes (infix_level j + 1) (join written h b v p (Joining e f y j ∷ k) x (joint End))
+    (after written l h b (infix_level j) (joined f y j p) k x End)
+    (after_halts l h b (infix_level j) (joined f y j p) k x)
 after_halts l h b v p (InRule d ∷ k) x =
     let d' = put d p (next (end d)) in
     passes (least (end d)) (join written h b v p (InRule d ∷ k) x (joint End))

@@ -7,19 +7,19 @@ use Rattle.cql_syntax.specs.declared.token.QueryTokenKind.{QueryTokenKind}
 use Rattle.cql_syntax.specs.declared.token.QueryTokenKind.TheVariants as tokens
 use Rattle.cql_syntax.specs.declared.words.Sign.TheVariants as signs
 use Rattle.cql_syntax.specs.declared.words.Word.TheVariants as meanings
-use Rattle.cql_parser.specs.declared.place.Place.{Place}
-use Rattle.cql_parser.specs.declared.place.Place.TheVariants.{Leaf, ResultDue, PlayerDue, TextDue, EloDue, Pre, PreDone, FindDue, Condition, ThenDue, Consequence, ElseDue, AllDue, NameDue, InDue, SquaresDue, MinDue, SortText, Tight, TightDone, Direction, OneNumber, TwoNumbers, BetweenOpen, BetweenFirst, BetweenSecond, BetweenClose, ListOpen, ListFirst, ListSecond, ListMore, Parens, ParensClose, Braces, BracesMore, Closed, LineStart, LineExtent, LineMost, LineArrow, Move, Origin, MovedFrom, Goal, MovedTo, Taken, MovedTaking, Promoted, Part, Bare, Count, Counted, UpTo, UpEnd, Marked}
+use Rattle.cql_parser.specs.declared.rule_state.RuleState.{RuleState}
+use Rattle.cql_parser.specs.declared.rule_state.RuleState.TheVariants.{Leaf, ResultDue, PlayerDue, TextDue, EloDue, Pre, PreDone, FindDue, Condition, ThenDue, Consequence, ElseDue, AllDue, NameDue, InDue, SquaresDue, MinDue, SortText, Tight, TightDone, Direction, OneNumber, TwoNumbers, BetweenOpen, BetweenFirst, BetweenSecond, BetweenClose, ListOpen, ListFirst, ListSecond, ListMore, Parens, ParensClose, Braces, BracesMore, Closed, LineStart, LineExtent, LineMost, LineArrow, Move, Origin, MovedFrom, Goal, MovedTo, Taken, MovedTaking, Promoted, Part, Bare, Count, Counted, UpTo, UpEnd, Marked}
 use Rattle.cql_parser.specs.declared.role.Role.{Role}
 use Rattle.cql_parser.specs.declared.role.Role.TheVariants.{Word, Sign, End}
-use Rattle.cql_parser.specs.Places.{role, opens, goes, context, least, next, whole, joint, joins, spot}
+use Rattle.cql_parser.specs.RuleStates.{role, opens, goes, context, least, next, whole, joint, joins, spot}
 
 -- it is at its end, or goes on with a token, or with `check`
 pub data Exit : Type 0 where
   ended : Exit
-  by_token : QueryTokenKind → Place → Exit
+  by_token : QueryTokenKind → RuleState → Exit
   by_check : Exit
 
-abbrev pub exit : Place → Exit
+abbrev pub exit : RuleState → Exit
 exit Leaf = ended
 exit ResultDue = by_token (tokens.Outcome outcomes.Unfinished) Leaf
 exit PlayerDue = by_token (tokens.Text []) Leaf
@@ -79,7 +79,7 @@ exit (Marked true b) = by_token (tokens.Mark 16) Closed
 exit (Marked false b) = ended
 
 -- how many steps that takes at most
-abbrev pub rank : Place → ℕ
+abbrev pub rank : RuleState → ℕ
 rank Leaf = 0
 rank ResultDue = 1
 rank PlayerDue = 1
@@ -141,13 +141,13 @@ rank (Marked false b) = 0
 abbrev pub check : Role
 check = Word (meanings.Plain plains.Check)
 
-abbrev pub IsExit : Place → Exit → Type 0
+abbrev pub IsExit : RuleState → Exit → Type 0
 IsExit s ended = whole s ≡ true
 IsExit s (by_token t p) = (goes s (role t) ≡ Some p) × (rank p < rank s)
 IsExit s by_check = (opens (context s) check ≡ Some Leaf) × (least s ≤ 10) × (whole s ≡ false) × (goes s check ≡ None)
     × (rank (next s) < rank s)
 
-pub is_exit : (s : Place) → IsExit s (exit s)
+pub is_exit : (s : RuleState) → IsExit s (exit s)
 unfolding goes opens context least next whole role word_of sign_of spot
 is_exit Leaf = refl
 is_exit ResultDue = (refl, omega arith)
@@ -238,7 +238,7 @@ quiet_joins n q_brace = refl
 quiet_joins n q_check = refl
 quiet_joins n q_end = refl
 
-pub quiet_goes : (s : Place) (q : Quiet) → whole s ≡ true → goes s (quiet_role q) ≡ None
+pub quiet_goes : (s : RuleState) (q : Quiet) → whole s ≡ true → goes s (quiet_role q) ≡ None
 unfolding goes whole spot
 quiet_goes Leaf q is = refl
 quiet_goes ResultDue q is = absurd cc
@@ -351,7 +351,7 @@ IsQuiet ended = Unit {0}
 IsQuiet (by_token t p) = (q : Quiet) × (role t ≡ quiet_role q)
 IsQuiet by_check = Unit {0}
 
-pub quiet_exit : (s : Place) → IsQuiet (exit (next s))
+pub quiet_exit : (s : RuleState) → IsQuiet (exit (next s))
 unfolding next role word_of sign_of spot
 quiet_exit Leaf = tt
 quiet_exit ResultDue = tt

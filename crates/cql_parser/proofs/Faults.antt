@@ -8,15 +8,15 @@ use Rattle.cql_syntax.specs.declared.fault.QueryReason.{QueryReason}
 use Rattle.cql_syntax.specs.declared.token.QueryToken.{QueryToken}
 use Rattle.cql_syntax.specs.declared.token.QueryTokenKind.{QueryTokenKind}
 use Rattle.cql_syntax.specs.declared.token.QueryTokenKind.TheVariants.{Word, Reserved, Name, Squares, Number, Text, FileName, Outcome, Mark, End}
-use Rattle.cql_parser.specs.Grammar.{Written, Begins}
-use Rattle.cql_parser.specs.Drafts.{Spells}
+use Rattle.cql_parser.specs.Grammar.{IsGrammatical, IsGrammaticalPrefix}
+use Rattle.cql_parser.specs.PartialFilters.{Spells}
 use Rattle.cql_parser.specs.Faults.{IsEnded, IsReason, IsFault}
 use Rattle.cql_parser.proofs.Begun.{begins_less}
 
 pub faulty_spells_none : (ts : List QueryToken) (f : QueryFault) (q : QueryTree) → IsFault ts f → Spells most_open ts q → ⊥
 faulty_spells_none ts f q fault spells = fault.dead (record {
   rest = fault.rest;
-  query = subst (Written most_open) (sym fault.spelled ∙ sym (append_assoc fault.before (fault.token ∷ []) fault.rest)) spells.as_written;
+  query = subst (IsGrammatical most_open) (sym fault.spelled ∙ sym (append_assoc fault.before (fault.token ∷ []) fault.rest)) spells.as_written;
 })
 
 -- There is one place at most at which a list stops to have what each of its fronts has with it.
@@ -56,7 +56,7 @@ one_reason ts (Mark m) p q a b = one_kind ts p q a b
 
 pub at_most_one_fault : (ts : List QueryToken) (f g : QueryFault) → IsFault ts f → IsFault ts g → f ≡ g
 at_most_one_fault ts f g a b =
-    let place = one_place (Begins most_open) (begins_less most_open) a.before b.before a.rest b.rest a.token b.token (a.spelled
+    let place = one_place (IsGrammaticalPrefix most_open) (begins_less most_open) a.before b.before a.rest b.rest a.token b.token (a.spelled
     ∙ sym b.spelled) a.begins a.dead b.begins b.dead in
     let byte_is : f.byte ≡ g.byte = a.byte ∙ ap (λ x. x.at) place.1 ∙ sym b.byte in
     let reason : IsReason (a.before ++ (a.token ∷ [])) a.token.kind g.reason =

@@ -6,9 +6,9 @@ mod Faults
 mod Frames
 mod Limits
 mod NoAny
-mod Plants
+mod TreeBuilder
 mod Read
 mod Reading
 mod Rows
-mod Told
+mod ReadIsWritten
 pub mod Texts

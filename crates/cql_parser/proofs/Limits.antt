@@ -2,27 +2,27 @@
 use Rattle.std.proofs.Common.{◌≡◌, ℕ, ◌+◌, ◌≤◌, List, [], ◌∷◌, ◌++◌, Option, Some, None, Bool, true, false, refl, sym, ap, ◌∙◌, subst, arith}
 use Rattle.std.specs.Prelude.{nat_le}
 use Rattle.cql_syntax.specs.declared.token.QueryToken.{QueryToken}
-use Rattle.cql_parser.specs.declared.place.Context.{Context}
-use Rattle.cql_parser.specs.declared.place.Heading.{Heading}
-use Rattle.cql_parser.specs.declared.place.Heading.TheVariants.{Start, ListDue, Params, FileDue, MatchDue, Over}
-use Rattle.cql_parser.specs.declared.place.Place.{Place}
-use Rattle.cql_parser.specs.declared.role.Joint.{Joint}
+use Rattle.cql_parser.specs.declared.rule_state.OperandContext.{OperandContext}
+use Rattle.cql_parser.specs.declared.rule_state.HeadState.{HeadState}
+use Rattle.cql_parser.specs.declared.rule_state.HeadState.TheVariants.{Start, ListDue, Params, FileDue, MatchDue, Over}
+use Rattle.cql_parser.specs.declared.rule_state.RuleState.{RuleState}
+use Rattle.cql_parser.specs.declared.role.InfixOperator.{InfixOperator}
 use Rattle.cql_parser.specs.declared.role.Role.{Role}
 use Rattle.cql_parser.specs.declared.role.Role.TheVariants.{Word, Sign, Number, Name, Text, FileName, Outcome, Designator, End, Other}
-use Rattle.cql_parser.specs.Places.{role, heads, opens, goes, context, least, next, whole, level_of, depth_of, joint, joint_level, takes, joins}
-use Rattle.cql_parser.specs.Grammar.{Phrase, made, joined, Parts, first, add, put, root, end, Items, none, more, Fits, Goes, AllFit, Begins}
-use Rattle.cql_parser.specs.Machine.{InRule, Joining, Opening, Reading, Done, Deep, Stuck, depth, due, around, choose, open_if, begin_at, start, join, after_item, onward_by, onward, after, head_to, feed, begun, written}
+use Rattle.cql_parser.specs.RuleStates.{role, heads, opens, goes, context, least, next, whole, level_of, depth_of, joint, infix_level, takes, joins}
+use Rattle.cql_parser.specs.Grammar.{Phrase, made, joined, Parts, first, add, put, root, end, Items, none, more, Fits, Goes, AllFit, IsGrammaticalPrefix}
+use Rattle.cql_parser.specs.Internal.Machine.{InRule, Joining, Opening, Reading, Done, Deep, Stuck, depth, due, around, choose, open_if, begin_at, start, join, after_item, onward_by, onward, after, head_to, feed, begun, written}
 use Rattle.cql_parser.proofs.Begun.{Lives}
 use Rattle.cql_parser.proofs.Answer.{stuck_is_dead, living_begins}
 use Rattle.cql_parser.proofs.Read.{Frames, St, go, go_append, le_true}
 
 -- what is written within a limit is written within a greater one
 mutual
-  more_fits : (l m n : ℕ) (c : Context) (p : Phrase) → Fits l n c p → Fits (l + m) n c p
+  more_fits : (l m n : ℕ) (c : OperandContext) (p : Phrase) → Fits l n c p → Fits (l + m) n c p
   more_fits l m n c (made ps) fits = (more_goes l m n c ps fits.0, fits.1)
   more_fits l m n c (joined p x j q) fits = (fits.0, fits.1, fits.2, fits.3, more_fits l m n c p fits.4, more_fits l m n _ q fits.5)
 
-  more_goes : (l m n : ℕ) (c : Context) (ps : Parts) → Goes l n c ps → Goes (l + m) n c ps
+  more_goes : (l m n : ℕ) (c : OperandContext) (ps : Parts) → Goes l n c ps → Goes (l + m) n c ps
   more_goes l m n c (first x s) goes_ = (goes_.0, (let h : n + depth_of s ≤ l = goes_.1 in omega arith))
   more_goes l m n c (add ps x s) goes_ = (goes_.0, goes_.1, more_goes l m n c ps goes_.2)
   more_goes l m n c (put ps p s) goes_ = (
@@ -40,7 +40,7 @@ more_all : (l m : ℕ) (ps : Items) → AllFit l ps → AllFit (l + m) ps
 more_all l m none fits = tt
 more_all l m (more ps p) fits = (fits.0, more_all l m ps fits.1, more_fits l m 0 _ p fits.2)
 
-pub more_begins : (l m : ℕ) (ts : List QueryToken) → Begins l ts → Begins (l + m) ts
+pub more_begins : (l m : ℕ) (ts : List QueryToken) → IsGrammaticalPrefix l ts → IsGrammaticalPrefix (l + m) ts
 more_begins l m ts b = record {
   rest = b.rest;
   query = record {
@@ -80,7 +80,7 @@ opens_raise : (h : List QueryToken) (b : Items) (k : Frames) (n : ℕ) (t : Bool
 opens_raise h b k n false l = raises_same (λ limit. Stuck) l (λ m. refl) (λ e. cc)
 opens_raise h b k n true l = opens_by h b k n l (nat_le n l) refl
 
-begin_raise : (h : List QueryToken) (b : Items) (k : Frames) (x : QueryToken) (o : Option Place) (l : ℕ)
+begin_raise : (h : List QueryToken) (b : Items) (k : Frames) (x : QueryToken) (o : Option RuleState) (l : ℕ)
     → Raises (λ limit. begin_at written limit h b k x o) l
 begin_raise h b k x None l = raises_same (λ limit. Stuck) l (λ m. refl) (λ e. cc)
 begin_raise h b k x (Some s) l =
@@ -90,7 +90,7 @@ start_raise : (h : List QueryToken) (b : Items) (k : Frames) (x : QueryToken) (r
     → Raises (λ limit. start written limit h b k x r) l
 start_raise h b k x r l = begin_raise h b k x (opens (around written k) r) l
 
-join_by : (h : List QueryToken) (b : Items) (v : ℕ) (p : Phrase) (k : Frames) (x : QueryToken) (j : Joint) (t : Bool) (l : ℕ)
+join_by : (h : List QueryToken) (b : Items) (v : ℕ) (p : Phrase) (k : Frames) (x : QueryToken) (j : InfixOperator) (t : Bool) (l : ℕ)
     → Raises (λ limit. choose t (Reading h b (Joining v p x j ∷ k)) Stuck) l
 join_by h b v p k x j true l = raises_same (λ limit. Reading h b (Joining v p x j ∷ k)) l (λ m. refl) (λ e. cc)
 join_by h b v p k x j false l = raises_same (λ limit. Stuck) l (λ m. refl) (λ e. cc)
@@ -98,7 +98,7 @@ join_by h b v p k x j false l = raises_same (λ limit. Stuck) l (λ m. refl) (λ
 add_comm : (a b : ℕ) → a + b ≡ b + a
 add_comm a b = omega arith
 
-join_raise : (h : List QueryToken) (b : Items) (v : ℕ) (p : Phrase) (k : Frames) (x : QueryToken) (o : Option Joint) (l : ℕ)
+join_raise : (h : List QueryToken) (b : Items) (v : ℕ) (p : Phrase) (k : Frames) (x : QueryToken) (o : Option InfixOperator) (l : ℕ)
     → Raises (λ limit. join written h b v p k x o) l
 join_raise h b v p k x None l = raises_same (λ limit. Stuck) l (λ m. refl) (λ e. cc)
 join_raise h b v p k x (Some j) l = join_by h b v p k x j (takes j v) l
@@ -120,7 +120,7 @@ item_raise h b x Outcome l = start_raise h b [] x Outcome l
 item_raise h b x Designator l = start_raise h b [] x Designator l
 item_raise h b x Other l = start_raise h b [] x Other l
 
-onward_raise : (h : List QueryToken) (b : Items) (d : Parts) (k : Frames) (x : QueryToken) (r : Role) (o : Option Place) (w : Bool) (f : ℕ
+onward_raise : (h : List QueryToken) (b : Items) (d : Parts) (k : Frames) (x : QueryToken) (r : Role) (o : Option RuleState) (w : Bool) (f : ℕ
     → St) (l : ℕ) → Raises f l → Raises (λ limit. onward_by written limit h b d k x r o w (f limit)) l
 onward_raise h b d k x r (Some s) w f l then_ = raises_same (λ limit. Reading h b (InRule (add d x s) ∷ k)) l (λ m. refl) (λ e. cc)
 onward_raise h b d k x r None true f l then_ = then_
@@ -133,9 +133,9 @@ after_raise h b v p [] x r l =
     choose_raise (joins 0 r) (λ limit. join written h b v p [] x (joint r)) (λ limit. after_item written limit h (more b p) x r) l
     (join_raise h b v p [] x (joint r) l) (item_raise h (more b p) x r l)
 after_raise h b v p (Joining e f y j ∷ k) x r l =
-    choose_raise (joins (joint_level j + 1) r) (λ limit. join written h b v p (Joining e f y j ∷ k) x (joint r))
-    (λ limit. after written limit h b (joint_level j) (joined f y j p) k x r) l
-    (join_raise h b v p (Joining e f y j ∷ k) x (joint r) l) (after_raise h b (joint_level j) (joined f y j p) k x r l)
+    choose_raise (joins (infix_level j + 1) r) (λ limit. join written h b v p (Joining e f y j ∷ k) x (joint r))
+    (λ limit. after written limit h b (infix_level j) (joined f y j p) k x r) l
+    (join_raise h b v p (Joining e f y j ∷ k) x (joint r) l) (after_raise h b (infix_level j) (joined f y j p) k x r l)
 after_raise h b v p (InRule d ∷ k) x r l =
     choose_raise (joins (least (end d)) r) (λ limit. join written h b v p (InRule d ∷ k) x (joint r))
     (λ limit. onward written limit h b (put d p (next (end d))) k x r
@@ -145,7 +145,7 @@ after_raise h b v p (InRule d ∷ k) x r l =
     (λ limit. after written limit h b (level_of (root d)) (made (put d p (next (end d)))) k x r) l
     (after_raise h b (level_of (root d)) (made (put d p (next (end d)))) k x r l))
 
-head_raise : (h : List QueryToken) (o : Option Heading) (l : ℕ) → Raises (λ limit. head_to written h o) l
+head_raise : (h : List QueryToken) (o : Option HeadState) (l : ℕ) → Raises (λ limit. head_to written h o) l
 head_raise h None l = raises_same (λ limit. Stuck) l (λ m. refl) (λ e. cc)
 head_raise h (Some Start) l = raises_same (λ limit. Opening h Start) l (λ m. refl) (λ e. cc)
 head_raise h (Some ListDue) l = raises_same (λ limit. Opening h ListDue) l (λ m. refl) (λ e. cc)
@@ -192,7 +192,7 @@ go_raise l m (x ∷ ts) s live =
 
 -- at the first token that is too deep some query goes on within another limit
 pub deep_begins : (l : ℕ) (ts : List QueryToken) (x : QueryToken) → Lives (go l (begun written) ts)
-    → feed written l (go l (begun written) ts) x ≡ Deep → (limit : ℕ) × Begins limit (ts ++ (x ∷ []))
+    → feed written l (go l (begun written) ts) x ≡ Deep → (limit : ℕ) × IsGrammaticalPrefix limit (ts ++ (x ∷ []))
 deep_begins l ts x live is =
     let found = (feed_raise (go l (begun written) ts) x l live).deep is in (
       l + found.0,
@@ -203,10 +203,10 @@ deep_begins l ts x live is =
 
 -- at the first token at which reading is stuck no query goes on within any limit
 pub stuck_never_begins : (l : ℕ) (ts : List QueryToken) (x : QueryToken) → Lives (go l (begun written) ts)
-    → feed written l (go l (begun written) ts) x ≡ Stuck → (limit : ℕ) → Begins limit (ts ++ (x ∷ [])) → ⊥
+    → feed written l (go l (begun written) ts) x ≡ Stuck → (limit : ℕ) → IsGrammaticalPrefix limit (ts ++ (x ∷ [])) → ⊥
 stuck_never_begins l ts x live is limit b =
     let same = (feed_raise (go l (begun written) ts) x l live).same limit (λ e. let g : Stuck ≡ Deep = sym is ∙ e in cc) in
     stuck_is_dead (l + limit) (ts ++ (x ∷ []))
     (go_append (l + limit) (begun written) ts (x ∷ [])
     ∙ ap (λ u. feed written (l + limit) u x) (go_raise l limit ts (begun written) live) ∙ same ∙ is)
-    (subst (λ n. Begins n (ts ++ (x ∷ []))) (add_comm limit l) (more_begins limit l (ts ++ (x ∷ [])) b))
+    (subst (λ n. IsGrammaticalPrefix n (ts ++ (x ∷ []))) (add_comm limit l) (more_begins limit l (ts ++ (x ∷ [])) b))

@@ -3,8 +3,8 @@ use Rattle.std.proofs.Common.{◌≡◌, ℕ, ◌==◌, Bool, true, false, List,
 use Rattle.std.specs.Prelude.{◌||◌}
 use Rattle.std.specs.List.{list_any}
 use Rattle.cql_syntax.specs.Kinds.{chain_kind}
-use Rattle.cql_syntax.specs.Occurrences.{Standing, Occurrence, occurrences, inner, all_of, of_terms, of_line, of_played, of_written, of_parts, of_body, of_items, top_item, sorts_with, all_occurrences, part_of, part_of_square, asked_of_each}
-use Rattle.cql_syntax.specs.Wants.{unary_wants, pair_wants}
+use Rattle.cql_syntax.specs.Occurrences.{TypingContext, Occurrence, occurrences, inner, all_of, of_terms, of_line, of_played, of_written, of_parts, of_body, of_items, top_item, sorts_with, all_occurrences, part_of, part_of_square, square_condition}
+use Rattle.cql_syntax.specs.OperandKinds.{unary_operand_kind, pair_operand_kind}
 use Rattle.cql_syntax.specs.TreeFaults.{is_any, has_any}
 use Rattle.cql_syntax.specs.Trees.{FilterTree, filter_at, FormTree, designator, number, name, plain, tagged, outcome, elo, unary, direction, chain, sum_of, pair, if_, square, line, played, transform, sort, comment, any, FilterTrees, no_filters, more_filters, with_filter, TermTrees, no_terms, more_terms, with_term, PartTrees, no_parts, more_parts, with_part, BodyTree, atom, group, WrittenTree, left_out, written, QueryTree}
 use Rattle.cql_syntax.specs.Words.{word_of, sign_of}
@@ -17,15 +17,15 @@ use Rattle.cql_syntax.specs.declared.words.Sign.{Sign}
 use Rattle.cql_syntax.specs.declared.words.Sign.TheVariants as signs
 use Rattle.cql_syntax.specs.declared.words.Word.{Word}
 use Rattle.cql_syntax.specs.declared.words.Word.TheVariants as meanings
-use Rattle.cql_parser.specs.declared.maker.Maker.{Maker}
-use Rattle.cql_parser.specs.declared.maker.Maker.TheVariants as makers
-use Rattle.cql_parser.specs.declared.place.Place.{Place}
-use Rattle.cql_parser.specs.declared.place.Place.TheVariants as places
-use Rattle.cql_parser.specs.declared.role.Joint.{Joint}
-use Rattle.cql_parser.specs.declared.role.Joint.TheVariants.{Chained, Added, Paired}
-use Rattle.cql_parser.specs.Places.{joint_level}
+use Rattle.cql_parser.specs.declared.production.Production.{Production}
+use Rattle.cql_parser.specs.declared.production.Production.TheVariants as productions
+use Rattle.cql_parser.specs.declared.rule_state.RuleState.{RuleState}
+use Rattle.cql_parser.specs.declared.rule_state.RuleState.TheVariants as places
+use Rattle.cql_parser.specs.declared.role.InfixOperator.{InfixOperator}
+use Rattle.cql_parser.specs.declared.role.InfixOperator.TheVariants.{Chained, Added, Paired}
+use Rattle.cql_parser.specs.RuleStates.{infix_level}
 use Rattle.cql_parser.specs.Grammar.{Phrase, made, joined, Parts, first, add, put, end, level, Items, none, more}
-use Rattle.cql_parser.specs.Drafts.{Node, a_filter, a_group, Draft, draft_of, with_body, say_word, say_sign, say_number, say, body_of, filter_of, take, need, form, form_of, node_by, node_of, new_row, longer_row, row_of, joined_node, node, draft, trees, opening, Spells}
+use Rattle.cql_parser.specs.PartialFilters.{Node, a_filter, a_group, PartialFilter, partial_filter_of, with_body, with_word, with_sign, with_number, say, body_of, filter_of, take, need, form, form_of, node_by, node_of, new_infix, longer_infix, infix_of, infix_node, node, draft, trees, opening, Spells}
 
 abbrev has : List Occurrence → Bool
 has os = list_any (λ o. is_any o.form) os
@@ -56,25 +56,25 @@ has_second (o ∷ os) ps e = has_second os ps (not_second (is_any o.form) (has (
 
 -- wherever it stands, none is in it
 abbrev Free : FilterTree → Type 0
-Free f = (s : Standing) → has (occurrences s f) ≡ false
+Free f = (s : TypingContext) → has (occurrences s f) ≡ false
 
 abbrev FreeForm : FormTree → Type 0
-FreeForm f = (is_any f ≡ false) × ((s : Standing) → has (inner s f) ≡ false)
+FreeForm f = (is_any f ≡ false) × ((s : TypingContext) → has (inner s f) ≡ false)
 
 abbrev FreeRow : FilterTrees → Type 0
-FreeRow fs = (s : Standing) → has (all_of s fs) ≡ false
+FreeRow fs = (s : TypingContext) → has (all_of s fs) ≡ false
 
 abbrev FreeTerms : TermTrees → Type 0
-FreeTerms ts = (s : Standing) → has (of_terms s ts) ≡ false
+FreeTerms ts = (s : TypingContext) → has (of_terms s ts) ≡ false
 
 abbrev FreeParts : PartTrees → Type 0
-FreeParts cs = (s : Standing) → has (of_parts s cs) ≡ false
+FreeParts cs = (s : TypingContext) → has (of_parts s cs) ≡ false
 
 abbrev FreeBody : BodyTree → Type 0
-FreeBody b = (s : Standing) → has (of_body s b) ≡ false
+FreeBody b = (s : TypingContext) → has (of_body s b) ≡ false
 
 abbrev FreeWritten : WrittenTree → Type 0
-FreeWritten w = (s : Standing) → has (of_written s w) ≡ false
+FreeWritten w = (s : TypingContext) → has (of_written s w) ≡ false
 
 abbrev FreeOption : Option BodyTree → Type 0
 FreeOption None = Unit {0}
@@ -88,7 +88,7 @@ free_at : (at : ℕ) (f : FormTree) → FreeForm f → Free (filter_at at f)
 unfolding occurrences
 free_at at f free s = neither (is_any f) (has (inner s f)) free.0 (free.1 s)
 
-free_inside : (at : ℕ) (f : FormTree) → Standing → Free (filter_at at f) → FreeForm f
+free_inside : (at : ℕ) (f : FormTree) → TypingContext → Free (filter_at at f) → FreeForm f
 unfolding occurrences
 free_inside at f t free = (not_first (is_any f) (has (inner t f)) (free t), λ s. not_second (is_any f) (has (inner s f)) (free s))
 
@@ -113,14 +113,14 @@ unfolding of_written
 written_is f free s = free s
 
 -- rows, at one standing
-abbrev RowAt : Standing → FilterTrees → Type 0
+abbrev RowAt : TypingContext → FilterTrees → Type 0
 RowAt s fs = has (all_of s fs) ≡ false
 
-one_row : (s : Standing) (f : FilterTree) (fs : FilterTrees) → has (occurrences s f) ≡ false → RowAt s fs → RowAt s (more_filters f fs)
+one_row : (s : TypingContext) (f : FilterTree) (fs : FilterTrees) → has (occurrences s f) ≡ false → RowAt s fs → RowAt s (more_filters f fs)
 unfolding all_of
 one_row s f fs free frees = has_both (occurrences s f) (all_of s fs) free frees
 
-row_on : (s : Standing) (fs : FilterTrees) (g : FilterTree) → RowAt s fs → has (occurrences s g) ≡ false → RowAt s (with_filter fs g)
+row_on : (s : TypingContext) (fs : FilterTrees) (g : FilterTree) → RowAt s fs → has (occurrences s g) ≡ false → RowAt s (with_filter fs g)
 unfolding all_of
 row_on s no_filters g frees free = one_row s g no_filters free refl
 row_on s (more_filters f fs) g frees free =
@@ -130,14 +130,14 @@ no_term : FreeTerms no_terms
 unfolding of_terms
 no_term s = refl
 
-abbrev TermsAt : Standing → TermTrees → Type 0
+abbrev TermsAt : TypingContext → TermTrees → Type 0
 TermsAt s ts = has (of_terms s ts) ≡ false
 
-one_term : (s : Standing) (minus : Bool) (f : FilterTree) (ts : TermTrees) → has (occurrences s f) ≡ false → TermsAt s ts → TermsAt s (more_terms minus f ts)
+one_term : (s : TypingContext) (minus : Bool) (f : FilterTree) (ts : TermTrees) → has (occurrences s f) ≡ false → TermsAt s ts → TermsAt s (more_terms minus f ts)
 unfolding of_terms
 one_term s minus f ts free frees = has_both (occurrences s f) (of_terms s ts) free frees
 
-terms_on : (s : Standing) (ts : TermTrees) (minus : Bool) (g : FilterTree) → TermsAt s ts → has (occurrences s g) ≡ false → TermsAt s (with_term ts minus g)
+terms_on : (s : TypingContext) (ts : TermTrees) (minus : Bool) (g : FilterTree) → TermsAt s ts → has (occurrences s g) ≡ false → TermsAt s (with_term ts minus g)
 unfolding of_terms
 terms_on s no_terms minus g frees free = one_term s minus g no_terms free refl
 terms_on s (more_terms m f ts) minus g frees free =
@@ -172,7 +172,7 @@ unfolding occurrences inner
 zero_free s = refl
 
 -- what a draft has
-record FreeDraft (d : Draft) : Type 0 where
+record FreeDraft (d : PartialFilter) : Type 0 where
   one : FreeWritten d.one
   two : FreeWritten d.two
   three : FreeWritten d.three
@@ -181,7 +181,7 @@ record FreeDraft (d : Draft) : Type 0 where
   parts : FreeParts d.parts
   body : FreeOption d.body
 
-draft_free : (x : QueryToken) (place : Place) → FreeDraft (draft_of x place)
+draft_free : (x : QueryToken) (place : RuleState) → FreeDraft (partial_filter_of x place)
 draft_free x place = record { one = none_written; two = none_written; three = none_written; last = none_written; row = no_row; parts = no_part; body = tt }
 
 bodies_free : (cs : PartTrees) (b : Option BodyTree) (mark : Mark) → FreeParts cs → FreeOption b → FreeParts (with_body cs b mark)
@@ -189,7 +189,7 @@ bodies_free cs None mark frees free = frees
 bodies_free cs (Some b) mark frees free = parts_on cs b mark frees free
 
 -- a draft with the same parts
-same_free : (d e : Draft) → FreeDraft d → e.one ≡ d.one → e.two ≡ d.two → e.three ≡ d.three → e.last ≡ d.last → e.row ≡ d.row → e.parts ≡ d.parts → e.body ≡ d.body → FreeDraft e
+same_free : (d e : PartialFilter) → FreeDraft d → e.one ≡ d.one → e.two ≡ d.two → e.three ≡ d.three → e.last ≡ d.last → e.row ≡ d.row → e.parts ≡ d.parts → e.body ≡ d.body → FreeDraft e
 same_free d e f one two three last row parts body = record {
   one = subst FreeWritten (sym one) f.one;
   two = subst FreeWritten (sym two) f.two;
@@ -200,7 +200,7 @@ same_free d e f one two three last row parts body = record {
   body = subst FreeOption (sym body) f.body;
 }
 
-kept_free : (d e : Draft) → FreeDraft d → e.one ≡ d.one → e.two ≡ d.two → e.three ≡ d.three → e.last ≡ d.last → e.row ≡ d.row → FreeParts e.parts → FreeOption e.body → FreeDraft e
+kept_free : (d e : PartialFilter) → FreeDraft d → e.one ≡ d.one → e.two ≡ d.two → e.three ≡ d.three → e.last ≡ d.last → e.row ≡ d.row → FreeParts e.parts → FreeOption e.body → FreeDraft e
 kept_free d e f one two three last row parts body = record {
   one = subst FreeWritten (sym one) f.one;
   two = subst FreeWritten (sym two) f.two;
@@ -211,7 +211,7 @@ kept_free d e f one two three last row parts body = record {
   body = body;
 }
 
-word_free : (d : Draft) (w : Option Word) → FreeDraft d → FreeDraft (say_word d w)
+word_free : (d : PartialFilter) (w : Option Word) → FreeDraft d → FreeDraft (with_word d w)
 word_free d (Some meanings.White) f = same_free d _ f refl refl refl refl refl refl refl
 word_free d (Some meanings.Black) f = same_free d _ f refl refl refl refl refl refl refl
 word_free d (Some meanings.All) f = same_free d _ f refl refl refl refl refl refl refl
@@ -219,7 +219,7 @@ word_free d (Some meanings.Min) f = same_free d _ f refl refl refl refl refl ref
 word_free d (Some meanings.Primary) f = same_free d _ f refl refl refl refl refl refl refl
 word_free d _ f = f
 
-sign_free : (d : Draft) (s : Option Sign) → FreeDraft d → FreeDraft (say_sign d s)
+sign_free : (d : PartialFilter) (s : Option Sign) → FreeDraft d → FreeDraft (with_sign d s)
 sign_free d (Some signs.Arrow) f = kept_free d _ f refl refl refl refl refl (bodies_free d.parts d.body d.mark f.parts f.body) tt
 sign_free d (Some signs.BackArrow) f = kept_free d _ f refl refl refl refl refl (bodies_free d.parts d.body d.mark f.parts f.body) tt
 sign_free d (Some signs.Star) f = same_free d _ f refl refl refl refl refl refl refl
@@ -227,14 +227,14 @@ sign_free d (Some signs.Plus) f = same_free d _ f refl refl refl refl refl refl 
 sign_free d (Some signs.Question) f = same_free d _ f refl refl refl refl refl refl refl
 sign_free d _ f = f
 
-number_free : (d : Draft) (n : ℕ) (place : Place) → FreeDraft d → FreeDraft (say_number d n place)
+number_free : (d : PartialFilter) (n : ℕ) (place : RuleState) → FreeDraft d → FreeDraft (with_number d n place)
 number_free d n places.OneNumber f = same_free d _ f refl refl refl refl refl refl refl
 number_free d n places.LineMost f = same_free d _ f refl refl refl refl refl refl refl
 number_free d n (places.Count g b) f = same_free d _ f refl refl refl refl refl refl refl
 number_free d n (places.UpTo g b) f = same_free d _ f refl refl refl refl refl refl refl
 number_free d n _ f = same_free d _ f refl refl refl refl refl refl refl
 
-say_free : (d : Draft) (kind : QueryTokenKind) (place : Place) → FreeDraft d → FreeDraft (say d kind place)
+say_free : (d : PartialFilter) (kind : QueryTokenKind) (place : RuleState) → FreeDraft d → FreeDraft (say d kind place)
 say_free d (tokens.Word w) place f = word_free d (word_of w) f
 say_free d (tokens.Mark m) place f = sign_free d (sign_of m) f
 say_free d (tokens.Number n) place f = number_free d n place f
@@ -251,7 +251,7 @@ filter_free : (n : Node) → FreeNode n → Free (filter_of n)
 filter_free (a_filter f) free = free
 filter_free (a_group cs) free = zero_free
 
-take_free : (d : Draft) (n : Node) (place : Place) → FreeDraft d → FreeNode n → FreeDraft (take d n place)
+take_free : (d : PartialFilter) (n : Node) (place : RuleState) → FreeDraft d → FreeNode n → FreeDraft (take d n place)
 take_free d n places.Condition f free = record { one = is_written (filter_of n) (filter_free n free); two = f.two; three = f.three; last = f.last; row = f.row; parts = f.parts; body = f.body }
 take_free d n places.SquaresDue f free = record { one = is_written (filter_of n) (filter_free n free); two = f.two; three = f.three; last = f.last; row = f.row; parts = f.parts; body = f.body }
 take_free d n places.BetweenFirst f free = record { one = is_written (filter_of n) (filter_free n free); two = f.two; three = f.three; last = f.last; row = f.row; parts = f.parts; body = f.body }
@@ -317,82 +317,82 @@ need_free : (w : WrittenTree) → FreeWritten w → Free (need w)
 need_free left_out free = zero_free
 need_free (written f) free = written_is f free
 
-form_inside : (f : FilterTree) → Standing → Free f → FreeForm (form f)
+form_inside : (f : FilterTree) → TypingContext → Free f → FreeForm (form f)
 form_inside (filter_at at f) s free = free_inside at f s free
 
 -- some standing, to read what is in a filter
-abbrev anywhere : Standing
+abbrev anywhere : TypingContext
 anywhere = top_item 0
 
-form_free : (d : Draft) (m : Maker) → FreeDraft d → FreeForm (form_of d m)
+form_free : (d : PartialFilter) (m : Production) → FreeDraft d → FreeForm (form_of d m)
 unfolding inner of_line of_played
-form_free d (makers.Designator squares) f = (refl, λ s. refl)
-form_free d (makers.Number n) f = (refl, λ s. refl)
-form_free d makers.Name f = (refl, λ s. refl)
-form_free d (makers.Plain word) f = (refl, λ s. refl)
-form_free d makers.Outcome f = (refl, λ s. refl)
-form_free d (makers.Tagged field) f = (refl, λ s. refl)
-form_free d makers.Elo f = (refl, λ s. refl)
-form_free d makers.Comment f = (refl, λ s. refl)
-form_free d (makers.Unary u) f = (refl, λ s. need_free d.last f.last (part_of s _))
-form_free d (makers.Direction way) f = (refl, λ s. need_free d.last f.last (part_of s Set))
-form_free d (makers.Family family) f = (refl, λ s. need_free d.last f.last (part_of s Position))
-form_free d makers.If f = (
+form_free d (productions.Designator squares) f = (refl, λ s. refl)
+form_free d (productions.Number n) f = (refl, λ s. refl)
+form_free d productions.Name f = (refl, λ s. refl)
+form_free d (productions.Plain word) f = (refl, λ s. refl)
+form_free d productions.Outcome f = (refl, λ s. refl)
+form_free d (productions.Tagged field) f = (refl, λ s. refl)
+form_free d productions.Elo f = (refl, λ s. refl)
+form_free d productions.Comment f = (refl, λ s. refl)
+form_free d (productions.Unary u) f = (refl, λ s. need_free d.last f.last (part_of s _))
+form_free d (productions.Direction way) f = (refl, λ s. need_free d.last f.last (part_of s Set))
+form_free d (productions.Family family) f = (refl, λ s. need_free d.last f.last (part_of s Position))
+form_free d productions.If f = (
   refl,
   λ s. has_both (occurrences (part_of s Position) (need d.one)) _ (need_free d.one f.one (part_of s Position))
       (has_both (occurrences (part_of s Position) (need d.two)) (occurrences (part_of s Position) (need d.last))
       (need_free d.two f.two (part_of s Position)) (need_free d.last f.last (part_of s Position))),
 )
-form_free d makers.Square f = (
+form_free d productions.Square f = (
   refl,
-  λ s. has_both (occurrences (part_of_square s Set) (need d.one)) (occurrences (asked_of_each s d.text) (need d.last))
-      (need_free d.one f.one (part_of_square s Set)) (need_free d.last f.last (asked_of_each s d.text)),
+  λ s. has_both (occurrences (part_of_square s Set) (need d.one)) (occurrences (square_condition s d.text) (need d.last))
+      (need_free d.one f.one (part_of_square s Set)) (need_free d.last f.last (square_condition s d.text)),
 )
-form_free d makers.Sort f = (refl, λ s. need_free d.last f.last (part_of s NumberKind))
-form_free d makers.Between f = (
+form_free d productions.Sort f = (refl, λ s. need_free d.last f.last (part_of s NumberKind))
+form_free d productions.Between f = (
   refl,
   λ s. has_both (occurrences (part_of s _) (need d.one)) (occurrences (part_of s _) (need d.two)) (need_free d.one f.one (part_of s _)) (need_free d.two f.two (part_of s _)),
 )
-form_free d (makers.List c) f = (refl, λ s. f.row (part_of s (chain_kind c)))
-form_free d makers.Parens f = form_inside (need d.last) anywhere (need_free d.last f.last)
-form_free d makers.Line f = (refl, λ s. bodies_free d.parts d.body d.mark f.parts f.body (part_of s Position))
-form_free d makers.Group f = (refl, λ s. refl)
-form_free d makers.Move f = (
+form_free d (productions.List c) f = (refl, λ s. f.row (part_of s (chain_kind c)))
+form_free d productions.Parens f = form_inside (need d.last) anywhere (need_free d.last f.last)
+form_free d productions.Line f = (refl, λ s. bodies_free d.parts d.body d.mark f.parts f.body (part_of s Position))
+form_free d productions.Group f = (refl, λ s. refl)
+form_free d productions.Move f = (
   refl,
   λ s. has_both (of_written (part_of s Set) d.one) _ (f.one (part_of s Set))
       (has_both (of_written (part_of s Set) d.two) _ (f.two (part_of s Set))
       (has_both (of_written (part_of s Set) d.three) (of_written (part_of s Set) d.last) (f.three (part_of s Set)) (f.last (part_of s Set)))),
 )
 
-made_free : (d : Draft) (m : Maker) → FreeDraft d → FreeNode (node_by d m)
-made_free d makers.Group f = bodies_free d.parts d.body d.mark f.parts f.body
+made_free : (d : PartialFilter) (m : Production) → FreeDraft d → FreeNode (node_by d m)
+made_free d productions.Group f = bodies_free d.parts d.body d.mark f.parts f.body
 made_free d m f = free_at d.at (form_of d m) (form_free d m f)
 
-new_row_free : (f : FilterTree) (j : Joint) (g : FilterTree) → Free f → Free g → FreeForm (new_row f j g)
+new_row_free : (f : FilterTree) (j : InfixOperator) (g : FilterTree) → Free f → Free g → FreeForm (new_infix f j g)
 unfolding inner all_of of_terms
 new_row_free f (Chained c) g free also =
     (refl, λ s. let t = part_of s (chain_kind c) in one_row t f (more_filters g no_filters) (free t) (one_row t g no_filters (also t) refl))
 new_row_free f (Added minus) g free also =
     (refl, λ s. let t = part_of s NumberKind in one_term t false f (more_terms minus g no_terms) (free t) (one_term t minus g no_terms (also t) refl))
 new_row_free f (Paired p) g free also =
-    (refl, λ s. let t = part_of s (pair_wants p) in has_both (occurrences t f) (occurrences t g) (free t) (also t))
+    (refl, λ s. let t = part_of s (pair_operand_kind p) in has_both (occurrences t f) (occurrences t g) (free t) (also t))
 
-longer_free : (h : FormTree) (f : FilterTree) (j : Joint) (g : FilterTree) → FreeForm h → Free f → Free g → FreeForm (longer_row h f j g)
+longer_free : (h : FormTree) (f : FilterTree) (j : InfixOperator) (g : FilterTree) → FreeForm h → Free f → Free g → FreeForm (longer_infix h f j g)
 unfolding inner
 longer_free (chain c fs) f j g inside free also = (refl, λ s. row_on (part_of s (chain_kind c)) fs g (inside.1 s) (also (part_of s (chain_kind c))))
 longer_free (sum_of ts) f j g inside free also = (refl, λ s. terms_on (part_of s NumberKind) ts _ g (inside.1 s) (also (part_of s NumberKind)))
 longer_free _ f j g inside free also = new_row_free f j g free also
 
-row_of_free : (long : Bool) (f : FilterTree) (j : Joint) (g : FilterTree) → Free f → Free g → Free (row_of long f j g)
-row_of_free true f j g free also = free_at _ (longer_row (form f) f j g) (longer_free (form f) f j g (form_inside f anywhere free) free also)
-row_of_free false f j g free also = free_at _ (new_row f j g) (new_row_free f j g free also)
+row_of_free : (long : Bool) (f : FilterTree) (j : InfixOperator) (g : FilterTree) → Free f → Free g → Free (infix_of long f j g)
+row_of_free true f j g free also = free_at _ (longer_infix (form f) f j g) (longer_free (form f) f j g (form_inside f anywhere free) free also)
+row_of_free false f j g free also = free_at _ (new_infix f j g) (new_row_free f j g free also)
 
-joined_free : (l : ℕ) (p : Node) (j : Joint) (q : Node) → FreeNode p → FreeNode q → FreeNode (joined_node l p j q)
-joined_free l p j q free also = row_of_free (l == joint_level j) (filter_of p) j (filter_of q) (filter_free p free) (filter_free q also)
+joined_free : (l : ℕ) (p : Node) (j : InfixOperator) (q : Node) → FreeNode p → FreeNode q → FreeNode (infix_node l p j q)
+joined_free l p j q free also = row_of_free (l == infix_level j) (filter_of p) j (filter_of q) (filter_free p free) (filter_free q also)
 
 mutual
   node_free : (p : Phrase) → FreeNode (node p)
-  node_free (made ps) = made_free (draft ps) (draft ps).maker (parts_free ps)
+  node_free (made ps) = made_free (draft ps) (draft ps).production (parts_free ps)
   node_free (joined p x j q) = joined_free (level p) (node p) j (node q) (node_free p) (node_free q)
 
   parts_free : (ps : Parts) → FreeDraft (draft ps)

@@ -2,18 +2,18 @@
 use Rattle.std.proofs.Common.{◌≡◌, ℕ, ◌+◌, ◌<◌, ◌≤◌, List, [], ◌∷◌, ◌++◌, Option, Some, None, true, false, refl, sym, ap, ap₂, ◌∙◌, subst, arith, append_assoc, append-nil}
 use Rattle.std.specs.Prelude.{nat_le, fold}
 use Rattle.cql_syntax.specs.declared.token.QueryToken.{QueryToken}
-use Rattle.cql_parser.specs.declared.place.Context.{Context}
-use Rattle.cql_parser.specs.declared.place.Context.TheVariants.{Within}
-use Rattle.cql_parser.specs.declared.place.Heading.{Heading}
-use Rattle.cql_parser.specs.declared.place.Heading.TheVariants.{Start, ListDue, Params, FileDue, MatchDue, Over}
-use Rattle.cql_parser.specs.declared.place.Place.{Place}
-use Rattle.cql_parser.specs.declared.role.Joint.{Joint}
-use Rattle.cql_parser.specs.declared.role.Joint.TheVariants.{Chained, Added, Paired}
+use Rattle.cql_parser.specs.declared.rule_state.OperandContext.{OperandContext}
+use Rattle.cql_parser.specs.declared.rule_state.OperandContext.TheVariants.{Within}
+use Rattle.cql_parser.specs.declared.rule_state.HeadState.{HeadState}
+use Rattle.cql_parser.specs.declared.rule_state.HeadState.TheVariants.{Start, ListDue, Params, FileDue, MatchDue, Over}
+use Rattle.cql_parser.specs.declared.rule_state.RuleState.{RuleState}
+use Rattle.cql_parser.specs.declared.role.InfixOperator.{InfixOperator}
+use Rattle.cql_parser.specs.declared.role.InfixOperator.TheVariants.{Chained, Added, Paired}
 use Rattle.cql_parser.specs.declared.role.Role.{Role}
 use Rattle.cql_parser.specs.declared.role.Role.TheVariants.{Word, Sign, Number, Name, Text, FileName, Outcome, Designator, End, Other}
-use Rattle.cql_parser.specs.Places.{role, heads, opens, context, least, next, whole, level_of, depth_of, joint, joint_level, takes, joins}
-use Rattle.cql_parser.specs.Grammar.{Phrase, made, joined, Parts, first, add, put, root, end, Items, none, more, text, texts, items_text, head, head_of, level, IsOver, AreOver, Fits, Goes, AllOver, AllFit, head_step, heading, IsSome, Written}
-use Rattle.cql_parser.specs.Machine.{Frame, InRule, Joining, State, Reading, Done, Stuck, depth, due, around, choose, open_if, begin_at, start, join, after_item, onward_by, onward, after, head_to, feed, run, begun, written}
+use Rattle.cql_parser.specs.RuleStates.{role, heads, opens, context, least, next, whole, level_of, depth_of, joint, infix_level, takes, joins}
+use Rattle.cql_parser.specs.Grammar.{Phrase, made, joined, Parts, first, add, put, root, end, Items, none, more, text, texts, items_text, head, head_of, level, IsOver, AreOver, Fits, Goes, AllOver, AllFit, head_step, heading, IsSome, IsGrammatical}
+use Rattle.cql_parser.specs.Internal.Machine.{Frame, InRule, Joining, State, Reading, Done, Stuck, depth, due, around, choose, open_if, begin_at, start, join, after_item, onward_by, onward, after, head_to, feed, run, begun, written}
 
 abbrev pub Frames : Type 0
 Frames = List (Frame Parts Phrase)
@@ -49,7 +49,7 @@ abbrev mutual
 mutual
   unfolding feed after
 
-  pub feed_spine : (l n : ℕ) (c : Context) (h : List QueryToken) (b : Items) (p : Phrase) (k : Frames) (x : QueryToken) → Fits l n c p
+  pub feed_spine : (l n : ℕ) (c : OperandContext) (h : List QueryToken) (b : Items) (p : Phrase) (k : Frames) (x : QueryToken) → Fits l n c p
       → IsOver p (role x.kind) → feed written l (Reading h b (spine p k)) x ≡ after written l h b (level p) p k x (role x.kind)
   feed_spine l n c h b (made ps) k x fits over =
       feed_spine_of l n c h b ps k x fits.0 over.0
@@ -58,9 +58,9 @@ mutual
   feed_spine l n c h b (joined p y j q) k x fits over =
       feed_spine l n Within h b q (Joining (level p) p y j ∷ k) x fits.5 over.0
       ∙ ap (λ t. choose t (join written h b (level q) q (Joining (level p) p y j ∷ k) x (joint (role x.kind)))
-      (after written l h b (joint_level j) (joined p y j q) k x (role x.kind))) over.1
+      (after written l h b (infix_level j) (joined p y j q) k x (role x.kind))) over.1
 
-  pub feed_spine_of : (l n : ℕ) (c : Context) (h : List QueryToken) (b : Items) (ps : Parts) (k : Frames) (x : QueryToken)
+  pub feed_spine_of : (l n : ℕ) (c : OperandContext) (h : List QueryToken) (b : Items) (ps : Parts) (k : Frames) (x : QueryToken)
       → Goes l n c ps → AreOver ps (role x.kind)
       → feed written l (Reading h b (spine_of ps k)) x
       ≡ onward written l h b ps k x (role x.kind) (after written l h b (level_of (root ps)) (made ps) k x (role x.kind))
@@ -74,12 +74,12 @@ mutual
       ∙ ap (λ s. onward written l h b (put ps p s) k x (role x.kind)
       (after written l h b (level_of (root ps)) (made (put ps p s)) k x (role x.kind))) goes_.0
 
-pub joins_true : (n : ℕ) (r : Role) (j : Joint) → joint r ≡ Some j → n ≤ joint_level j → joins n r ≡ true
-joins_true n r j is low = ap (λ o. elim o [ Some j ↦ nat_le n (joint_level j) | None ↦ false ]) is ∙ le_true n (joint_level j) low
+pub joins_true : (n : ℕ) (r : Role) (j : InfixOperator) → joint r ≡ Some j → n ≤ infix_level j → joins n r ≡ true
+joins_true n r j is low = ap (λ o. elim o [ Some j ↦ nat_le n (infix_level j) | None ↦ false ]) is ∙ le_true n (infix_level j) low
 
 -- a token that makes a row longer
-pub join_read : (l : ℕ) (h : List QueryToken) (b : Items) (v : ℕ) (p : Phrase) (k : Frames) (x : QueryToken) (j : Joint)
-    → joint (role x.kind) ≡ Some j → takes j v ≡ true → due written k ≤ joint_level j
+pub join_read : (l : ℕ) (h : List QueryToken) (b : Items) (v : ℕ) (p : Phrase) (k : Frames) (x : QueryToken) (j : InfixOperator)
+    → joint (role x.kind) ≡ Some j → takes j v ≡ true → due written k ≤ infix_level j
     → after written l h b v p k x (role x.kind) ≡ Reading h b (Joining v p x j ∷ k)
 unfolding after
 join_read l h b v p [] x j is takes_ low =
@@ -88,7 +88,7 @@ join_read l h b v p [] x j is takes_ low =
     ∙ ap (λ t. choose t (Reading h b (Joining v p x j ∷ [])) Stuck) takes_
 join_read l h b v p (Joining e f y i ∷ k) x j is takes_ low =
     ap₂ (λ t o. choose t (join written h b v p (Joining e f y i ∷ k) x o)
-    (after written l h b (joint_level i) (joined f y i p) k x (role x.kind))) (joins_true (joint_level i + 1) (role x.kind) j is low) is
+    (after written l h b (infix_level i) (joined f y i p) k x (role x.kind))) (joins_true (infix_level i + 1) (role x.kind) j is low) is
     ∙ ap (λ t. choose t (Reading h b (Joining v p x j ∷ Joining e f y i ∷ k)) Stuck) takes_
 join_read l h b v p (InRule d ∷ k) x j is takes_ low =
     ap₂ (λ t o. choose t (join written h b v p (InRule d ∷ k) x o)
@@ -97,8 +97,8 @@ join_read l h b v p (InRule d ∷ k) x j is takes_ low =
     (joins_true (least (end d)) (role x.kind) j is low) is
     ∙ ap (λ t. choose t (Reading h b (Joining v p x j ∷ InRule d ∷ k)) Stuck) takes_
 
-pub takes_low : (j : Joint) (c : ℕ) → takes j c ≡ true → joint_level j ≤ c
-unfolding takes joint_level
+pub takes_low : (j : InfixOperator) (c : ℕ) → takes j c ≡ true → infix_level j ≤ c
+unfolding takes infix_level
 takes_low (Chained o) c h = true_le _ c h
 takes_low (Added minus) c h = true_le 4 c h
 takes_low (Paired p) c h = grind arith
@@ -112,11 +112,11 @@ mutual
       → feed written l u (head p) ≡ start written l h b k (head p) (role (head p).kind) → go l u (text p) ≡ Reading h b (spine p k)
   read_phrase l h b (made ps) k u fits low starts = read_parts l h b ps k u fits.0 low starts
   read_phrase l h b (joined p x j q) k u fits low starts =
-      let least_ : due written k ≤ level p = (let g : joint_level j ≤ level p = takes_low j (level p) fits.1 in omega arith) in
+      let least_ : due written k ≤ level p = (let g : infix_level j ≤ level p = takes_low j (level p) fits.1 in omega arith) in
       let left = read_phrase l h b p k u fits.4 least_ starts in
       let over : feed written l (Reading h b (spine p k)) x ≡ Reading h b (Joining (level p) p x j ∷ k) =
       feed_spine l (depth written k) (around written k) h b p k x fits.4 fits.3 ∙ join_read l h b (level p) p k x j fits.0 fits.1 low in
-      let upper : joint_level j + 1 ≤ level q = (let g : joint_level j < level q = fits.2 in omega arith) in
+      let upper : infix_level j + 1 ≤ level q = (let g : infix_level j < level q = fits.2 in omega arith) in
       go_append l u (text p) (x ∷ text q)
       ∙ ap (λ s. go l (feed written l s x) (text q)) left
       ∙ ap (λ s. go l s (text q)) over
@@ -151,12 +151,12 @@ abbrev pub read_items : List QueryToken → Items → St
 read_items h none = Reading h none []
 read_items h (more ps p) = Reading h ps (spine p [])
 
-nothing_opens : (s : Place) → opens Within End ≡ Some s → ⊥
+nothing_opens : (s : RuleState) → opens Within End ≡ Some s → ⊥
 unfolding opens
 nothing_opens s is = cc
 
 -- a token that begins an item is no end
-pub item_starts : (l : ℕ) (h : List QueryToken) (b : Items) (x : QueryToken) (r : Role) (s : Place) → opens Within r ≡ Some s
+pub item_starts : (l : ℕ) (h : List QueryToken) (b : Items) (x : QueryToken) (r : Role) (s : RuleState) → opens Within r ≡ Some s
     → after_item written l h b x r ≡ start written l h b [] x r
 item_starts l h b x (Word w) s is = refl
 item_starts l h b x (Sign w) s is = refl
@@ -171,12 +171,12 @@ item_starts l h b x Other s is = refl
 
 -- a filter begins with a token that opens one
 mutual
-  pub opens_head : (l n : ℕ) (c : Context) (p : Phrase) → Fits l n c p → (s : Place) × (opens c (role (head p).kind) ≡ Some s)
+  pub opens_head : (l n : ℕ) (c : OperandContext) (p : Phrase) → Fits l n c p → (s : RuleState) × (opens c (role (head p).kind) ≡ Some s)
   opens_head l n c (made ps) fits = opens_head_of l n c ps fits.0
   opens_head l n c (joined p x j q) fits = opens_head l n c p fits.4
 
-  pub opens_head_of : (l n : ℕ) (c : Context) (ps : Parts) → Goes l n c ps
-      → (s : Place) × (opens c (role (head_of ps).kind) ≡ Some s)
+  pub opens_head_of : (l n : ℕ) (c : OperandContext) (ps : Parts) → Goes l n c ps
+      → (s : RuleState) × (opens c (role (head_of ps).kind) ≡ Some s)
   opens_head_of l n c (first x s) goes_ = (s, goes_.0)
   opens_head_of l n c (add ps x s) goes_ = opens_head_of l n c ps goes_.2
   opens_head_of l n c (put ps p s) goes_ = opens_head_of l n c ps goes_.5
@@ -191,7 +191,7 @@ after_items l h ps p x fits over =
     ∙ ap (λ t. choose t (join written h ps (level p) p [] x (joint (role x.kind))) (after_item written l h (more ps p) x (role x.kind)))
     over.1
 
-item_due : (l : ℕ) (h : List QueryToken) (ps : Items) (x : QueryToken) (s : Place) → AllFit l ps → AllOver ps (role x.kind)
+item_due : (l : ℕ) (h : List QueryToken) (ps : Items) (x : QueryToken) (s : RuleState) → AllFit l ps → AllOver ps (role x.kind)
     → opens Within (role x.kind) ≡ Some s → feed written l (read_items h ps) x ≡ start written l h ps [] x (role x.kind)
 unfolding feed
 item_due l h none x s fits over is = refl
@@ -215,10 +215,10 @@ no_heads : (r : Role) → heads Over r ≡ None
 unfolding heads
 no_heads r = refl
 
-abbrev Headed : ℕ → List QueryToken → List QueryToken → Option Heading → Type 0
+abbrev Headed : ℕ → List QueryToken → List QueryToken → Option HeadState → Type 0
 Headed l h ts o = fold head_step o ts ≡ Some Over → go l (head_to written h o) ts ≡ Reading (h ++ ts) none []
 
-heads_read : (l : ℕ) (h ts : List QueryToken) (o : Option Heading) → Headed l h ts o
+heads_read : (l : ℕ) (h ts : List QueryToken) (o : Option HeadState) → Headed l h ts o
 unfolding feed
 heads_read l h ts None is = absurd (never_over ts is)
 heads_read l h [] (Some Start) is = absurd cc
@@ -255,5 +255,5 @@ whole_read l ts opening (more ps p) x heads_ some fits over is spelled =
     ∙ ends
 
 -- a whole query
-pub query_read : (l : ℕ) (ts : List QueryToken) (w : Written l ts) → go l (begun written) ts ≡ Done w.opening w.items
+pub query_read : (l : ℕ) (ts : List QueryToken) (w : IsGrammatical l ts) → go l (begun written) ts ≡ Done w.opening w.items
 query_read l ts w = whole_read l ts w.opening w.items w.closing w.opens w.some w.fits w.over w.closes w.spelled

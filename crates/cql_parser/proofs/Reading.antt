@@ -8,32 +8,32 @@ use Rattle.cql_syntax.specs.declared.fault.QueryFault.{QueryFault}
 use Rattle.cql_syntax.specs.declared.token.QueryToken.{QueryToken}
 use Rattle.cql_syntax.specs.declared.token.QueryTokenKind.{QueryTokenKind}
 use Rattle.cql_syntax.specs.declared.token.QueryTokenKind.TheVariants.{Word, Reserved, Name, Squares, Number, Text, FileName, Outcome, Mark, End}
-use Rattle.cql_parser.specs.declared.reader.Reached.{Reached}
-use Rattle.cql_parser.specs.declared.reader.Reached.TheVariants as reached
-use Rattle.cql_parser.specs.declared.reader.Reader.{Reader}
+use Rattle.cql_parser.specs.declared.parser.ParserState.{ParserState}
+use Rattle.cql_parser.specs.declared.parser.ParserState.TheVariants as reached
+use Rattle.cql_parser.specs.declared.parser.Parser.{Parser}
 use Rattle.cql_parser.specs.declared.role.Role.{Role}
-use Rattle.cql_parser.specs.Places.{least, joint, joint_level, joins}
-use Rattle.cql_parser.specs.Grammar.{Begins, Items}
-use Rattle.cql_parser.specs.Drafts.{Node, opening, trees, query_of, Spells, Opening as Head}
+use Rattle.cql_parser.specs.RuleStates.{least, joint, infix_level, joins}
+use Rattle.cql_parser.specs.Grammar.{IsGrammaticalPrefix, Items}
+use Rattle.cql_parser.specs.PartialFilters.{Node, opening, trees, query_of, Spells, Opening as Head}
 use Rattle.cql_parser.specs.Faults.{IsEnded, IsReason, IsFault}
-use Rattle.cql_parser.specs.Machine.{Frame, InRule, Joining, Opening, Reading, Done, Deep, Stuck, due, choose, join, after, feed, begun, written}
-use Rattle.cql_parser.specs.Planted.{Rule, planted}
-use Rattle.cql_parser.specs.Readers.{Grown, head_in, items_in, frames_in, state_shown, at_start, is_fault, reason_of, query_in}
+use Rattle.cql_parser.specs.Internal.Machine.{Frame, InRule, Joining, Opening, Reading, Done, Deep, Stuck, due, choose, join, after, feed, begun, written}
+use Rattle.cql_parser.specs.Internal.TreeBuilder.{OpenRule, tree_builder}
+use Rattle.cql_parser.specs.Internal.ParserStates.{MachineState, head_in, items_in, frames_in, state_model, at_start, is_fault, reason_of, query_in}
 use Rattle.cql_parser.proofs.Answer.{stuck_is_dead, deep_is_dead, living_begins, done_spells}
 use Rattle.cql_parser.proofs.Begun.{Lives}
 use Rattle.cql_parser.proofs.Ends.{end_is_done}
 use Rattle.cql_parser.proofs.Limits.{deep_begins, stuck_never_begins}
-use Rattle.cql_parser.proofs.Plants.{plant, Leveled, StateLeveled, plant_feed}
+use Rattle.cql_parser.proofs.TreeBuilder.{plant, Leveled, StateLeveled, plant_feed}
 use Rattle.cql_parser.proofs.Read.{Frames, St, go, go_append}
-use Rattle.cql_parser.proofs.Told.{Good, Stands, told}
+use Rattle.cql_parser.proofs.ReadIsWritten.{Good, Stands, told}
 
 -- what is read of tokens, by the grammar
 abbrev pub read : List QueryToken → St
 read ts = go most_open (begun written) ts
 
 -- the code reads what the grammar reads
-pub record Keeps (ts : List QueryToken) (state : Reached) (reader : Reader) : Type 0 where
-  pub same : plant (read ts) ≡ state_shown state reader
+pub record Keeps (ts : List QueryToken) (state : ParserState) (reader : Parser) : Type 0 where
+  pub same : plant (read ts) ≡ state_model state reader
   pub lives : Lives (read ts)
 
 leveled : (l : ℕ) (b : Items) (k : Frames) → Good l b k → Leveled k
@@ -52,21 +52,21 @@ feeds : (ts : List QueryToken) (x : QueryToken) → read (ts ++ (x ∷ [])) ≡ 
 feeds ts x = go_append most_open (begun written) ts (x ∷ [])
 
 -- one token more
-pub same_on : (ts : List QueryToken) (x : QueryToken) (s u : Reached) (old new : Reader) → plant (read ts) ≡ state_shown s old
-    → state_shown u new ≡ feed planted most_open (state_shown s old) x → plant (read (ts ++ (x ∷ []))) ≡ state_shown u new
+pub same_on : (ts : List QueryToken) (x : QueryToken) (s u : ParserState) (old new : Parser) → plant (read ts) ≡ state_model s old
+    → state_model u new ≡ feed tree_builder most_open (state_model s old) x → plant (read (ts ++ (x ∷ []))) ≡ state_model u new
 same_on ts x s u old new same fed =
     ap plant (feeds ts x) ∙ sym (plant_feed most_open (read ts) x (state_leveled most_open ts (read ts) (told most_open ts)))
-    ∙ ap (λ v. feed planted most_open v x) same ∙ sym fed
+    ∙ ap (λ v. feed tree_builder most_open v x) same ∙ sym fed
 
 -- what the code has says whether reading goes on
-abbrev Living : Grown → Type 0
+abbrev Living : MachineState → Type 0
 Living (Opening h place) = Unit {0}
 Living (Reading h b k) = Unit {0}
 Living (Done h b) = Unit {0}
 Living Deep = ⊥
 Living Stuck = ⊥
 
-living_shown : (s : Reached) (r : Reader) → is_fault s ≡ false → Living (state_shown s r)
+living_shown : (s : ParserState) (r : Parser) → is_fault s ≡ false → Living (state_model s r)
 living_shown (reached.Opening place) r fine = tt
 living_shown reached.Reading r fine = tt
 living_shown reached.Done r fine = tt
@@ -80,13 +80,13 @@ living_lives (Done h b) live = tt
 living_lives Deep live = live
 living_lives Stuck live = live
 
-pub kept_on : (ts : List QueryToken) (x : QueryToken) (s u : Reached) (old new : Reader) → Keeps ts s old
-    → state_shown u new ≡ feed planted most_open (state_shown s old) x → is_fault u ≡ false → Keeps (ts ++ (x ∷ [])) u new
+pub kept_on : (ts : List QueryToken) (x : QueryToken) (s u : ParserState) (old new : Parser) → Keeps ts s old
+    → state_model u new ≡ feed tree_builder most_open (state_model s old) x → is_fault u ≡ false → Keeps (ts ++ (x ∷ [])) u new
 kept_on ts x s u old new keeps fed fine =
-    let same : plant (read (ts ++ (x ∷ []))) ≡ state_shown u new = same_on ts x s u old new keeps.same fed in
+    let same : plant (read (ts ++ (x ∷ []))) ≡ state_model u new = same_on ts x s u old new keeps.same fed in
     record { same = same; lives = living_lives (read (ts ++ (x ∷ []))) (subst Living (sym same) (living_shown u new fine)) }
 
-pub kept_first : (r : Reader) → state_shown at_start r ≡ begun planted → Keeps [] at_start r
+pub kept_first : (r : Parser) → state_model at_start r ≡ begun tree_builder → Keeps [] at_start r
 kept_first r is = record { same = sym is; lives = tt }
 
 -- the fault at a token
@@ -104,7 +104,7 @@ plant_stuck (Done h b) is = cc
 plant_stuck Deep is = cc
 plant_stuck Stuck is = refl
 
-too_deep : (ts : List QueryToken) (kind : QueryTokenKind) → (limit : ℕ) × Begins limit ts
+too_deep : (ts : List QueryToken) (kind : QueryTokenKind) → (limit : ℕ) × IsGrammaticalPrefix limit ts
     → IsReason ts kind (reason_of kind reached.Deep)
 too_deep ts (Reserved name) some = refl
 too_deep ts End some = refl
@@ -117,7 +117,7 @@ too_deep ts (FileName n) some = inl (refl, some.0, some.1)
 too_deep ts (Outcome o) some = inl (refl, some.0, some.1)
 too_deep ts (Mark m) some = inl (refl, some.0, some.1)
 
-unexpected : (ts : List QueryToken) (kind : QueryTokenKind) → ((limit : ℕ) → Begins limit ts → ⊥)
+unexpected : (ts : List QueryToken) (kind : QueryTokenKind) → ((limit : ℕ) → IsGrammaticalPrefix limit ts → ⊥)
     → IsReason ts kind (reason_of kind reached.Stuck)
 unexpected ts (Reserved name) never = refl
 unexpected ts End never = refl
@@ -131,13 +131,13 @@ unexpected ts (Outcome o) never = inr (refl, never)
 unexpected ts (Mark m) never = inr (refl, never)
 
 -- a token at which the reader comes to a fault
-pub record FailsAt (x : QueryToken) (s u : Reached) (old new : Reader) (f : QueryFault) : Type 0 where
-  pub fed : state_shown u new ≡ feed planted most_open (state_shown s old) x
+pub record FailsAt (x : QueryToken) (s u : ParserState) (old new : Parser) (f : QueryFault) : Type 0 where
+  pub fed : state_model u new ≡ feed tree_builder most_open (state_model s old) x
   pub fails : is_fault u ≡ true
   pub byte : f.byte ≡ x.at
   pub reason : f.reason ≡ reason_of x.kind u
 
-pub fault_at : (ts rest : List QueryToken) (x : QueryToken) (s u : Reached) (old new : Reader) (f : QueryFault) → Keeps ts s old
+pub fault_at : (ts rest : List QueryToken) (x : QueryToken) (s u : ParserState) (old new : Parser) (f : QueryFault) → Keeps ts s old
     → FailsAt x s u old new f → IsFault (ts ++ (x ∷ rest)) f
 fault_at ts rest x s (reached.Opening place) old new f keeps end = absurd (let e : false ≡ true = end.fails in cc)
 fault_at ts rest x s reached.Reading old new f keeps end = absurd (let e : false ≡ true = end.fails in cc)
@@ -178,7 +178,7 @@ split_at ts i d low =
     ∙ take-append-drop (i + 1) ts
 
 -- the query at the end
-query_is : (s : Reached) (r : Reader) (h : Head) (b : FilterTrees) → Done h b ≡ state_shown s r
+query_is : (s : ParserState) (r : Parser) (h : Head) (b : FilterTrees) → Done h b ≡ state_model s r
     → (h ≡ head_in r) × (b ≡ items_in r)
 query_is (reached.Opening place) r h b is = absurd (let g : Done h b ≡ Opening (head_in r) place = is in cc)
 query_is reached.Reading r h b is = absurd cc
@@ -186,7 +186,7 @@ query_is reached.Done r h b is = (cc, cc)
 query_is reached.Deep r h b is = absurd cc
 query_is reached.Stuck r h b is = absurd cc
 
-pub all_read : (ts : List QueryToken) (s : Reached) (r : Reader) → IsEnded ts → Keeps ts s r → Spells most_open ts (query_in r)
+pub all_read : (ts : List QueryToken) (s : ParserState) (r : Parser) → IsEnded ts → Keeps ts s r → Spells most_open ts (query_in r)
 all_read ts s r ended keeps =
     let done = end_is_done most_open ts ended keeps.lives in
     let found = query_is s r (opening done.0) (trees done.1) (sym (ap plant done.2) ∙ keeps.same) in
@@ -200,20 +200,20 @@ all_read ts s r ended keeps =
     (done_spells most_open ts done.0 done.1 done.2)
 
 -- along the list of tokens
-pub kept_more : (ts : List QueryToken) (i : ℕ) (x : QueryToken) (s u : Reached) (old new : Reader) → i < length ts
-    → x ≡ get_or ts i x → Keeps (take i ts) s old → state_shown u new ≡ feed planted most_open (state_shown s old) x
+pub kept_more : (ts : List QueryToken) (i : ℕ) (x : QueryToken) (s u : ParserState) (old new : Parser) → i < length ts
+    → x ≡ get_or ts i x → Keeps (take i ts) s old → state_model u new ≡ feed tree_builder most_open (state_model s old) x
     → is_fault u ≡ false → Keeps (take (i + 1) ts) u new
 kept_more ts i x s u old new low is keeps fed fine =
     subst (λ t. Keeps t u new) (ap (λ y. take i ts ++ (y ∷ [])) is
     ∙ sym (take_more ts i x low)) (kept_on (take i ts) x s u old new keeps fed fine)
 
-pub fault_here : (ts : List QueryToken) (i : ℕ) (x : QueryToken) (s u : Reached) (old new : Reader) (f : QueryFault) → i < length ts
+pub fault_here : (ts : List QueryToken) (i : ℕ) (x : QueryToken) (s u : ParserState) (old new : Parser) (f : QueryFault) → i < length ts
     → x ≡ get_or ts i x → Keeps (take i ts) s old → FailsAt x s u old new f → IsFault ts f
 fault_here ts i x s u old new f low is keeps end =
     subst (λ t. IsFault t f) (ap (λ y. take i ts ++ (y ∷ drop (i + 1) ts)) is
     ∙ split_at ts i x low) (fault_at (take i ts) (drop (i + 1) ts) x s u old new f keeps end)
 
-pub query_here : (ts : List QueryToken) (i : ℕ) (s : Reached) (r : Reader) (q : QueryTree) → length ts ≤ i → IsEnded ts
+pub query_here : (ts : List QueryToken) (i : ℕ) (s : ParserState) (r : Parser) (q : QueryTree) → length ts ≤ i → IsEnded ts
     → Keeps (take i ts) s r → q ≡ query_in r → Spells most_open ts q
 query_here ts i s r q all ended keeps is =
     subst (Spells most_open ts) (sym is) (all_read ts s r ended (subst (λ t. Keeps t s r) (take_all i ts all) keeps))
@@ -223,18 +223,18 @@ choose_true : {S : Type 0} (t : Bool) (s u : S) → t ≡ true → choose t s u 
 choose_true true s u is = refl
 choose_true false s u is = absurd cc
 
-pub after_joins : (h : Head) (b : FilterTrees) (v : ℕ) (a : Node) (k : List (Frame Rule Node)) (x : QueryToken) (r : Role)
-    → joins (due planted k) r ≡ true → after planted most_open h b v a k x r ≡ join planted h b v a k x (joint r)
+pub after_joins : (h : Head) (b : FilterTrees) (v : ℕ) (a : Node) (k : List (Frame OpenRule Node)) (x : QueryToken) (r : Role)
+    → joins (due tree_builder k) r ≡ true → after tree_builder most_open h b v a k x r ≡ join tree_builder h b v a k x (joint r)
 unfolding after
 after_joins h b v a [] x r is = choose_true (joins 0 r) _ _ is
-after_joins h b v a (Joining e f y j ∷ k) x r is = choose_true (joins (joint_level j + 1) r) _ _ is
+after_joins h b v a (Joining e f y j ∷ k) x r is = choose_true (joins (infix_level j + 1) r) _ _ is
 after_joins h b v a (InRule d ∷ k) x r is = choose_true (joins (least d.end) r) _ _ is
 
-pub joined_after : (result : Result Reached NoMemory) (new old : Reader) (v : ℕ) (a : Node) (x : QueryToken) (r : Role) (u : Grown)
-    → joins (due planted (frames_in old)) r ≡ true → after planted most_open (head_in old) (items_in old) v a (frames_in old) x r ≡ u
+pub joined_after : (result : Result ParserState NoMemory) (new old : Parser) (v : ℕ) (a : Node) (x : QueryToken) (r : Role) (u : MachineState)
+    → joins (due tree_builder (frames_in old)) r ≡ true → after tree_builder most_open (head_in old) (items_in old) v a (frames_in old) x r ≡ u
     → IfOk result (λ s. (y : QueryToken)
-    → state_shown s new ≡ join planted (head_in old) (items_in old) v a (frames_in old) y (joint r))
-    → IfOk result (λ s. state_shown s new ≡ u)
+    → state_model s new ≡ join tree_builder (head_in old) (items_in old) v a (frames_in old) y (joint r))
+    → IfOk result (λ s. state_model s new ≡ u)
 joined_after (Ok s) new old v a x r u yes_ is ok = ok x ∙ sym (after_joins (head_in old) (items_in old) v a (frames_in old) x r yes_)
     ∙ is
 joined_after (Err e) new old v a x r u yes_ is ok = tt

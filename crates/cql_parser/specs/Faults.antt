@@ -11,8 +11,8 @@ use Rattle.cql_syntax.specs.declared.token.QueryToken.{QueryToken}
 use Rattle.cql_syntax.specs.declared.token.QueryTokenKind.{QueryTokenKind}
 use Rattle.cql_syntax.specs.declared.token.QueryTokenKind.TheVariants.{Reserved, End}
 use Rattle.cql_syntax.specs.declared.tree.Query.{Query}
-use Rattle.cql_parser.specs.Grammar.{Begins}
-use Rattle.cql_parser.specs.Drafts.{Spells}
+use Rattle.cql_parser.specs.Grammar.{IsGrammaticalPrefix}
+use Rattle.cql_parser.specs.PartialFilters.{Spells}
 
 -- the last token is an end
 abbrev pub IsEnded : List QueryToken → Type 0
@@ -26,8 +26,8 @@ abbrev pub IsReason : List QueryToken → QueryTokenKind → QueryReason → Typ
 IsReason ts (Reserved name) reason = reason ≡ OutsideProfile name
 IsReason ts End reason = reason ≡ UnexpectedEnd
 IsReason ts kind reason =
-    ((reason ≡ TooDeep) × (limit : ℕ) × Begins limit ts)
-    ⊎ ((reason ≡ UnexpectedToken) × ((limit : ℕ) → Begins limit ts → ⊥))
+    ((reason ≡ TooDeep) × (limit : ℕ) × IsGrammaticalPrefix limit ts)
+    ⊎ ((reason ≡ UnexpectedToken) × ((limit : ℕ) → IsGrammaticalPrefix limit ts → ⊥))
 
 -- the first token such that no query begins with the tokens up to it
 pub record IsFault (ts : List QueryToken) (fault : QueryFault) : Type 0 where
@@ -35,8 +35,8 @@ pub record IsFault (ts : List QueryToken) (fault : QueryFault) : Type 0 where
   pub token : QueryToken
   pub rest : List QueryToken
   pub spelled : before ++ (token ∷ rest) ≡ ts
-  pub begins : Begins most_open before
-  pub dead : Begins most_open (before ++ (token ∷ [])) → ⊥
+  pub begins : IsGrammaticalPrefix most_open before
+  pub dead : IsGrammaticalPrefix most_open (before ++ (token ∷ [])) → ⊥
   pub byte : fault.byte ≡ token.at
   pub reason : IsReason (before ++ (token ∷ [])) token.kind fault.reason
 

@@ -1,27 +1,27 @@
 -- The queries that token lists spell, as they are written.
 use Rattle.std.specs.Prelude.{◌≡◌, ℕ, ◌+◌, ◌<◌, ◌≤◌, true, false, List, [], ◌∷◌, ◌++◌, Option, Some, None, fold}
 use Rattle.cql_syntax.specs.declared.token.QueryToken.{QueryToken}
-use Rattle.cql_parser.specs.declared.place.Context.{Context}
-use Rattle.cql_parser.specs.declared.place.Context.TheVariants.{Within}
-use Rattle.cql_parser.specs.declared.place.Heading.{Heading}
-use Rattle.cql_parser.specs.declared.place.Heading.TheVariants.{Start, Over}
-use Rattle.cql_parser.specs.declared.place.Place.{Place}
-use Rattle.cql_parser.specs.declared.role.Joint.{Joint}
+use Rattle.cql_parser.specs.declared.rule_state.OperandContext.{OperandContext}
+use Rattle.cql_parser.specs.declared.rule_state.OperandContext.TheVariants.{Within}
+use Rattle.cql_parser.specs.declared.rule_state.HeadState.{HeadState}
+use Rattle.cql_parser.specs.declared.rule_state.HeadState.TheVariants.{Start, Over}
+use Rattle.cql_parser.specs.declared.rule_state.RuleState.{RuleState}
+use Rattle.cql_parser.specs.declared.role.InfixOperator.{InfixOperator}
 use Rattle.cql_parser.specs.declared.role.Role.{Role}
 use Rattle.cql_parser.specs.declared.role.Role.TheVariants.{End}
-use Rattle.cql_parser.specs.Places.{role, heads, opens, goes, context, least, next, whole, level_of, depth_of, joint, joint_level, takes, joins}
+use Rattle.cql_parser.specs.RuleStates.{role, heads, opens, goes, context, least, next, whole, level_of, depth_of, joint, infix_level, takes, joins}
 
 mutual
   -- a filter as it is written: by a rule, or two filters and a token between them
   pub data Phrase : Type 0 where
     made : Parts → Phrase
-    joined : Phrase → QueryToken → Joint → Phrase → Phrase
+    joined : Phrase → QueryToken → InfixOperator → Phrase → Phrase
 
   -- the tokens and the filters along a rule, each with the place after it
   pub data Parts : Type 0 where
-    first : QueryToken → Place → Parts
-    add : Parts → QueryToken → Place → Parts
-    put : Parts → Phrase → Place → Parts
+    first : QueryToken → RuleState → Parts
+    add : Parts → QueryToken → RuleState → Parts
+    put : Parts → Phrase → RuleState → Parts
 
 -- filters in a row
 pub data Items : Type 0 where
@@ -54,26 +54,26 @@ abbrev mutual
   head_of (put ps p s) = head_of ps
 
 -- the place after the first token, and after the last part
-abbrev pub root : Parts → Place
+abbrev pub root : Parts → RuleState
 root (first x s) = s
 root (add ps x s) = root ps
 root (put ps p s) = root ps
 
-abbrev pub end : Parts → Place
+abbrev pub end : Parts → RuleState
 end (first x s) = s
 end (add ps x s) = s
 end (put ps p s) = s
 
 abbrev pub level : Phrase → ℕ
 level (made ps) = level_of (root ps)
-level (joined p x j q) = joint_level j
+level (joined p x j q) = infix_level j
 
 -- Whether a token that follows belongs to nothing inside: a token belongs to the innermost rule that goes on with it, and
 -- to the innermost row that it makes longer. So a brace after a part of a line is its mark.
 abbrev mutual
   pub IsOver : Phrase → Role → Type 0
   IsOver (made ps) r = AreOver ps r × (goes (end ps) r ≡ None)
-  IsOver (joined p x j q) r = IsOver q r × (joins (joint_level j + 1) r ≡ false)
+  IsOver (joined p x j q) r = IsOver q r × (joins (infix_level j + 1) r ≡ false)
 
   pub AreOver : Parts → Role → Type 0
   AreOver (first x s) r = Unit {0}
@@ -83,14 +83,14 @@ abbrev mutual
 -- Whether a filter is written by the grammar, where so many rules that count are open around it, and no more than a limit
 -- may be.
 abbrev mutual
-  pub Fits : ℕ → ℕ → Context → Phrase → Type 0
+  pub Fits : ℕ → ℕ → OperandContext → Phrase → Type 0
   Fits limit n c (made ps) = Goes limit n c ps × (whole (end ps) ≡ true)
   Fits limit n c (joined p x j q) =
-      (joint (role x.kind) ≡ Some j) × (takes j (level p) ≡ true) × (joint_level j < level q) × IsOver p (role x.kind)
+      (joint (role x.kind) ≡ Some j) × (takes j (level p) ≡ true) × (infix_level j < level q) × IsOver p (role x.kind)
       × Fits limit n c p × Fits limit n Within q
 
   -- the same of the first parts along a rule
-  pub Goes : ℕ → ℕ → Context → Parts → Type 0
+  pub Goes : ℕ → ℕ → OperandContext → Parts → Type 0
   Goes limit n c (first x s) = (opens c (role x.kind) ≡ Some s) × (n + depth_of s ≤ limit)
   Goes limit n c (add ps x s) = (goes (end ps) (role x.kind) ≡ Some s) × AreOver ps (role x.kind) × Goes limit n c ps
   Goes limit n c (put ps p s) =
@@ -108,11 +108,11 @@ AllFit limit none = Unit {0}
 AllFit limit (more ps p) = AllOver ps (role (head p).kind) × AllFit limit ps × Fits limit 0 Within p
 
 -- the place in the head of a query to which tokens lead
-abbrev pub head_step : Option Heading → QueryToken → Option Heading
+abbrev pub head_step : Option HeadState → QueryToken → Option HeadState
 head_step None x = None
 head_step (Some place) x = heads place (role x.kind)
 
-abbrev pub heading : List QueryToken → Option Heading
+abbrev pub heading : List QueryToken → Option HeadState
 heading ts = fold head_step (Some Start) ts
 
 abbrev pub IsSome : Items → Type 0
@@ -120,7 +120,7 @@ IsSome none = ⊥
 IsSome (more ps p) = Unit {0}
 
 -- a query as it is written: its head, its items and the end
-pub record Written (limit : ℕ) (ts : List QueryToken) : Type 0 where
+pub record IsGrammatical (limit : ℕ) (ts : List QueryToken) : Type 0 where
   pub opening : List QueryToken
   pub items : Items
   pub closing : QueryToken
@@ -132,6 +132,6 @@ pub record Written (limit : ℕ) (ts : List QueryToken) : Type 0 where
   pub spelled : opening ++ (items_text items ++ (closing ∷ [])) ≡ ts
 
 -- some query begins with the tokens
-pub record Begins (limit : ℕ) (ts : List QueryToken) : Type 0 where
+pub record IsGrammaticalPrefix (limit : ℕ) (ts : List QueryToken) : Type 0 where
   pub rest : List QueryToken
-  pub query : Written limit (ts ++ rest)
+  pub query : IsGrammatical limit (ts ++ rest)

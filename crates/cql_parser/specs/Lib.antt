@@ -1,11 +1,7 @@
-pub mod Drafts
+pub mod PartialFilters
 pub mod Faults
-pub mod Frames
 pub mod Grammar
-pub mod Machine
-pub mod Makers
-pub mod Places
-pub mod Planted
-pub mod Readers
-pub mod Shown
+pub mod Productions
+pub mod RuleStates
 pub mod Texts
+pub mod Internal

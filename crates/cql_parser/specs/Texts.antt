@@ -5,7 +5,7 @@ use Rattle.cql_syntax.specs.Trees.{QueryTree}
 use Rattle.cql_syntax.specs.declared.fault.QueryFault.{QueryFault}
 use Rattle.cql_syntax.specs.declared.token.QueryToken.{QueryToken}
 use Rattle.cql_lexer.specs.Tokens.{tokens_of}
-use Rattle.cql_parser.specs.Drafts.{Spells}
+use Rattle.cql_parser.specs.PartialFilters.{Spells}
 use Rattle.cql_parser.specs.Faults.{IsFault}
 
 -- the tokens of a text spell a query

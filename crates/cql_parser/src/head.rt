@@ -1,7 +1,7 @@
 //! The head of a query.
 ghost use Rattle.std.specs.Prelude.{◌≡◌, IfOk, OnOk};
-ghost use Rattle.cql_parser.specs.Drafts.{no_opening, hear, hear_word, hear_text};
-ghost use Rattle.cql_parser.specs.Shown.{head_shown};
+ghost use Rattle.cql_parser.specs.PartialFilters.{no_opening, add_token, add_word, add_text};
+ghost use Rattle.cql_parser.specs.Internal.Models.{head_model};
 
 use cq_common::{Bytes, NoMemory};
 use cql_syntax::{QueryToken, QueryTokenKind, Word, word_of};
@@ -19,7 +19,7 @@ pub struct Head {
 impl Head {
     /// No parameters.
     pub fn new(alloc: Global) -> Result<Head, NoMemory>
-        ensures { IfOk result (λ h. head_shown h ≡ no_opening) }
+        ensures { IfOk result (λ h. head_model h ≡ no_opening) }
     {
         Ok(Head {
             variations: false,
@@ -30,8 +30,8 @@ impl Head {
     }
 
     // A word.
-    fn hear_word(&mut self, at: u32, word: Option<Word>)
-        ensures { head_shown self.new ≡ hear_word (head_shown self.old) at word }
+    fn add_word(&mut self, at: u32, word: Option<Word>)
+        ensures { head_model self.new ≡ add_word (head_model self.old) at word }
     {
         match word {
             Some(Word::Variations) => self.variations = true,
@@ -41,8 +41,8 @@ impl Head {
     }
 
     // A text.
-    fn hear_text(&mut self, alloc: Global, text: &[u8]) -> Result<(), NoMemory>
-        ensures { OnOk result (head_shown self.new ≡ hear_text (head_shown self.old) text.now (head_shown self.old).pending) }
+    fn add_text(&mut self, alloc: Global, text: &[u8]) -> Result<(), NoMemory>
+        ensures { OnOk result (head_model self.new ≡ add_text (head_model self.old) text.now (head_model self.old).pending) }
     {
         if let Some(at) = self.pending {
             self.match_text = Bytes::from_slice(alloc, text)?;
@@ -53,12 +53,12 @@ impl Head {
     }
 
     /// One token more.
-    pub fn hear(&mut self, alloc: Global, token: &QueryToken) -> Result<(), NoMemory>
-        ensures { OnOk result (head_shown self.new ≡ hear (head_shown self.old) token.now token.now.kind) }
+    pub fn add_token(&mut self, alloc: Global, token: &QueryToken) -> Result<(), NoMemory>
+        ensures { OnOk result (head_model self.new ≡ add_token (head_model self.old) token.now token.now.kind) }
     {
         match &token.kind {
-            QueryTokenKind::Word(number) => self.hear_word(token.at, word_of(*number)),
-            QueryTokenKind::Text(text) => self.hear_text(alloc, text.as_slice())?,
+            QueryTokenKind::Word(number) => self.add_word(token.at, word_of(*number)),
+            QueryTokenKind::Text(text) => self.add_text(alloc, text.as_slice())?,
             _ => {}
         }
         Ok(())

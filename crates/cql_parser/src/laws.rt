@@ -6,7 +6,7 @@ ghost use Rattle.cql_syntax.specs.Trees.{QueryTree};
 ghost use Rattle.cql_syntax.specs.declared.fault.QueryFault.{QueryFault};
 ghost use Rattle.cql_syntax.specs.declared.token.QueryToken.{QueryToken};
 ghost use Rattle.cql_lexer.specs.Tokens.{tokens_of};
-ghost use Rattle.cql_parser.specs.Drafts.{Spells};
+ghost use Rattle.cql_parser.specs.PartialFilters.{Spells};
 ghost use Rattle.cql_parser.specs.Texts.{TextSpells, IsTextFault};
 ghost use Rattle.cql_parser.specs.Faults.{IsEnded, IsFault};
 

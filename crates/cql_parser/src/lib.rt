@@ -1,16 +1,16 @@
 //! The grammar of queries: which query a list of tokens spells.
 #![tactic(auto)]
 
-mod draft;
+mod partial_filter;
 mod head;
 mod laws;
-mod maker;
+mod production;
 mod parsing;
-mod place;
-mod reader;
+mod rule_state;
+mod parser;
 mod role;
-mod row;
-mod rule;
+mod infix;
+mod open_rule;
 mod stack;
 
 pub use laws::{

@@ -1,10 +1,10 @@
 //! Parsing the tokens of a query.
 ghost use Rattle.std.specs.Prelude.{◌≡◌, IfOk};
 ghost use Rattle.cql_parser.specs.Faults.{IsEnded, Parses};
-ghost use Rattle.cql_parser.specs.Readers.{reason_of};
+ghost use Rattle.cql_parser.specs.Internal.ParserStates.{reason_of};
 
-use crate::place::Heading;
-use crate::reader::{Reached, Reader};
+use crate::rule_state::HeadState;
+use crate::parser::{ParserState, Parser};
 use cq_common::{Bytes, NoMemory, Refusal};
 use cql_syntax::{Query, QueryFault, QueryReason, QueryToken, QueryTokenKind};
 use std::alloc::Global;
@@ -13,7 +13,7 @@ use std::alloc::Global;
 fn reason_at(
     alloc: Global,
     kind: &QueryTokenKind,
-    reached: Reached,
+    reached: ParserState,
 ) -> Result<QueryReason, NoMemory>
     ensures { IfOk result (λ reason. reason ≡ reason_of kind.now reached) }
 {
@@ -23,7 +23,7 @@ fn reason_at(
         }
         QueryTokenKind::End => QueryReason::UnexpectedEnd,
         _ => match reached {
-            Reached::Deep => QueryReason::TooDeep,
+            ParserState::Deep => QueryReason::TooDeep,
             _ => QueryReason::UnexpectedToken,
         },
     })
@@ -37,8 +37,8 @@ pub fn parse(alloc: Global, tokens: &[QueryToken]) -> Result<Query, Refusal<Quer
     requires { IsEnded tokens.now }
     ensures { Parses tokens.now result }
 {
-    let mut reader = Reader::new(alloc)?;
-    let mut reached = Reached::Opening(Heading::Start);
+    let mut reader = Parser::new(alloc)?;
+    let mut reached = ParserState::Opening(HeadState::Start);
     for token in tokens.iter() {
         reached = reader.feed(alloc, reached, token)?;
         if reached.is_fault() {

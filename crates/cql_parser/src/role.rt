@@ -1,12 +1,12 @@
 //! What the grammar sees of a token.
 ghost use Rattle.std.specs.Prelude.{◌≡◌, ◌≤◌};
-ghost use Rattle.cql_parser.specs.Places.{role, word_role, sign_role, joint, joint_level, chain_level, pair_level, takes, joins};
+ghost use Rattle.cql_parser.specs.RuleStates.{role, word_role, sign_role, joint, infix_level, chain_level, pair_level, takes, joins};
 
 use cql_syntax::{Chain, LONGEST_PATH, Pair, QueryTokenKind, Sign, Word, sign_of, word_of};
 
 /// What a token between two filters makes of them.
 #[derive(Clone, Copy)]
-pub enum Joint {
+pub enum InfixOperator {
     Chained(Chain),
     /// A sum; whether the filter after the token is subtracted.
     Added(bool),
@@ -51,7 +51,7 @@ fn sign_role(sign: Option<Sign>) -> Role
 }
 
 /// What the grammar sees of a token.
-#[tactic(auto, unfolding(crate::specs::Places::role))]
+#[tactic(auto, unfolding(crate::specs::RuleStates::role))]
 pub fn role_of(kind: &QueryTokenKind) -> Role
     ensures { result ≡ role kind.now }
 {
@@ -95,54 +95,54 @@ fn pair_level(pair: Pair) -> u8
 }
 
 /// The level of a row of filters with such tokens between them.
-#[tactic(auto, unfolding(crate::specs::Places::joint_level))]
-pub fn joint_level(joint: Joint) -> u8
-    ensures value { result ≡ joint_level joint }
+#[tactic(auto, unfolding(crate::specs::RuleStates::infix_level))]
+pub fn infix_level(joint: InfixOperator) -> u8
+    ensures value { result ≡ infix_level joint }
     ensures few { result ≤ 10 }
 {
     match joint {
-        Joint::Chained(chain) => chain_level(chain),
-        Joint::Added(_) => 4,
-        Joint::Paired(pair) => pair_level(pair),
+        InfixOperator::Chained(chain) => chain_level(chain),
+        InfixOperator::Added(_) => 4,
+        InfixOperator::Paired(pair) => pair_level(pair),
     }
 }
 
 /// Whether a filter of a level may stand before the token.
-#[tactic(auto, unfolding(crate::specs::Places::takes))]
-pub fn takes(joint: Joint, level: u8) -> bool
+#[tactic(auto, unfolding(crate::specs::RuleStates::takes))]
+pub fn takes(joint: InfixOperator, level: u8) -> bool
     ensures { result ≡ takes joint level }
 {
     match joint {
-        Joint::Chained(chain) => chain_level(chain) <= level,
-        Joint::Added(_) => 4 <= level,
-        Joint::Paired(pair) => pair_level(pair) < level,
+        InfixOperator::Chained(chain) => chain_level(chain) <= level,
+        InfixOperator::Added(_) => 4 <= level,
+        InfixOperator::Paired(pair) => pair_level(pair) < level,
     }
 }
 
 /// What a token between two filters makes of them, none of another token.
-#[tactic(auto, unfolding(crate::specs::Places::joint))]
-pub fn joint_of(role: Role) -> Option<Joint>
+#[tactic(auto, unfolding(crate::specs::RuleStates::joint))]
+pub fn infix_operator_of(role: Role) -> Option<InfixOperator>
     ensures { result ≡ joint role }
 {
     match role {
         Role::Word(word) => match word {
-            Word::Or => Some(Joint::Chained(Chain::Or)),
-            Word::And => Some(Joint::Chained(Chain::And)),
-            Word::Attacks => Some(Joint::Paired(Pair::Attacks)),
-            Word::AttackedBy => Some(Joint::Paired(Pair::AttackedBy)),
+            Word::Or => Some(InfixOperator::Chained(Chain::Or)),
+            Word::And => Some(InfixOperator::Chained(Chain::And)),
+            Word::Attacks => Some(InfixOperator::Paired(Pair::Attacks)),
+            Word::AttackedBy => Some(InfixOperator::Paired(Pair::AttackedBy)),
             _ => None,
         },
         Role::Sign(sign) => match sign {
-            Sign::Less => Some(Joint::Paired(Pair::Less)),
-            Sign::AtMost => Some(Joint::Paired(Pair::AtMost)),
-            Sign::Equal => Some(Joint::Paired(Pair::Equal)),
-            Sign::AtLeast => Some(Joint::Paired(Pair::AtLeast)),
-            Sign::Greater => Some(Joint::Paired(Pair::Greater)),
-            Sign::Plus => Some(Joint::Added(false)),
-            Sign::Minus => Some(Joint::Added(true)),
-            Sign::Star => Some(Joint::Chained(Chain::Product)),
-            Sign::Bar => Some(Joint::Chained(Chain::Union)),
-            Sign::Ampersand => Some(Joint::Chained(Chain::Intersect)),
+            Sign::Less => Some(InfixOperator::Paired(Pair::Less)),
+            Sign::AtMost => Some(InfixOperator::Paired(Pair::AtMost)),
+            Sign::Equal => Some(InfixOperator::Paired(Pair::Equal)),
+            Sign::AtLeast => Some(InfixOperator::Paired(Pair::AtLeast)),
+            Sign::Greater => Some(InfixOperator::Paired(Pair::Greater)),
+            Sign::Plus => Some(InfixOperator::Added(false)),
+            Sign::Minus => Some(InfixOperator::Added(true)),
+            Sign::Star => Some(InfixOperator::Chained(Chain::Product)),
+            Sign::Bar => Some(InfixOperator::Chained(Chain::Union)),
+            Sign::Ampersand => Some(InfixOperator::Chained(Chain::Intersect)),
             _ => None,
         },
         _ => None,
@@ -153,8 +153,8 @@ pub fn joint_of(role: Role) -> Option<Joint>
 pub fn joins(level: u8, role: Role) -> bool
     ensures { result ≡ joins level role }
 {
-    match joint_of(role) {
-        Some(joint) => level <= joint_level(joint),
+    match infix_operator_of(role) {
+        Some(joint) => level <= infix_level(joint),
         None => false,
     }
 }

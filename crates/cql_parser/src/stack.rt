@@ -1,14 +1,14 @@
 //! What is open while a query is read.
 ghost use Rattle.std.specs.Prelude.{◌≡◌, ◌≤◌, [], ◌∷◌, OnOk};
 ghost use Rattle.cql_syntax.specs.Limits.{most_open};
-ghost use Rattle.cql_parser.specs.Machine.{depth as open_in, due as due_in, around as around_in};
-ghost use Rattle.cql_parser.specs.Planted.{planted};
-ghost use Rattle.cql_parser.specs.Frames.{frame_shown, stack_shown, opened, Popped};
+ghost use Rattle.cql_parser.specs.Internal.Machine.{depth as open_in, due as due_in, around as around_in};
+ghost use Rattle.cql_parser.specs.Internal.TreeBuilder.{tree_builder};
+ghost use Rattle.cql_parser.specs.Internal.Frames.{frame_model, stack_model, opened, Popped};
 
-use crate::draft::Node;
-use crate::place::Context;
-use crate::role::{Joint, joint_level};
-use crate::rule::Rule;
+use crate::partial_filter::Node;
+use crate::rule_state::OperandContext;
+use crate::role::{InfixOperator, infix_level};
+use crate::open_rule::OpenRule;
 use cq_common::NoMemory;
 use std::alloc::Global;
 
@@ -20,9 +20,9 @@ pub const DEPTH_LIMIT: u32 = 64;
 #[derive(Drop)]
 pub enum Frame {
     /// The parts of a rule.
-    InRule(Rule),
+    InRule(OpenRule),
     /// A filter of a level, and what the token after it makes.
-    Joining(u8, Node, Joint),
+    Joining(u8, Node, InfixOperator),
 }
 
 /// What is open, the innermost last.
@@ -30,7 +30,7 @@ pub enum Frame {
 pub struct Stack {
     frames: Vec<Frame>,
     depth: u32,
-    ghost counted: { depth ≡ open_in planted (stack_shown frames.items) },
+    ghost counted: { depth ≡ open_in tree_builder (stack_model frames.items) },
     ghost few: { depth ≤ most_open },
 }
 
@@ -48,21 +48,21 @@ impl Frame {
 
     // The least level of the filter that is due after it.
     fn due(&self) -> u8
-        ensures { result ≡ due_in planted (frame_shown self.now ∷ []) }
+        ensures { result ≡ due_in tree_builder (frame_model self.now ∷ []) }
     {
         match self {
             Frame::InRule(rule) => rule.end.least(),
-            Frame::Joining(_, _, joint) => joint_level(*joint) + 1,
+            Frame::Joining(_, _, joint) => infix_level(*joint) + 1,
         }
     }
 
     // What is around that filter.
-    fn around(&self) -> Context
-        ensures { result ≡ around_in planted (frame_shown self.now ∷ []) }
+    fn around(&self) -> OperandContext
+        ensures { result ≡ around_in tree_builder (frame_model self.now ∷ []) }
     {
         match self {
             Frame::InRule(rule) => rule.end.context(),
-            Frame::Joining(..) => Context::Within,
+            Frame::Joining(..) => OperandContext::Within,
         }
     }
 }
@@ -71,7 +71,7 @@ impl Stack {
     /// Nothing open. Takes no memory.
     #[tactic(auto, using(crate::proofs::Frames::shown_none))]
     pub fn new(alloc: Global) -> Stack
-        ensures { stack_shown result.frames.items ≡ [] }
+        ensures { stack_model result.frames.items ≡ [] }
     {
         Stack {
             frames: Vec::new(alloc),
@@ -81,7 +81,7 @@ impl Stack {
 
     /// How many rules that count are open.
     pub fn depth(&self) -> u32
-        ensures value { result ≡ open_in planted (stack_shown self.now.frames.items) }
+        ensures value { result ≡ open_in tree_builder (stack_model self.now.frames.items) }
         ensures few { result ≤ most_open }
     {
         self.depth
@@ -90,7 +90,7 @@ impl Stack {
     /// The least level of the filter that is due.
     #[tactic(auto, using(crate::proofs::Frames::due_last, crate::proofs::Frames::due_none))]
     pub fn due(&self) -> u8
-        ensures { result ≡ due_in planted (stack_shown self.now.frames.items) }
+        ensures { result ≡ due_in tree_builder (stack_model self.now.frames.items) }
     {
         match self.frames.last() {
             Some(frame) => frame.due(),
@@ -100,20 +100,20 @@ impl Stack {
 
     /// What is around that filter.
     #[tactic(auto, using(crate::proofs::Frames::around_last, crate::proofs::Frames::around_none))]
-    pub fn around(&self) -> Context
-        ensures { result ≡ around_in planted (stack_shown self.now.frames.items) }
+    pub fn around(&self) -> OperandContext
+        ensures { result ≡ around_in tree_builder (stack_model self.now.frames.items) }
     {
         match self.frames.last() {
             Some(frame) => frame.around(),
-            None => Context::Within,
+            None => OperandContext::Within,
         }
     }
 
     /// One more.
     #[tactic(auto, using(crate::proofs::Frames::shown_more, crate::proofs::Frames::depth_more))]
     pub fn push(&mut self, frame: Frame) -> Result<(), NoMemory>
-        requires { open_in planted (frame_shown frame ∷ stack_shown self.old.frames.items) ≤ most_open }
-        ensures { OnOk result (stack_shown self.new.frames.items ≡ frame_shown frame ∷ stack_shown self.old.frames.items) }
+        requires { open_in tree_builder (frame_model frame ∷ stack_model self.old.frames.items) ≤ most_open }
+        ensures { OnOk result (stack_model self.new.frames.items ≡ frame_model frame ∷ stack_model self.old.frames.items) }
     {
         let more = frame.depth();
         self.frames.push(frame)?;
@@ -124,7 +124,7 @@ impl Stack {
     /// The innermost.
     #[tactic(auto, using(crate::proofs::Frames::shown_more, crate::proofs::Frames::depth_more, crate::proofs::Frames::shown_none))]
     pub fn pop(&mut self) -> Option<Frame>
-        ensures { Popped (stack_shown self.old.frames.items) (stack_shown self.new.frames.items) result }
+        ensures { Popped (stack_model self.old.frames.items) (stack_model self.new.frames.items) result }
     {
         let frame = self.frames.pop()?;
         self.depth -= frame.depth();

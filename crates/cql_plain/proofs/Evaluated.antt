@@ -15,9 +15,9 @@ use Rattle.cql_syntax.specs.Meaning.{Names, value, fits}
 use Rattle.cql_syntax.specs.Trees.{FilterTree, filter_at, transform}
 use Rattle.cql_syntax.specs.Values.{Value, as_truth, square_of, has, any_of}
 use Rattle.cql_values.proofs.Ranges.{any_last, some_square}
-use Rattle.cql_values.specs.Asked.{settles}
-use Rattle.cql_plain.specs.Members.{value_in_member, values_in_members}
-use Rattle.cql_values.specs.Shown.{meant}
+use Rattle.cql_values.specs.FilterValues.{settles}
+use Rattle.cql_plain.specs.Internal.Members.{value_in_member, values_in_members}
+use Rattle.cql_values.specs.ValueModel.{as_value}
 use Rattle.cql_values.specs.declared.value.Value.{Value as Kept}
 use Rattle.cql_values.proofs.Evaluated.{map_snoc, by_settling}
 
@@ -41,9 +41,9 @@ kept_snoc : {A B : Type 0} (test : A → Bool) (f : A → B) (xs : List A) (x : 
 kept_snoc test f [] x = kept_one f x (test x)
 kept_snoc test f (y ∷ xs) x = kept_after f y (filter test xs) (filter test (xs ++ x ∷ [])) (option_to_list (if test x then Some (f x) else None)) (test y) (kept_snoc test f xs x)
 
-pub map_more : (xs : List Kept) (o : Option Kept) → map meant (xs ++ option_to_list o) ≡ map meant xs ++ option_to_list (option_map meant o)
-map_more xs None = ap (map meant) (append-nil xs) ∙ sym (append-nil (map meant xs))
-map_more xs (Some v) = map_snoc meant xs v
+pub map_more : (xs : List Kept) (o : Option Kept) → map as_value (xs ++ option_to_list o) ≡ map as_value xs ++ option_to_list (option_map as_value o)
+map_more xs None = ap (map as_value) (append-nil xs) ∙ sym (append-nil (map as_value xs))
+map_more xs (Some v) = map_snoc as_value xs v
 
 -- one more member, with which the part fits or not
 pub members_more : (tree : SearchedTree) (g : Context) (e : Names) (n : ℕ) (ms : List PlainMapping) (k : ℕ) (h : PlainMapping) (f : FilterTree) → Some h ≡ slice_get ms k

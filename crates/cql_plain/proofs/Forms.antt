@@ -19,7 +19,7 @@ use Rattle.cql_syntax.specs.declared.leaves.Plain.{Plain}
 use Rattle.cql_syntax.specs.declared.leaves.Unary.{Unary}
 use Rattle.cql_syntax.specs.declared.leaves.Way.{Way}
 use Rattle.cql_syntax.specs.declared.tree.Filter.{Filter}
-use Rattle.cql_plain.specs.Scopes.{tree_in, value_in}
+use Rattle.cql_plain.specs.Internal.Scopes.{tree_in, value_in}
 use Rattle.cql_plain.specs.declared.scope.Scope.{Scope}
 
 module _ (s : Scope) (f : Filter) (n : ℕ) where

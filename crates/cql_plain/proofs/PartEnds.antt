@@ -15,10 +15,10 @@ use Rattle.cql_syntax.specs.Values.{Value, holds}
 use Rattle.cql_syntax.specs.declared.leaves.Mark.{Mark}
 use Rattle.cql_syntax.specs.declared.leaves.Mark.TheVariants.{Once, Star, Plus, Maybe, Times}
 use Rattle.cql_syntax.specs.declared.tree.Constituent.{Constituent}
-use Rattle.cql_plain.specs.Lines.{holds_of, EndsOf, least_times, most_times}
-use Rattle.cql_plain.specs.Paths.{place_before, GoesTo, AreSteps, comes_from}
-use Rattle.cql_plain.specs.Places.{IsEnd, IsIn}
-use Rattle.cql_plain.specs.declared.paths.Reached.{Reached}
+use Rattle.cql_plain.specs.Internal.LineParts.{holds_of, EndsOf, least_times, most_times}
+use Rattle.cql_plain.specs.Internal.Paths.{place_before, GoesTo, AreSteps, comes_from}
+use Rattle.cql_plain.specs.Internal.PatternEnds.{IsEnd, HasPlace}
+use Rattle.cql_plain.specs.declared.paths.PathStep.{PathStep}
 use Rattle.cql_plain.proofs.LineLaw.{short}
 use Rattle.cq_common.proofs.WithinLaw.{left, right}
 use Rattle.cql_plain.proofs.PatternEnds.{Turns, begun, turned, stopped, repeated_law, once_law, any_most, star_few, plus_few, joined_law, nothing_law, one_law, IsNext, more_ends}
@@ -44,24 +44,24 @@ get_counted false [] j = refl
 get_counted b (x ∷ xs) zero = refl
 get_counted b (x ∷ xs) (suc j) = get_counted b xs j
 
-none_in : (xs : List Bool) → list_any (λ x. x) xs ≡ false → (j : ℕ) → IsIn xs j → ⊥
+none_in : (xs : List Bool) → list_any (λ x. x) xs ≡ false → (j : ℕ) → HasPlace xs j → ⊥
 none_in [] e j h = cc
 none_in (true ∷ xs) e j h = cc
 none_in (false ∷ xs) e zero h = cc
 none_in (false ∷ xs) e (suc j) h = none_in xs e j h
 
 -- how often a part stands
-module _ (steps : List (Option Reached)) (p : Pattern (ℕ → Value)) (least : ℕ) (starts : List Bool) where
+module _ (steps : List (Option PathStep)) (p : Pattern (ℕ → Value)) (least : ℕ) (starts : List Bool) where
   pub record AreTurns (t : ℕ) (here ends : List Bool) : Type 0 where
     pub here_count : length here ≡ length starts
     pub ends_count : length ends ≡ length starts
-    pub turns : Turns (GoesTo steps) holds_of p least t (IsIn starts) (IsIn here) (IsIn ends)
+    pub turns : Turns (GoesTo steps) holds_of p least t (HasPlace starts) (HasPlace here) (HasPlace ends)
 
   pub turns_begun : (here ends : List Bool) → here ≡ map (λ b. true && b) starts → ends ≡ map (λ b. (nat_eq least 0) && b) starts → AreTurns 0 here ends
   turns_begun here ends is_here is_ends = record {
     here_count = ap length is_here ∙ length-map starts (λ b. true && b);
     ends_count = ap length is_ends ∙ length-map starts (λ b. (nat_eq least 0) && b);
-    turns = begun (GoesTo steps) holds_of p least (IsIn starts) (IsIn here) (IsIn ends) (record {
+    turns = begun (GoesTo steps) holds_of p least (HasPlace starts) (HasPlace here) (HasPlace ends) (record {
       here = λ j. (λ h. sym (at_here j) ∙ h, λ h. at_here j ∙ h);
       ends = λ j h. let e = sym (at_ends j) ∙ h in
           (eqb-true least 0 (left (nat_eq least 0) (get_or starts j false) e), right (nat_eq least 0) (get_or starts j false) e);
@@ -98,8 +98,8 @@ module _ (steps : List (Option Reached)) (p : Pattern (ℕ → Value)) (least : 
   turns_more t here ends next new_here new_ends counts e low high is_here is_ends a = record {
     here_count = ap length is_here ∙ length_zip (λ b. b.0 && not (counts && b.1)) next ends same ∙ e.count ∙ a.here_count;
     ends_count = ap length is_ends ∙ length_zip (λ b. b.1 || (counts && b.0)) next ends same ∙ e.count ∙ a.here_count;
-    turns = subst (λ k. Turns (GoesTo steps) holds_of p least k (IsIn starts) (IsIn new_here) (IsIn new_ends)) (let k : suc t ≡ t + 1 = omega arith in k)
-        (turned (GoesTo steps) holds_of p least t (IsIn starts) (IsIn next) (IsIn here) (IsIn ends) (IsIn new_here) (IsIn new_ends) e.each (record {
+    turns = subst (λ k. Turns (GoesTo steps) holds_of p least k (HasPlace starts) (HasPlace new_here) (HasPlace new_ends)) (let k : suc t ≡ t + 1 = omega arith in k)
+        (turned (GoesTo steps) holds_of p least t (HasPlace starts) (HasPlace next) (HasPlace here) (HasPlace ends) (HasPlace new_here) (HasPlace new_ends) e.each (record {
           here = λ j h. left (get_or next j false) (not (counts && get_or ends j false)) (sym (at_here j) ∙ h);
           fresh = λ j h. elim (fresh_by (get_or next j false) (get_or ends j false) counts h) [ inl new ↦ inl (at_here j ∙ new) | inr old ↦ inr old ];
           kept = λ j h. at_ends j ∙ kept_by (get_or next j false) (get_or ends j false) counts h;
@@ -134,8 +134,8 @@ module _ (steps : List (Option Reached)) (p : Pattern (ℕ → Value)) (least : 
   turns_end most here ends a = record {
     count = a.ends_count;
     each = λ j. (
-      λ h. (repeated_law (GoesTo steps) holds_of p least (Some most) (IsIn starts) j).1 (a.turns.ends j h),
-      λ h. let r = (repeated_law (GoesTo steps) holds_of p least (Some most) (IsIn starts) j).0 h in a.turns.all_ends r.count j r.enough r.within r.ends,
+      λ h. (repeated_law (GoesTo steps) holds_of p least (Some most) (HasPlace starts) j).1 (a.turns.ends j h),
+      λ h. let r = (repeated_law (GoesTo steps) holds_of p least (Some most) (HasPlace starts) j).0 h in a.turns.all_ends r.count j r.enough r.within r.ends,
     );
   }
 
@@ -144,14 +144,14 @@ module _ (steps : List (Option Reached)) (p : Pattern (ℕ → Value)) (least : 
     count = a.ends_count;
     each = λ j. (
       λ h. let e = a.turns.ends j h in
-          (repeated_law (GoesTo steps) holds_of p least (Some most) (IsIn starts) j).1 (record { count = e.count; enough = e.enough; within = omega (arith, e.within, low); ends = e.ends }),
-      λ h. let r = (repeated_law (GoesTo steps) holds_of p least (Some most) (IsIn starts) j).0 h in
-          stopped (GoesTo steps) holds_of p least t (IsIn starts) (IsIn here) (IsIn ends) (none_in here none) a.turns r.count j r.enough r.ends,
+          (repeated_law (GoesTo steps) holds_of p least (Some most) (HasPlace starts) j).1 (record { count = e.count; enough = e.enough; within = omega (arith, e.within, low); ends = e.ends }),
+      λ h. let r = (repeated_law (GoesTo steps) holds_of p least (Some most) (HasPlace starts) j).0 h in
+          stopped (GoesTo steps) holds_of p least t (HasPlace starts) (HasPlace here) (HasPlace ends) (none_in here none) a.turns r.count j r.enough r.ends,
     );
   }
 
 -- a mark allows as many times as are of use
-pub marks_law : (steps : List (Option Reached)) → AreSteps steps → (mark : Mark) (p : Pattern (ℕ → Value)) (S : ℕ → Type 0) (j : ℕ)
+pub marks_law : (steps : List (Option PathStep)) → AreSteps steps → (mark : Mark) (p : Pattern (ℕ → Value)) (S : ℕ → Type 0) (j : ℕ)
     → IsEnd (GoesTo steps) holds_of (marked mark p) S j ↔ IsEnd (GoesTo steps) holds_of (repeated (least_times mark) (Some (most_times mark (length steps))) p) S j
 marks_law steps sound Once p S j = once_law (GoesTo steps) holds_of p S j
 marks_law steps sound Star p S j =
@@ -162,17 +162,17 @@ marks_law steps sound Maybe p S j = (λ h. h, λ h. h)
 marks_law steps sound (Times least most) p S j = (λ h. h, λ h. h)
 
 -- parts in a row
-pub record AreParts (steps : List (Option Reached)) (tree : SearchedTree) (g : Context) (e : Names) (starts : List Bool) (whole left : PartTrees) (places : List Bool) : Type 0 where
+pub record AreParts (steps : List (Option PathStep)) (tree : SearchedTree) (g : Context) (e : Names) (starts : List Bool) (whole left : PartTrees) (places : List Bool) : Type 0 where
   pub count : length places ≡ length starts
-  pub each : (j : ℕ) → IsEnd (GoesTo steps) holds_of (pattern tree g e left) (IsIn places) j ↔ IsEnd (GoesTo steps) holds_of (pattern tree g e whole) (IsIn starts) j
+  pub each : (j : ℕ) → IsEnd (GoesTo steps) holds_of (pattern tree g e left) (HasPlace places) j ↔ IsEnd (GoesTo steps) holds_of (pattern tree g e whole) (HasPlace starts) j
 
-module _ (steps : List (Option Reached)) (sound : AreSteps steps) (tree : SearchedTree) (g : Context) (e : Names) (starts : List Bool) (whole : PartTrees) where
+module _ (steps : List (Option PathStep)) (sound : AreSteps steps) (tree : SearchedTree) (g : Context) (e : Names) (starts : List Bool) (whole : PartTrees) where
   pub parts_begun : (left : PartTrees) (places : List Bool) → places ≡ map (λ b. true && b) starts → left ≡ whole → AreParts steps tree g e starts whole left places
   parts_begun left places is same = record {
     count = ap length is ∙ length-map starts (λ b. true && b);
-    each = λ j. subst (λ t. IsEnd (GoesTo steps) holds_of (pattern tree g e t) (IsIn places) j ↔ IsEnd (GoesTo steps) holds_of (pattern tree g e whole) (IsIn starts) j) (sym same) (
-      more_ends (GoesTo steps) holds_of (pattern tree g e whole) (IsIn places) (IsIn starts) (λ i h. sym (at i) ∙ h) j,
-      more_ends (GoesTo steps) holds_of (pattern tree g e whole) (IsIn starts) (IsIn places) (λ i h. at i ∙ h) j,
+    each = λ j. subst (λ t. IsEnd (GoesTo steps) holds_of (pattern tree g e t) (HasPlace places) j ↔ IsEnd (GoesTo steps) holds_of (pattern tree g e whole) (HasPlace starts) j) (sym same) (
+      more_ends (GoesTo steps) holds_of (pattern tree g e whole) (HasPlace places) (HasPlace starts) (λ i h. sym (at i) ∙ h) j,
+      more_ends (GoesTo steps) holds_of (pattern tree g e whole) (HasPlace starts) (HasPlace places) (λ i h. at i ∙ h) j,
     );
   }
     where
@@ -185,12 +185,12 @@ module _ (steps : List (Option Reached)) (sound : AreSteps steps) (tree : Search
   one_part c cs places new ends a = record {
     count = ends.count ∙ a.count;
     each = λ j. (
-      λ h. (a.each j).0 ((joined_law (GoesTo steps) holds_of (marked c.mark (body_pattern tree g e (body_tree c.body))) (pattern tree g e (part_trees cs)) (IsIn places) j).1
-          (more_ends (GoesTo steps) holds_of (pattern tree g e (part_trees cs)) (IsIn new) (IsEnd (GoesTo steps) holds_of (marked c.mark (body_pattern tree g e (body_tree c.body))) (IsIn places))
+      λ h. (a.each j).0 ((joined_law (GoesTo steps) holds_of (marked c.mark (body_pattern tree g e (body_tree c.body))) (pattern tree g e (part_trees cs)) (HasPlace places) j).1
+          (more_ends (GoesTo steps) holds_of (pattern tree g e (part_trees cs)) (HasPlace new) (IsEnd (GoesTo steps) holds_of (marked c.mark (body_pattern tree g e (body_tree c.body))) (HasPlace places))
           (λ i s. (ends.each i).0 s) j h)),
-      λ h. more_ends (GoesTo steps) holds_of (pattern tree g e (part_trees cs)) (IsEnd (GoesTo steps) holds_of (marked c.mark (body_pattern tree g e (body_tree c.body))) (IsIn places)) (IsIn new)
+      λ h. more_ends (GoesTo steps) holds_of (pattern tree g e (part_trees cs)) (IsEnd (GoesTo steps) holds_of (marked c.mark (body_pattern tree g e (body_tree c.body))) (HasPlace places)) (HasPlace new)
           (λ i s. (ends.each i).1 s) j
-          ((joined_law (GoesTo steps) holds_of (marked c.mark (body_pattern tree g e (body_tree c.body))) (pattern tree g e (part_trees cs)) (IsIn places) j).0 ((a.each j).1 h)),
+          ((joined_law (GoesTo steps) holds_of (marked c.mark (body_pattern tree g e (body_tree c.body))) (pattern tree g e (part_trees cs)) (HasPlace places) j).0 ((a.each j).1 h)),
     );
   }
 
@@ -199,8 +199,8 @@ module _ (steps : List (Option Reached)) (sound : AreSteps steps) (tree : Search
   of_mark mark p least most places new is_least is_most ends = record {
     count = ends.count;
     each = λ j. (
-      λ h. (marks_law steps sound mark p (IsIn places) j).1 (subst (λ q. IsEnd (GoesTo steps) holds_of q (IsIn places) j) same ((ends.each j).0 h)),
-      λ h. (ends.each j).1 (subst (λ q. IsEnd (GoesTo steps) holds_of q (IsIn places) j) (sym same) ((marks_law steps sound mark p (IsIn places) j).0 h)),
+      λ h. (marks_law steps sound mark p (HasPlace places) j).1 (subst (λ q. IsEnd (GoesTo steps) holds_of q (HasPlace places) j) same ((ends.each j).0 h)),
+      λ h. (ends.each j).1 (subst (λ q. IsEnd (GoesTo steps) holds_of q (HasPlace places) j) (sym same) ((marks_law steps sound mark p (HasPlace places) j).0 h)),
     );
   }
     where
@@ -232,8 +232,8 @@ module _ (steps : List (Option Reached)) (sound : AreSteps steps) (tree : Search
   no_parts_left places a = record {
     count = a.count;
     each = λ j. (
-      λ h. (a.each j).0 ((nothing_law (GoesTo steps) holds_of (IsIn places) j).1 h),
-      λ h. (nothing_law (GoesTo steps) holds_of (IsIn places) j).0 ((a.each j).1 h),
+      λ h. (a.each j).0 ((nothing_law (GoesTo steps) holds_of (HasPlace places) j).1 h),
+      λ h. (nothing_law (GoesTo steps) holds_of (HasPlace places) j).0 ((a.each j).1 h),
     );
   }
 
@@ -242,18 +242,18 @@ module _ (steps : List (Option Reached)) (sound : AreSteps steps) (tree : Search
   parts_end cs i places h a = no_parts_left places (subst (λ ds. AreParts steps tree g e starts whole (part_trees ds) places) (all_dropped cs i h) a)
 
 -- nodes at which an atom holds
-record Came (steps : List (Option Reached)) (starts : List Bool) (k : ℕ) : Type 0 where
+record Came (steps : List (Option PathStep)) (starts : List Bool) (k : ℕ) : Type 0 where
   start : ℕ
-  begins : IsIn starts start
+  begins : HasPlace starts start
   goes : GoesTo steps start k
 
-came_by : (steps : List (Option Reached)) (starts : List Bool) (k : ℕ) (o : Option Reached) → get_or steps k None ≡ o → comes_from starts o ≡ true → Came steps starts k
+came_by : (steps : List (Option PathStep)) (starts : List Bool) (k : ℕ) (o : Option PathStep) → get_or steps k None ≡ o → comes_from starts o ≡ true → Came steps starts k
 came_by steps starts k None at e = absurd cc
 came_by steps starts k (Some r) at e = record { start = r.before; begins = e; goes = ap place_before at }
 
-comes_by : (starts : List Bool) (i : ℕ) (o : Option Reached) → place_before o ≡ Some i → IsIn starts i → comes_from starts o ≡ true
+comes_by : (starts : List Bool) (i : ℕ) (o : Option PathStep) → place_before o ≡ Some i → HasPlace starts i → comes_from starts o ≡ true
 comes_by starts i None e h = absurd cc
-comes_by starts i (Some r) e h = let same : r.before ≡ i = cc in subst (IsIn starts) (sym same) h
+comes_by starts i (Some r) e h = let same : r.before ≡ i = cc in subst (HasPlace starts) (sym same) h
 
 from_zero : (k : ℕ) → k ≡ 0 + k
 from_zero k = omega arith
@@ -274,20 +274,20 @@ at_found : (f : ℕ → Bool) (n k : ℕ) → k < n → f k ≡ true → get_or 
 at_found f n k less e =
     get_or-map f (range_with_len 0 n) k 0 false (omega (arith, less, length-range_with_len 0 n)) ∙ ap f (get_or-range_with_len 0 n k 0 less ∙ sym (from_zero k)) ∙ e
 
-pub atom_law : (steps : List (Option Reached)) (v : ℕ → Value) (starts ends : List Bool) (n : ℕ) → n ≡ length steps → length starts ≡ length steps + 1
+pub atom_law : (steps : List (Option PathStep)) (v : ℕ → Value) (starts ends : List Bool) (n : ℕ) → n ≡ length steps → length starts ≡ length steps + 1
     → ends ≡ false ∷ map (λ k. comes_from starts (get_or steps k None) && holds (v k)) (range_with_len 0 n) → EndsOf steps (one v) starts ends
 atom_law steps v starts ends n is count all = record {
   count = ap length all ∙ ap suc (length-map (range_with_len 0 n) f ∙ length-range_with_len 0 n ∙ is) ∙ omega (arith, count);
   each = λ j. (
-    λ h. (one_law (GoesTo steps) holds_of v (IsIn starts) j).1 (to_next j (subst (λ xs. IsIn xs j) all h)),
-    λ h. subst (λ xs. IsIn xs j) (sym all) (of_next j ((one_law (GoesTo steps) holds_of v (IsIn starts) j).0 h)),
+    λ h. (one_law (GoesTo steps) holds_of v (HasPlace starts) j).1 (to_next j (subst (λ xs. HasPlace xs j) all h)),
+    λ h. subst (λ xs. HasPlace xs j) (sym all) (of_next j ((one_law (GoesTo steps) holds_of v (HasPlace starts) j).0 h)),
   );
 }
   where
     f : ℕ → Bool
     f = λ k. comes_from starts (get_or steps k None) && holds (v k)
 
-    to_next : (j : ℕ) → IsIn (false ∷ map (λ k. comes_from starts (get_or steps k None) && holds (v k)) (range_with_len 0 n)) j → IsNext (GoesTo steps) holds_of v (IsIn starts) j
+    to_next : (j : ℕ) → HasPlace (false ∷ map (λ k. comes_from starts (get_or steps k None) && holds (v k)) (range_with_len 0 n)) j → IsNext (GoesTo steps) holds_of v (HasPlace starts) j
     to_next zero h = absurd (cc)
     to_next (suc k) h =
         let at = found_at (λ k. comes_from starts (get_or steps k None) && holds (v k)) n k h in
@@ -303,7 +303,7 @@ atom_law steps v starts ends n is count all = record {
     both_true : (a b : Bool) → a ≡ true → b ≡ true → (a && b) ≡ true
     both_true a b x y = rw x y
 
-    of_next : (j : ℕ) → IsNext (GoesTo steps) holds_of v (IsIn starts) j → IsIn (false ∷ map (λ k. comes_from starts (get_or steps k None) && holds (v k)) (range_with_len 0 n)) j
+    of_next : (j : ℕ) → IsNext (GoesTo steps) holds_of v (HasPlace starts) j → HasPlace (false ∷ map (λ k. comes_from starts (get_or steps k None) && holds (v k)) (range_with_len 0 n)) j
     of_next zero r = absurd (omega (arith, r.is))
     of_next (suc k) r =
         let same : r.node ≡ k = omega (arith, r.is) in
@@ -311,7 +311,7 @@ atom_law steps v starts ends n is count all = record {
         at_found (λ k. comes_from starts (get_or steps k None) && holds (v k)) n k (inside r.start k goes)
         (both_true (comes_from starts (get_or steps k None)) (holds (v k)) (comes_by starts r.start (get_or steps k None) goes r.begins) (ap (holds_of v) (sym same) ∙ r.passes))
 
-pub atom_more : (steps : List (Option Reached)) (v : ℕ → Value) (starts ends new : List Bool) (k : ℕ) (passes : Bool)
+pub atom_more : (steps : List (Option PathStep)) (v : ℕ → Value) (starts ends new : List Bool) (k : ℕ) (passes : Bool)
     → passes ≡ (comes_from starts (get_or steps k None) && holds (v k)) → new ≡ ends ++ passes ∷ []
     → ends ≡ false ∷ map (λ k. comes_from starts (get_or steps k None) && holds (v k)) (range_with_len 0 k)
     → new ≡ false ∷ map (λ k. comes_from starts (get_or steps k None) && holds (v k)) (range_with_len 0 (k + 1))

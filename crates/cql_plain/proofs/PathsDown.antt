@@ -6,8 +6,8 @@ use Rattle.std.proofs.lemmas.List.{get_or_past}
 use Rattle.cq_position.specs.Games.{Node, no_node, node_at, is_first_child, is_searched, IsTree}
 use Rattle.cq_position.specs.Search.{SearchedTree, IsStepDown}
 use Rattle.cq_position.proofs.WaysUp.{parent_before}
-use Rattle.cql_plain.specs.Paths.{place_before, GoesTo, nodes_to, length_at, ArePaths, above, searched_above, reached_by, reached_down_by}
-use Rattle.cql_plain.specs.declared.paths.Reached.{Reached}
+use Rattle.cql_plain.specs.Internal.Paths.{place_before, GoesTo, nodes_to, length_at, ArePaths, above, searched_above, step_after, step_down}
+use Rattle.cql_plain.specs.declared.paths.PathStep.{PathStep}
 
 -- the end of a list
 pub get_before : {A : Type 0} (xs : List A) (x d : A) (i : ℕ) → i < length xs → get_or (xs ++ x ∷ []) i d ≡ get_or xs i d
@@ -57,71 +57,71 @@ pub is_down : (tree : SearchedTree) (primary : Bool) (k p : ℕ) → IsStepDown 
 is_down tree primary k p s = rw s.is_in (is_above tree primary k p (record { parent = s.child; first = s.first }))
 
 -- How a node is reached: as the first of a path, or by another.
-pub record IsFirst (n k j : ℕ) (o : Option Reached) : Type 0 where
+pub record IsFirst (n k j : ℕ) (o : Option PathStep) : Type 0 where
   pub node : k ≡ n
   pub place : j ≡ 0
   pub nodes : nodes_to o ≡ 1
 
-pub record IsAfter (steps : List (Option Reached)) (by : Option ℕ) (j : ℕ) (o : Option Reached) : Type 0 where
+pub record IsAfter (steps : List (Option PathStep)) (by : Option ℕ) (j : ℕ) (o : Option PathStep) : Type 0 where
   pub node : ℕ
-  pub step : Reached
+  pub step : PathStep
   pub is : by ≡ Some node
   pub place : j ≡ suc node
   pub reached : get_or steps node None ≡ Some step
   pub nodes : nodes_to o ≡ step.length + 1
 
-after_by : (steps : List (Option Reached)) (p j : ℕ) (r : Option Reached) → get_or steps p None ≡ r
+after_by : (steps : List (Option PathStep)) (p j : ℕ) (r : Option PathStep) → get_or steps p None ≡ r
     → place_before (option_map (λ r. record { before = p + 1; length = r.length + 1 }) r) ≡ Some j
     → IsAfter steps (Some p) j (option_map (λ r. record { before = p + 1; length = r.length + 1 }) r)
 after_by steps p j None at e = absurd cc
 after_by steps p j (Some r) at e = record { node = p; step = r; is = refl; place = omega (arith, some_same (p + 1) j e); reached = at; nodes = refl }
 
-pub after : (steps : List (Option Reached)) (by : Option ℕ) (j : ℕ) → place_before (reached_by steps by) ≡ Some j → IsAfter steps by j (reached_by steps by)
+pub after : (steps : List (Option PathStep)) (by : Option ℕ) (j : ℕ) → place_before (step_after steps by) ≡ Some j → IsAfter steps by j (step_after steps by)
 after steps None j e = absurd cc
 after steps (Some p) j e = after_by steps p j (get_or steps p None) refl e
 
-cases : (steps : List (Option Reached)) (n k j : ℕ) (by : Option ℕ) (b : Bool) → (k == n) ≡ b
-    → place_before (if b then Some (record { before = 0; length = 1 }) else reached_by steps by) ≡ Some j
-    → IsFirst n k j (if b then Some (record { before = 0; length = 1 }) else reached_by steps by)
-    ⊎ ((b ≡ false) × IsAfter steps by j (if b then Some (record { before = 0; length = 1 }) else reached_by steps by))
+cases : (steps : List (Option PathStep)) (n k j : ℕ) (by : Option ℕ) (b : Bool) → (k == n) ≡ b
+    → place_before (if b then Some (record { before = 0; length = 1 }) else step_after steps by) ≡ Some j
+    → IsFirst n k j (if b then Some (record { before = 0; length = 1 }) else step_after steps by)
+    ⊎ ((b ≡ false) × IsAfter steps by j (if b then Some (record { before = 0; length = 1 }) else step_after steps by))
 cases steps n k j by true is e = inl (record { node = eqb-true k n is; place = sym (some_same 0 j e); nodes = refl })
 cases steps n k j by false is e = inr (refl, after steps by j e)
 
 -- the first k nodes are told
-pub record AreDown (tree : SearchedTree) (primary : Bool) (n k : ℕ) (steps : List (Option Reached)) : Type 0 where
+pub record AreDown (tree : SearchedTree) (primary : Bool) (n k : ℕ) (steps : List (Option PathStep)) : Type 0 where
   pub count : length steps ≡ k
-  pub told : (i : ℕ) → i < k → get_or steps i None ≡ reached_down_by tree primary n steps i
+  pub told : (i : ℕ) → i < k → get_or steps i None ≡ step_down tree primary n steps i
   pub few : (i : ℕ) → nodes_to (get_or steps i None) ≤ length steps
   pub low : (i : ℕ) → nodes_to (get_or steps i None) ≤ i + 1
 
 module _ (tree : SearchedTree) (is_tree : IsTree tree.game.nodes) (primary : Bool) (n : ℕ) where
-  by_same : (steps more : List (Option Reached)) (i : ℕ) (o : Option ℕ) (b : Bool) → ((p : ℕ) → o ≡ Some p → get_or more p None ≡ get_or steps p None)
-      → (if b then Some (record { before = 0; length = 1 }) else reached_by more o) ≡ (if b then Some (record { before = 0; length = 1 }) else reached_by steps o)
+  by_same : (steps more : List (Option PathStep)) (i : ℕ) (o : Option ℕ) (b : Bool) → ((p : ℕ) → o ≡ Some p → get_or more p None ≡ get_or steps p None)
+      → (if b then Some (record { before = 0; length = 1 }) else step_after more o) ≡ (if b then Some (record { before = 0; length = 1 }) else step_after steps o)
   by_same steps more i o true same = refl
   by_same steps more i None false same = refl
   by_same steps more i (Some p) false same = ap (option_map (λ r. record { before = p + 1; length = r.length + 1 })) (same p refl)
 
-  same_down : (steps : List (Option Reached)) (x : Option Reached) (i : ℕ) → i ≤ length steps
-      → reached_down_by tree primary n (steps ++ x ∷ []) i ≡ reached_down_by tree primary n steps i
+  same_down : (steps : List (Option PathStep)) (x : Option PathStep) (i : ℕ) → i ≤ length steps
+      → step_down tree primary n (steps ++ x ∷ []) i ≡ step_down tree primary n steps i
   same_down steps x i h = by_same steps (steps ++ x ∷ []) i (searched_above tree primary i) (i == n) (λ p is.
       let s = down_is tree primary i p is in
       let less = (parent_before tree.game.nodes i p is_tree s.child).0 in
       get_before steps x None p (omega (arith, less)))
 
-  low_by : (steps : List (Option Reached)) (i : ℕ) (o : Option ℕ) (b : Bool) → ((p : ℕ) → nodes_to (get_or steps p None) ≤ p + 1) → ((p : ℕ) → o ≡ Some p → p < i)
-      → nodes_to (if b then Some (record { before = 0; length = 1 }) else reached_by steps o) ≤ i + 1
+  low_by : (steps : List (Option PathStep)) (i : ℕ) (o : Option ℕ) (b : Bool) → ((p : ℕ) → nodes_to (get_or steps p None) ≤ p + 1) → ((p : ℕ) → o ≡ Some p → p < i)
+      → nodes_to (if b then Some (record { before = 0; length = 1 }) else step_after steps o) ≤ i + 1
   low_by steps i o true low less = omega arith
   low_by steps i None false low less = omega arith
   low_by steps i (Some p) false low less = of_step (get_or steps p None) (low p) (less p refl)
     where
-      of_step : (r : Option Reached) → nodes_to r ≤ p + 1 → p < i → nodes_to (option_map (λ r. record { before = p + 1; length = r.length + 1 }) r) ≤ i + 1
+      of_step : (r : Option PathStep) → nodes_to r ≤ p + 1 → p < i → nodes_to (option_map (λ r. record { before = p + 1; length = r.length + 1 }) r) ≤ i + 1
       of_step None h l = omega arith
       of_step (Some r) h l = omega (arith, h, l)
 
   pub down_begun : AreDown tree primary n 0 []
   down_begun = record { count = refl; told = λ i h. absurd (omega arith); few = λ i. omega arith; low = λ i. omega arith }
 
-  pub down_more : (k : ℕ) (steps new : List (Option Reached)) (x : Option Reached) → x ≡ reached_down_by tree primary n steps k → new ≡ steps ++ x ∷ []
+  pub down_more : (k : ℕ) (steps new : List (Option PathStep)) (x : Option PathStep) → x ≡ step_down tree primary n steps k → new ≡ steps ++ x ∷ []
       → AreDown tree primary n k steps → AreDown tree primary n (k + 1) new
   down_more k steps new x is more d = subst (AreDown tree primary n (k + 1)) (sym more) (record {
     count = length-append steps (x ∷ []) ∙ ap (λ c. c + 1) d.count;
@@ -129,7 +129,7 @@ module _ (tree : SearchedTree) (is_tree : IsTree tree.game.nodes) (primary : Boo
       | inl before ↦ let l : i < length steps = omega (arith, d.count) in get_before steps x None i l ∙ d.told i before ∙ sym (same_down steps x i (omega arith))
       | inr here ↦
           let e : i ≡ length steps = omega (arith, d.count) in
-          ap (λ j. get_or (steps ++ x ∷ []) j None) e ∙ get_last steps x None ∙ is ∙ ap (reached_down_by tree primary n steps) (let f : k ≡ i = omega arith in f)
+          ap (λ j. get_or (steps ++ x ∷ []) j None) e ∙ get_last steps x None ∙ is ∙ ap (step_down tree primary n steps) (let f : k ≡ i = omega arith in f)
           ∙ sym (same_down steps x i (omega arith))
     ];
     few = λ i. elim (cases_lt i (length steps)) [
@@ -157,7 +157,7 @@ module _ (tree : SearchedTree) (is_tree : IsTree tree.game.nodes) (primary : Boo
         ]
       ]
 
-  module _ (steps : List (Option Reached)) (inside : n < length tree.game.nodes) (d : AreDown tree primary n (length tree.game.nodes) steps) where
+  module _ (steps : List (Option PathStep)) (inside : n < length tree.game.nodes) (d : AreDown tree primary n (length tree.game.nodes) steps) where
     found : (j k : ℕ) → GoesTo steps j k → k < length tree.game.nodes
     found j k e = elim (cases_lt k (length tree.game.nodes)) [
       | inl less ↦ less
@@ -188,10 +188,10 @@ module _ (tree : SearchedTree) (is_tree : IsTree tree.game.nodes) (primary : Boo
           omega (arith, less, rest)
     ]
 
-    by_down : (i k : ℕ) (h : ℕ) → GoesTo steps h i → (k == n) ≡ false → searched_above tree primary k ≡ Some i → place_before (reached_down_by tree primary n steps k) ≡ Some (suc i)
+    by_down : (i k : ℕ) (h : ℕ) → GoesTo steps h i → (k == n) ≡ false → searched_above tree primary k ≡ Some i → place_before (step_down tree primary n steps k) ≡ Some (suc i)
     by_down i k h reached other is = rw (other, is) (of_step (get_or steps i None) reached)
       where
-        of_step : (r : Option Reached) → place_before r ≡ Some h → place_before (option_map (λ r. record { before = i + 1; length = r.length + 1 }) r) ≡ Some (suc i)
+        of_step : (r : Option PathStep) → place_before r ≡ Some h → place_before (option_map (λ r. record { before = i + 1; length = r.length + 1 }) r) ≡ Some (suc i)
         of_step None e = absurd cc
         of_step (Some r) e = let same : i + 1 ≡ suc i = omega arith in ap Some same
 
@@ -209,7 +209,7 @@ module _ (tree : SearchedTree) (is_tree : IsTree tree.game.nodes) (primary : Boo
         ];
         few = few_at;
       };
-      first = ap place_before (d.told n inside) ∙ ap (λ b. place_before (if b then Some (record { before = 0; length = 1 }) else reached_by steps (searched_above tree primary n))) (eq-eqb n n refl);
+      first = ap place_before (d.told n inside) ∙ ap (λ b. place_before (if b then Some (record { before = 0; length = 1 }) else step_after steps (searched_above tree primary n))) (eq-eqb n n refl);
       begins = λ k e. elim (down_cases 0 k e) [ inl first ↦ first.node | inr other ↦ absurd (omega (arith, other.1.place)) ];
       goes = λ i k e. elim (down_cases (suc i) k e) [
         | inl first ↦ absurd (omega (arith, first.place))

@@ -4,15 +4,15 @@ use Rattle.std.specs.Prelude.{◌⊎◌, slice_set}
 use Rattle.std.proofs.lemmas.Bool.{cases_eq}
 use Rattle.cq_position.specs.Games.{IsTree}
 use Rattle.cq_position.specs.Search.{SearchedTree, IsStepUp}
-use Rattle.cql_plain.specs.Paths.{place_before, GoesTo, nodes_to, length_at, ArePaths, above}
-use Rattle.cql_plain.specs.declared.paths.Reached.{Reached}
+use Rattle.cql_plain.specs.Internal.Paths.{place_before, GoesTo, nodes_to, length_at, ArePaths, above}
+use Rattle.cql_plain.specs.declared.paths.PathStep.{PathStep}
 use Rattle.cql_plain.proofs.PathsDown.{some_same, above_is, is_above}
 use Rattle.cq_position.proofs.WaysUp.{parent_before}
 
 -- the path came to a node from another that is one step below it, and has one node more
-pub record IsFrom (tree : SearchedTree) (primary : Bool) (steps : List (Option Reached)) (k before nodes : ℕ) : Type 0 where
+pub record IsFrom (tree : SearchedTree) (primary : Bool) (steps : List (Option PathStep)) (k before nodes : ℕ) : Type 0 where
   pub node : ℕ
-  pub step : Reached
+  pub step : PathStep
   pub place : before ≡ suc node
   pub is : above tree primary node ≡ Some k
   pub reached : get_or steps node None ≡ Some step
@@ -23,27 +23,27 @@ pub record IsStart (n k before nodes : ℕ) : Type 0 where
   pub place : before ≡ 0
   pub count : nodes ≡ 1
 
-abbrev pub IsReached : SearchedTree → Bool → ℕ → List (Option Reached) → ℕ → Reached → Type 0
+abbrev pub IsReached : SearchedTree → Bool → ℕ → List (Option PathStep) → ℕ → PathStep → Type 0
 IsReached tree primary n steps k r = IsStart n k r.before r.length ⊎ IsFrom tree primary steps k r.before r.length
 
 -- those up to some node are told, and it is the next
-pub record AreUp (tree : SearchedTree) (primary : Bool) (n : ℕ) (steps : List (Option Reached)) (next : Option ℕ) (reached : Reached) : Type 0 where
+pub record AreUp (tree : SearchedTree) (primary : Bool) (n : ℕ) (steps : List (Option PathStep)) (next : Option ℕ) (reached : PathStep) : Type 0 where
   pub count : length steps ≡ length tree.game.nodes
-  pub told : (k : ℕ) (r : Reached) → get_or steps k None ≡ Some r → IsReached tree primary n steps k r
+  pub told : (k : ℕ) (r : PathStep) → get_or steps k None ≡ Some r → IsReached tree primary n steps k r
   pub start : (get_or steps n None ≡ Some (record { before = 0; length = 1 })) ⊎ ((next ≡ Some n) × (reached ≡ record { before = 0; length = 1 }))
-  pub goes : (i k : ℕ) (q : Reached) → get_or steps i None ≡ Some q → above tree primary i ≡ Some k → GoesTo steps (suc i) k ⊎ ((next ≡ Some k) × (reached.before ≡ suc i))
+  pub goes : (i k : ℕ) (q : PathStep) → get_or steps i None ≡ Some q → above tree primary i ≡ Some k → GoesTo steps (suc i) k ⊎ ((next ≡ Some k) × (reached.before ≡ suc i))
   pub due : (k : ℕ) → next ≡ Some k → IsReached tree primary n steps k reached
   pub clear : (k i : ℕ) → next ≡ Some k → i ≤ k → get_or steps i None ≡ None
   pub inside : (k : ℕ) → next ≡ Some k → (k ≤ n) × (reached.length + k ≤ n + 1)
   pub few : (i : ℕ) → nodes_to (get_or steps i None) ≤ n + 1
 
-none_there : (m i : ℕ) → get_or (replicate m (let x : Option Reached = None in x)) i None ≡ None
+none_there : (m i : ℕ) → get_or (replicate m (let x : Option PathStep = None in x)) i None ≡ None
 none_there zero i = refl
 none_there (suc m) zero = refl
 none_there (suc m) (suc i) = none_there m i
 
 module _ (tree : SearchedTree) (is_tree : IsTree tree.game.nodes) (primary : Bool) (n : ℕ) (within : n < length tree.game.nodes) where
-  pub up_begun : (steps : List (Option Reached)) → steps ≡ replicate (length tree.game.nodes) None → length steps ≡ length tree.game.nodes
+  pub up_begun : (steps : List (Option PathStep)) → steps ≡ replicate (length tree.game.nodes) None → length steps ≡ length tree.game.nodes
       → AreUp tree primary n steps (Some n) (record { before = 0; length = 1 })
   up_begun steps is count =
       let none = λ (i : ℕ). ap (λ xs. get_or xs i None) is ∙ none_there (length tree.game.nodes) i in
@@ -61,7 +61,7 @@ module _ (tree : SearchedTree) (is_tree : IsTree tree.game.nodes) (primary : Boo
   above_before : (k p : ℕ) → above tree primary k ≡ Some p → p < k
   above_before k p e = (parent_before tree.game.nodes k p is_tree (above_is tree primary k p e).parent).0
 
-  module _ (steps new : List (Option Reached)) (k : ℕ) (next : Option ℕ) (reached after : Reached) (u : AreUp tree primary n steps (Some k) reached)
+  module _ (steps new : List (Option PathStep)) (k : ℕ) (next : Option ℕ) (reached after : PathStep) (u : AreUp tree primary n steps (Some k) reached)
       (is : new ≡ slice_set steps k (Some reached)) (on : next ≡ above tree primary k) (from : after ≡ record { before = k + 1; length = reached.length + 1 }) where
     low : k < length steps
     low = omega (arith, (u.inside k refl).0, u.count)
@@ -73,13 +73,13 @@ module _ (tree : SearchedTree) (is_tree : IsTree tree.game.nodes) (primary : Boo
     there i other = ap (λ xs. get_or xs i None) is ∙ get_or-set_other steps k i (Some reached) None other
 
     -- what was reached is no node up to k
-    beyond : (i : ℕ) (r : Reached) → get_or steps i None ≡ Some r → i ≢ k
+    beyond : (i : ℕ) (r : PathStep) → get_or steps i None ≡ Some r → i ≢ k
     beyond i r e = λ same. absurd (let none = u.clear k i refl (omega (arith, same)) in let both : None ≡ Some r = sym none ∙ e in cc)
 
-    kept : (i : ℕ) (r : Reached) → get_or steps i None ≡ Some r → get_or new i None ≡ Some r
+    kept : (i : ℕ) (r : PathStep) → get_or steps i None ≡ Some r → get_or new i None ≡ Some r
     kept i r e = there i (beyond i r e) ∙ e
 
-    kept_reached : (i : ℕ) (r : Reached) → IsReached tree primary n steps i r → IsReached tree primary n new i r
+    kept_reached : (i : ℕ) (r : PathStep) → IsReached tree primary n steps i r → IsReached tree primary n new i r
     kept_reached i r h = elim h [
       | inl start ↦ inl start
       | inr f ↦ inr (record { node = f.node; step = f.step; place = f.place; is = f.is; reached = kept f.node f.step f.reached; count = f.count })
@@ -91,19 +91,19 @@ module _ (tree : SearchedTree) (is_tree : IsTree tree.game.nodes) (primary : Boo
       | inr other ↦ ap place_before (there i other) ∙ e
     ]
 
-    cases_told : (i : ℕ) (r : Reached) → get_or new i None ≡ Some r → ((i ≡ k) × (r ≡ reached)) ⊎ (get_or steps i None ≡ Some r)
+    cases_told : (i : ℕ) (r : PathStep) → get_or new i None ≡ Some r → ((i ≡ k) × (r ≡ reached)) ⊎ (get_or steps i None ≡ Some r)
     cases_told i r e = elim (cases_eq i k) [
       | inl same ↦ inl (same, some_same r reached (sym e ∙ ap (λ j. get_or new j None) same ∙ here))
       | inr other ↦ inr (sym (there i other) ∙ e)
     ]
 
-    told_more : (i : ℕ) (r : Reached) → get_or new i None ≡ Some r → IsReached tree primary n new i r
+    told_more : (i : ℕ) (r : PathStep) → get_or new i None ≡ Some r → IsReached tree primary n new i r
     told_more i r e = elim (cases_told i r e) [
       | inl last ↦ subst (λ j. IsReached tree primary n new j r) (sym last.0) (subst (λ q. IsReached tree primary n new k q) (sym last.1) (kept_reached k reached (u.due k refl)))
       | inr before ↦ kept_reached i r (u.told i r before)
     ]
 
-    goes_more : (i m : ℕ) (q : Reached) → get_or new i None ≡ Some q → above tree primary i ≡ Some m → GoesTo new (suc i) m ⊎ ((next ≡ Some m) × (after.before ≡ suc i))
+    goes_more : (i m : ℕ) (q : PathStep) → get_or new i None ≡ Some q → above tree primary i ≡ Some m → GoesTo new (suc i) m ⊎ ((next ≡ Some m) × (after.before ≡ suc i))
     goes_more i m q e s = elim (cases_told i q e) [
       | inl last ↦ inr (on ∙ sym (ap (above tree primary) last.0) ∙ s, ap (λ r. r.before) from ∙ omega (arith, last.0))
       | inr before ↦ elim (u.goes i m q before s) [
@@ -142,14 +142,14 @@ module _ (tree : SearchedTree) (is_tree : IsTree tree.game.nodes) (primary : Boo
       ];
     }
 
-  module _ (steps : List (Option Reached)) (reached : Reached) (u : AreUp tree primary n steps None reached) where
+  module _ (steps : List (Option PathStep)) (reached : PathStep) (u : AreUp tree primary n steps None reached) where
     record Told (j k : ℕ) : Type 0 where
-      step : Reached
+      step : PathStep
       is : get_or steps k None ≡ Some step
       place : step.before ≡ j
       how : IsReached tree primary n steps k step
 
-    told_by : (j k : ℕ) (o : Option Reached) → get_or steps k None ≡ o → place_before o ≡ Some j → Told j k
+    told_by : (j k : ℕ) (o : Option PathStep) → get_or steps k None ≡ o → place_before o ≡ Some j → Told j k
     told_by j k None at e = absurd cc
     told_by j k (Some r) at e = record { step = r; is = at; place = some_same r.before j e; how = u.told k r at }
 

@@ -3,7 +3,7 @@ use Rattle.std.proofs.Common.{◌≡◌, ℕ, zero, suc, ◌+◌, ◌≤◌, Boo
 use Rattle.std.specs.Prelude.{◌⊎◌, ◌↔◌}
 use Rattle.std.proofs.lemmas.Bool.{cases_lt}
 use Rattle.cq_common.specs.Spelling.{Pattern, one, nothing, joined, repeated, Times, Spells}
-use Rattle.cql_plain.specs.Places.{Slice, IsEnd}
+use Rattle.cql_plain.specs.Internal.PatternEnds.{Spans, IsEnd}
 
 times_snoc : (Part : List ℕ → Type 0) (k : ℕ) (u v : List ℕ) → Times Part k u → Part v → Times Part (suc k) (u ++ v)
 times_snoc Part zero u v t p = (v, [], ap (λ l. l ++ v) t ∙ sym (append-nil v), p, refl)
@@ -31,15 +31,15 @@ module _ {A : Type 0} (goes : ℕ → ℕ → Type 0) (test : A → ℕ → Bool
   -- a slice of two parts
   pub record Halves (i : ℕ) (u v : List ℕ) (j : ℕ) : Type 0 where
     pub middle : ℕ
-    pub before : Slice goes i u middle
-    pub after : Slice goes middle v j
+    pub before : Spans goes i u middle
+    pub after : Spans goes middle v j
 
-  pub halves : (i : ℕ) (u v : List ℕ) (j : ℕ) → Slice goes i (u ++ v) j → Halves i u v j
+  pub halves : (i : ℕ) (u v : List ℕ) (j : ℕ) → Spans goes i (u ++ v) j → Halves i u v j
   halves i [] v j s = record { middle = i; before = refl; after = s }
   halves i (k ∷ u) v j s = let h = halves (suc k) u v j s.1 in record { middle = h.middle; before = (s.0, h.before); after = h.after }
 
-  pub whole : (i : ℕ) (u v : List ℕ) (m j : ℕ) → Slice goes i u m → Slice goes m v j → Slice goes i (u ++ v) j
-  whole i [] v m j s t = subst (λ x. Slice goes x v j) (sym s) t
+  pub whole : (i : ℕ) (u v : List ℕ) (m j : ℕ) → Spans goes i u m → Spans goes m v j → Spans goes i (u ++ v) j
+  whole i [] v m j s t = subst (λ x. Spans goes x v j) (sym s) t
   whole i (k ∷ u) v m j s t = (s.0, whole (suc k) u v m j s.1 t)
 
   pub more_ends : (p : Pattern A) (S T : ℕ → Type 0) → ((i : ℕ) → S i → T i) → (j : ℕ) → IsEnd goes test p S j → IsEnd goes test p T j
@@ -56,7 +56,7 @@ module _ {A : Type 0} (goes : ℕ → ℕ → Type 0) (test : A → ℕ → Bool
 
   one_found : (a : A) (S : ℕ → Type 0) (j : ℕ) → IsEnd goes test (one a) S j → IsNext a S j
   one_found a S j r =
-      let s = subst (λ w. Slice goes r.start w j) r.spelled.1 r.leads in
+      let s = subst (λ w. Spans goes r.start w j) r.spelled.1 r.leads in
       record { node = r.spelled.0; start = r.start; is = sym s.1; begins = r.begins; leads = s.0; passes = r.spelled.2 }
 
   one_ends : (a : A) (S : ℕ → Type 0) (j : ℕ) → IsNext a S j → IsEnd goes test (one a) S j
@@ -67,7 +67,7 @@ module _ {A : Type 0} (goes : ℕ → ℕ → Type 0) (test : A → ℕ → Bool
 
   -- nothing
   nothing_found : (S : ℕ → Type 0) (j : ℕ) → IsEnd goes test nothing S j → S j
-  nothing_found S j r = let s = subst (λ w. Slice goes r.start w j) r.spelled r.leads in subst S s r.begins
+  nothing_found S j r = let s = subst (λ w. Spans goes r.start w j) r.spelled r.leads in subst S s r.begins
 
   pub nothing_law : (S : ℕ → Type 0) (j : ℕ) → IsEnd goes test nothing S j ↔ S j
   nothing_law S j = (nothing_found S j, λ h. record { start = j; path = []; begins = h; leads = refl; spelled = refl })
@@ -75,7 +75,7 @@ module _ {A : Type 0} (goes : ℕ → ℕ → Type 0) (test : A → ℕ → Bool
   -- one pattern after another
   joined_found : (p q : Pattern A) (S : ℕ → Type 0) (j : ℕ) → IsEnd goes test (joined p q) S j → IsEnd goes test q (IsEnd goes test p S) j
   joined_found p q S j r =
-      let s = subst (λ w. Slice goes r.start w j) r.spelled.2 r.leads in
+      let s = subst (λ w. Spans goes r.start w j) r.spelled.2 r.leads in
       let h = halves r.start r.spelled.0 r.spelled.1 j s in
       record {
         start = h.middle;
@@ -107,10 +107,10 @@ module _ {A : Type 0} (goes : ℕ → ℕ → Type 0) (test : A → ℕ → Bool
   first_last p zero S j r = r
   first_last p (suc k) S j r = more_ends p (Power p k (IsEnd goes test p S)) (IsEnd goes test p (Power p k S)) (first_last p k S) j r
 
-  of_times : (p : Pattern A) (k : ℕ) (S : ℕ → Type 0) (i : ℕ) (w : List ℕ) (j : ℕ) → S i → Slice goes i w j → Times (Spells test p) k w → Power p k S j
-  of_times p zero S i w j h s t = let e : i ≡ j = subst (λ l. Slice goes i l j) t s in subst S e h
+  of_times : (p : Pattern A) (k : ℕ) (S : ℕ → Type 0) (i : ℕ) (w : List ℕ) (j : ℕ) → S i → Spans goes i w j → Times (Spells test p) k w → Power p k S j
+  of_times p zero S i w j h s t = let e : i ≡ j = subst (λ l. Spans goes i l j) t s in subst S e h
   of_times p (suc k) S i w j h s t =
-      let two = halves i t.0 t.1 j (subst (λ l. Slice goes i l j) t.2 s) in
+      let two = halves i t.0 t.1 j (subst (λ l. Spans goes i l j) t.2 s) in
       first_last p k S j
       (of_times p k (IsEnd goes test p S) two.middle t.1 j (record { start = i; path = t.0; begins = h; leads = two.before; spelled = t.3 }) two.after t.4)
 
@@ -118,7 +118,7 @@ module _ {A : Type 0} (goes : ℕ → ℕ → Type 0) (test : A → ℕ → Bool
     start : ℕ
     path : List ℕ
     begins : S start
-    leads : Slice goes start path j
+    leads : Spans goes start path j
     parts : Times (Spells test p) k path
 
   to_times : (p : Pattern A) (k : ℕ) (S : ℕ → Type 0) (j : ℕ) → Power p k S j → Parts p k S j
@@ -157,7 +157,7 @@ module _ {A : Type 0} (goes : ℕ → ℕ → Type 0) (test : A → ℕ → Bool
   repeated_law p least most S j = (repeated_found p least most S j, repeated_ends p least most S j)
 
   -- as no slice is longer, no more parts are needed
-  module _ (bound : ℕ) (short : (i : ℕ) (w : List ℕ) (j : ℕ) → Slice goes i w j → length w ≤ bound) where
+  module _ (bound : ℕ) (short : (i : ℕ) (w : List ℕ) (j : ℕ) → Spans goes i w j → length w ≤ bound) where
     pub star_few : (p : Pattern A) (S : ℕ → Type 0) (j : ℕ) → IsEnd goes test (repeated 0 None p) S j → IsEnd goes test (repeated 0 (Some bound) p) S j
     star_few p S j r =
         let f = few_parts (Spells test p) r.spelled.0 r.path r.spelled.3 in

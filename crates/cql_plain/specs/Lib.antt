@@ -1,5 +1,1 @@
-pub mod Lines
-pub mod Members
-pub mod Paths
-pub mod Places
-pub mod Scopes
+pub mod Internal

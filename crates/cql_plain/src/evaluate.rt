@@ -8,16 +8,16 @@ ghost use Rattle.cql_syntax.specs.Kinds.{filter_kind};
 ghost use Rattle.cql_syntax.specs.Meaning as meaning;
 ghost use Rattle.cql_syntax.specs.TreeOf.{filter_tree, filters_tree, terms_tree};
 ghost use Rattle.cql_syntax.specs.Values as spec;
-ghost use Rattle.cql_values.specs.Asked.{settles};
-ghost use Rattle.cql_plain.specs.Members.{value_in_member, values_in_members};
-ghost use Rattle.cql_values.specs.Shown.{meant, terms_meant};
-ghost use Rattle.cql_plain.specs.Scopes.{tree_in, value_in, looked_at};
+ghost use Rattle.cql_values.specs.FilterValues.{settles};
+ghost use Rattle.cql_plain.specs.Internal.Members.{value_in_member, values_in_members};
+ghost use Rattle.cql_values.specs.ValueModel.{as_value, terms_as_values};
+ghost use Rattle.cql_plain.specs.Internal.Scopes.{tree_in, value_in, candidate_nodes};
 
 mod lines;
 mod played;
 
 use crate::scope::Scope;
-use crate::standing::standing;
+use crate::occupied_squares::occupied_squares;
 use cq_common::NoMemory;
 use cq_geometry::Square;
 use cq_symmetry::{Family, Mapping, member, size as family_size};
@@ -26,9 +26,9 @@ use cql_contexts::contexts::{
 };
 use cql_contexts::fits::fits;
 use cql_syntax::{Chain, Field, Filter, Filters, Form, Kind, Outcome, Terms, Unary, kind_of};
-use cql_values::combine::{any_of, chain_of, if_of, pair_of, unary_here};
+use cql_values::combine::{any_of, chain_of, if_of, pair_of, unary_of_value};
 use cql_values::headers::{has_text, is_result, rating};
-use cql_values::numbers::{counted, total};
+use cql_values::numbers::{count_value, total};
 use cql_values::sets::{has_square, reached};
 use cql_values::value::Value;
 use cql_values::walks::{below, children, parents, way_up};
@@ -47,11 +47,11 @@ pub(crate) fn evaluate(
 ) -> Result<Value, NoMemory>
     requires tree { IsTree scope.now.game.now.nodes }
     requires node { node < length scope.now.game.now.nodes }
-    ensures { IfOk result (λ v. meant v ≡ value_in scope.now (filter_tree f.now) node) }
+    ensures { IfOk result (λ v. as_value v ≡ value_in scope.now (filter_tree f.now) node) }
 {
     match &f.form {
-        Form::Squares(d) => Ok(standing(scope.game.position(node), scope.context, d)),
-        Form::Number(number) => Ok(counted(*number)),
+        Form::Squares(d) => Ok(occupied_squares(scope.game.position(node), scope.context, d)),
+        Form::Number(number) => Ok(count_value(*number)),
         Form::Name(name) => Ok(scope.names.squares_of(name.as_slice())),
         Form::Plain(word) => {
             let word = word_image(scope.context, *word);
@@ -98,7 +98,7 @@ pub(crate) fn evaluate(
 
 // Whether a tag is as it is asked for.
 fn tagged(field: Field, text: &[u8], scope: &Scope) -> Value
-    ensures { meant result ≡ spec.as_truth
+    ensures { as_value result ≡ spec.as_truth
         (headers.has_text scope.now.game.now (contexts.field_image scope.now.context.now field) text.now) }
 {
     let field = field_image(scope.context, field);
@@ -107,7 +107,7 @@ fn tagged(field: Field, text: &[u8], scope: &Scope) -> Value
 
 // Whether the result is the one that is asked for.
 fn ended(outcome: Outcome, scope: &Scope) -> Value
-    ensures { meant result ≡ spec.as_truth
+    ensures { as_value result ≡ spec.as_truth
         (headers.is_result (contexts.outcome_image scope.now.context.now outcome) scope.now.game.now.result) }
 {
     let outcome = outcome_image(scope.context, outcome);
@@ -125,19 +125,19 @@ fn unary_at(
 ) -> Result<Value, NoMemory>
     requires tree { IsTree scope.now.game.now.nodes }
     requires node { node < length scope.now.game.now.nodes }
-    ensures { IfOk result (λ v. meant v ≡ meaning.unary_of (tree_in scope.now) word (value_in scope.now (filter_tree part.now)) node) }
+    ensures { IfOk result (λ v. as_value v ≡ meaning.unary_of (tree_in scope.now) word (value_in scope.now (filter_tree part.now)) node) }
 {
-    match looked_at(alloc, word, scope, node)? {
+    match candidate_nodes(alloc, word, scope, node)? {
         Some(nodes) => some_node(alloc, part, scope, nodes.as_slice()),
         None => {
             let value = evaluate(alloc, part, scope, node)?;
-            Ok(unary_here(word, scope.game.position(node), value))
+            Ok(unary_of_value(word, scope.game.position(node), value))
         }
     }
 }
 
 // The nodes among which a word looks for one, where it looks for one.
-fn looked_at(
+fn candidate_nodes(
     alloc: Global,
     word: Unary,
     scope: &Scope,
@@ -145,7 +145,7 @@ fn looked_at(
 ) -> Result<Option<Vec<u32>>, NoMemory>
     requires tree { IsTree scope.now.game.now.nodes }
     requires node { node < length scope.now.game.now.nodes }
-    ensures { IfOk result (λ nodes. option_map (λ found. found.items) nodes ≡ looked_at (tree_in scope.now) word node) }
+    ensures { IfOk result (λ nodes. option_map (λ found. found.items) nodes ≡ candidate_nodes (tree_in scope.now) word node) }
 {
     match word {
         Unary::Find => Ok(Some(below(alloc, scope.game, scope.variations, node)?)),
@@ -161,7 +161,7 @@ fn looked_at(
 fn some_node(alloc: Global, part: &Filter, scope: &Scope, nodes: &[u32]) -> Result<Value, NoMemory>
     requires tree { IsTree scope.now.game.now.nodes }
     requires nodes { All (λ n. n < length scope.now.game.now.nodes) nodes.now }
-    ensures { IfOk result (λ v. meant v ≡ meaning.some_node (value_in scope.now (filter_tree part.now)) nodes.now) }
+    ensures { IfOk result (λ v. as_value v ≡ meaning.some_node (value_in scope.now (filter_tree part.now)) nodes.now) }
 {
     for k in 0..nodes.len() {
         let value = evaluate(alloc, part, scope, nodes[k])?;
@@ -183,7 +183,7 @@ fn chain_at(
 ) -> Result<Value, NoMemory>
     requires tree { IsTree scope.now.game.now.nodes }
     requires node { node < length scope.now.game.now.nodes }
-    ensures { IfOk result (λ v. meant v ≡ spec.chain_of chain
+    ensures { IfOk result (λ v. as_value v ≡ spec.chain_of chain
         (meaning.values (tree_in scope.now) scope.now.context.now scope.now.names.now (filters_tree parts.now) node)) }
 {
     let values = values_at(alloc, parts, scope, node)?;
@@ -201,7 +201,7 @@ fn any_at(
 ) -> Result<Value, NoMemory>
     requires tree { IsTree scope.now.game.now.nodes }
     requires node { node < length scope.now.game.now.nodes }
-    ensures { IfOk result (λ v. meant v ≡ spec.any_of kind
+    ensures { IfOk result (λ v. as_value v ≡ spec.any_of kind
         (meaning.values (tree_in scope.now) scope.now.context.now scope.now.names.now (filters_tree parts.now) node)) }
 {
     let values = values_at(alloc, parts, scope, node)?;
@@ -213,7 +213,7 @@ fn any_at(
 fn sum_at(alloc: Global, terms: &Terms, scope: &Scope, node: u32) -> Result<Value, NoMemory>
     requires tree { IsTree scope.now.game.now.nodes }
     requires node { node < length scope.now.game.now.nodes }
-    ensures { IfOk result (λ v. meant v ≡ spec.total_of
+    ensures { IfOk result (λ v. as_value v ≡ spec.total_of
         (meaning.term_values (tree_in scope.now) scope.now.context.now scope.now.names.now (terms_tree terms.now) node)) }
 {
     let values = terms_at(alloc, terms, scope, node)?;
@@ -231,7 +231,7 @@ fn values_at(
 ) -> Result<Vec<Value>, NoMemory>
     requires tree { IsTree scope.now.game.now.nodes }
     requires node { node < length scope.now.game.now.nodes }
-    ensures { IfOk result (λ vs. map meant vs.items
+    ensures { IfOk result (λ vs. map as_value vs.items
         ≡ meaning.values (tree_in scope.now) scope.now.context.now scope.now.names.now (filters_tree filters.now) node) }
 {
     let mut values = Vec::new(alloc);
@@ -253,7 +253,7 @@ fn terms_at(
 ) -> Result<Vec<(bool, Value)>, NoMemory>
     requires tree { IsTree scope.now.game.now.nodes }
     requires node { node < length scope.now.game.now.nodes }
-    ensures { IfOk result (λ ts. terms_meant ts.items
+    ensures { IfOk result (λ ts. terms_as_values ts.items
         ≡ meaning.term_values (tree_in scope.now) scope.now.context.now scope.now.names.now (terms_tree terms.now) node) }
 {
     let mut values = Vec::new(alloc);
@@ -277,7 +277,7 @@ fn square_at(
 ) -> Result<Value, NoMemory>
     requires tree { IsTree scope.now.game.now.nodes }
     requires node { node < length scope.now.game.now.nodes }
-    ensures { IfOk result (λ v. meant v ≡ spec.square_of every (meant squares)
+    ensures { IfOk result (λ v. as_value v ≡ spec.square_of every (as_value squares)
         (λ s. spec.holds (meaning.value (tree_in scope.now) scope.now.context.now
         ((name.now, s) ∷ scope.now.names.now) (filter_tree asked.now) node))) }
 {
@@ -328,7 +328,7 @@ fn member_value(
 ) -> Result<Option<Value>, NoMemory>
     requires tree { IsTree scope.now.game.now.nodes }
     requires node { node < length scope.now.game.now.nodes }
-    ensures { IfOk result (λ v. option_map meant v
+    ensures { IfOk result (λ v. option_map as_value v
         ≡ value_in_member (tree_in scope.now) scope.now.context.now scope.now.names.now first (filter_tree part.now) node) }
 {
     let longer = inside(alloc, first, scope.context)?;
@@ -354,7 +354,7 @@ fn member_values(
 ) -> Result<Vec<Value>, NoMemory>
     requires tree { IsTree scope.now.game.now.nodes }
     requires node { node < length scope.now.game.now.nodes }
-    ensures { IfOk result (λ vs. map meant vs.items
+    ensures { IfOk result (λ vs. map as_value vs.items
         ≡ values_in_members (tree_in scope.now) scope.now.context.now scope.now.names.now (members family) (filter_tree part.now) node) }
 {
     let mut values = Vec::new(alloc);
@@ -376,7 +376,7 @@ fn family_value(
 ) -> Result<Value, NoMemory>
     requires tree { IsTree scope.now.game.now.nodes }
     requires node { node < length scope.now.game.now.nodes }
-    ensures { IfOk result (λ v. meant v ≡ spec.any_of (filter_kind (filter_tree part.now))
+    ensures { IfOk result (λ v. as_value v ≡ spec.any_of (filter_kind (filter_tree part.now))
         (values_in_members (tree_in scope.now) scope.now.context.now scope.now.names.now (members family) (filter_tree part.now) node)) }
 {
     let values = member_values(alloc, family, part, scope, node)?;

@@ -4,12 +4,12 @@
 //! `cql_syntax/specs/Meaning` has the meaning, `cql_values` the values and their combination.
 #![tactic(auto)]
 
-mod at;
+mod typed_values;
 mod evaluate;
 mod paths;
-mod places;
+mod path_places;
 mod scope;
-mod standing;
+mod occupied_squares;
 
-pub use at::{holds_at, number_at, set_at, value_at};
+pub use typed_values::{holds_at, number_at, set_at, value_at};
 pub use cql_values::Names;

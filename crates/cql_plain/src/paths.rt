@@ -3,10 +3,10 @@ ghost use Rattle.std.specs.Prelude.{◌≡◌, ◌<◌, ◌≤◌, ◌+◌, leng
 ghost use Rattle.cq_position.specs.Games.{IsTree};
 ghost use Rattle.cql_syntax.specs.Meaning as meaning;
 ghost use Rattle.cql_syntax.specs.Values.{as_number};
-ghost use Rattle.cql_plain.specs.Paths as path;
+ghost use Rattle.cql_plain.specs.Internal.Paths as path;
 ghost use Rattle.cq_common.specs.Greatest.{IsGreatest, with_number};
-ghost use Rattle.cql_plain.specs.Paths.{ArePaths, IsLength};
-ghost use Rattle.cql_values.specs.Shown.{meant};
+ghost use Rattle.cql_plain.specs.Internal.Paths.{ArePaths, IsLength};
+ghost use Rattle.cql_values.specs.ValueModel.{as_value};
 ghost use Rattle.cql_values.specs.Trees.{searched_tree};
 
 use cq_common::NoMemory;
@@ -18,7 +18,7 @@ use std::alloc::Global;
 
 /// How the paths from a node reach another.
 #[derive(Clone, Copy)]
-pub(crate) struct Reached {
+pub(crate) struct PathStep {
     /// The place before the node: 0 before the first node of a path, else one more than the number of the node before it.
     pub(crate) before: u32,
     /// How many nodes the path has up to this one.
@@ -33,7 +33,7 @@ pub(crate) fn paths_from(
     back: bool,
     primary: bool,
     n: u32,
-) -> Result<Vec<Option<Reached>>, NoMemory>
+) -> Result<Vec<Option<PathStep>>, NoMemory>
     requires tree { IsTree game.now.nodes }
     requires node { n < length game.now.nodes }
     ensures { IfOk result (λ steps. ArePaths (searched_tree game.now variations) back primary n steps.items) }
@@ -51,43 +51,43 @@ fn paths_down(
     variations: bool,
     primary: bool,
     n: u32,
-) -> Result<Vec<Option<Reached>>, NoMemory>
+) -> Result<Vec<Option<PathStep>>, NoMemory>
     requires tree { IsTree game.now.nodes }
     requires node { n < length game.now.nodes }
     ensures { IfOk result (λ steps. ArePaths (searched_tree game.now variations) false primary n steps.items) }
 {
     let mut steps = Vec::new(alloc);
     for k in 0..game.len() {
-        let reached = reached_down(game, variations, primary, n, k, &steps);
+        let reached = path_step_down(game, variations, primary, n, k, &steps);
         steps.push(reached)?;
     }
     Ok(steps)
 }
 
 // How the paths down from a node reach another, given this of all nodes before it.
-fn reached_down(
+fn path_step_down(
     game: &Game,
     variations: bool,
     primary: bool,
     n: u32,
     k: u32,
-    steps: &[Option<Reached>],
-) -> Option<Reached>
+    steps: &[Option<PathStep>],
+) -> Option<PathStep>
     requires tree { IsTree game.now.nodes }
     requires node { k < length game.now.nodes }
     requires before { length steps.now ≡ k }
     requires few { (i : ℕ) → path.nodes_to (get_or steps.now i None) ≤ length steps.now }
-    ensures { result ≡ path.reached_down_by (searched_tree game.now variations) primary n steps.now k }
+    ensures { result ≡ path.step_down (searched_tree game.now variations) primary n steps.now k }
 {
     if k == n {
-        return Some(Reached {
+        return Some(PathStep {
             before: 0,
             length: 1,
         });
     }
     let parent = searched_above(game, variations, primary, k)?;
     let reached = steps[parent as usize]?;
-    Some(Reached {
+    Some(PathStep {
         before: parent + 1,
         length: reached.length + 1,
     })
@@ -99,20 +99,20 @@ fn paths_up(
     variations: bool,
     primary: bool,
     n: u32,
-) -> Result<Vec<Option<Reached>>, NoMemory>
+) -> Result<Vec<Option<PathStep>>, NoMemory>
     requires tree { IsTree game.now.nodes }
     requires node { n < length game.now.nodes }
     ensures { IfOk result (λ steps. ArePaths (searched_tree game.now variations) true primary n steps.items) }
 {
-    let mut steps = unreached(alloc, game.len())?;
+    let mut steps = no_steps(alloc, game.len())?;
     let mut next = Some(n);
-    let mut reached = Reached {
+    let mut reached = PathStep {
         before: 0,
         length: 1,
     };
     while let Some(k) = next {
         steps[k as usize] = Some(reached);
-        reached = Reached {
+        reached = PathStep {
             before: k + 1,
             length: reached.length + 1,
         };
@@ -122,7 +122,7 @@ fn paths_up(
 }
 
 // Nodes of which none is reached yet.
-fn unreached(alloc: Global, nodes: u32) -> Result<Vec<Option<Reached>>, NoMemory>
+fn no_steps(alloc: Global, nodes: u32) -> Result<Vec<Option<PathStep>>, NoMemory>
     ensures { IfOk result (λ steps. steps.items ≡ replicate nodes None) }
 {
     let mut steps = Vec::new(alloc);
@@ -159,7 +159,7 @@ fn searched_above(game: &Game, variations: bool, primary: bool, k: u32) -> Optio
 }
 
 /// The greatest length that the extent allows of the paths that end at some place of a set.
-pub(crate) fn longest(steps: &[Option<Reached>], ends: &[bool], extent: &Extent) -> Option<u32>
+pub(crate) fn longest(steps: &[Option<PathStep>], ends: &[bool], extent: &Extent) -> Option<u32>
     requires { length ends.now ≡ length steps.now + 1 }
     ensures { IsGreatest (IsLength steps.now ends.now extent.now) result }
 {
@@ -172,7 +172,7 @@ pub(crate) fn longest(steps: &[Option<Reached>], ends: &[bool], extent: &Extent)
     best
 }
 
-fn nodes_to(step: Option<Reached>) -> u32
+fn nodes_to(step: Option<PathStep>) -> u32
     ensures { result ≡ path.nodes_to step }
 {
     match step {
@@ -204,7 +204,7 @@ fn with_number(best: Option<u32>, counts: bool, number: u32) -> Option<u32>
 
 /// A length, where there is one, as a value.
 pub(crate) fn number_of(best: Option<u32>) -> Value
-    ensures { meant result ≡ as_number (option_map pos best) }
+    ensures { as_value result ≡ as_number (option_map pos best) }
 {
     match best {
         Some(number) => Value::Number(Some(i64::from(number))),

@@ -14,8 +14,8 @@ use Rattle.cql_syntax.specs.declared.leaves.Chain.TheVariants.{And}
 use Rattle.cql_syntax.proofs.FlatHits.{hits_same, keys_same}
 use Rattle.cql_syntax.proofs.SameSound.{same_law}
 use Rattle.cql_plan.specs.Needs.{all_pass}
-use Rattle.cql_plan.specs.Joined.{HaveSameHits}
-use Rattle.cql_plan.specs.Plans.{IsAskedFor}
+use Rattle.cql_plan.specs.Replacements.{HaveSameHits}
+use Rattle.cql_plan.specs.Plans.{IsJoinedFormOf}
 use Rattle.cql_plan.proofs.Needed.{hits_pass}
 
 -- filters as one, and the filters of one
@@ -64,7 +64,7 @@ hits_alike : (items asked : FilterTrees) → HaveSameHits items asked → (tree 
 hits_alike items asked found tree = ap (λ test. filter test (nodes_in tree)) (fun_ext (found.here tree))
 
 pub asked_for : (q : QueryTree) (variations searched : Bool) (items asked : FilterTrees) → HaveSameHits items asked → searched ≡ variations
-    → same_filters items (flat_query q).items ≡ true → variations ≡ q.variations → IsAskedFor q searched asked
+    → same_filters items (flat_query q).items ≡ true → variations ≡ q.variations → IsJoinedFormOf q searched asked
 asked_for q variations searched items asked found here same there = record {
   searched = here ∙ there;
   hits = λ game. ap (λ v. hits_in (searched_tree game v) asked) here ∙ hits_alike items asked found (searched_tree game variations)

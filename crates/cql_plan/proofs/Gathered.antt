@@ -9,7 +9,7 @@ use Rattle.cq_position.specs.Search.{SearchedTree}
 use Rattle.cql_syntax.specs.Kinds.{filter_kind}
 use Rattle.cql_syntax.specs.Leaves.{same_kind}
 use Rattle.cql_syntax.specs.Meaning.{Names, value, values}
-use Rattle.cql_syntax.specs.Occurrences.{Standing, part_of, occurrences, all_of}
+use Rattle.cql_syntax.specs.Occurrences.{TypingContext, part_of, occurrences, all_of}
 use Rattle.cql_syntax.specs.TreeOf.{filter_tree, filter_trees}
 use Rattle.cql_syntax.specs.Trees.{FilterTree, filter_at, any, FilterTrees, no_filters, more_filters, with_filter}
 use Rattle.cql_syntax.specs.Unplaced.{same_unplaced}
@@ -20,7 +20,7 @@ use Rattle.cql_syntax.specs.declared.tree.Filter.{Filter}
 use Rattle.cql_syntax.proofs.Lists.{filter_trees_more}
 use Rattle.cql_syntax.proofs.UnplacedSame.{same_value}
 use Rattle.cql_columns.specs.Costs.{filter_cost, filters_cost}
-use Rattle.cql_plan.specs.Joined.{is_sound, StandsFor, alone, has_like, tells, some_tells, is_member, are_members, Gathers}
+use Rattle.cql_plan.specs.Replacements.{is_sound, StandsFor, alone, has_like, tells, some_tells, is_member, are_members, Gathers}
 use Rattle.cql_plan.proofs.Sound.{own_kind, members_from}
 
 or_assoc : (a b c : Bool) → ((a || b) || (c || false)) ≡ (a || (b || c))
@@ -52,17 +52,17 @@ module _ (kind : Kind) (s : ℕ) (tree : SearchedTree) (names : Names) (n : ℕ)
       or_joined true b c = refl
       or_joined false b c = refl
 
-pub members_more : (kind : Kind) (s : Standing) (fs : FilterTrees) (f : FilterTree) → are_members kind s fs ≡ true → is_member kind s f ≡ true → are_members kind s (with_filter fs f) ≡ true
+pub members_more : (kind : Kind) (s : TypingContext) (fs : FilterTrees) (f : FilterTree) → are_members kind s fs ≡ true → is_member kind s f ≡ true → are_members kind s (with_filter fs f) ≡ true
 members_more kind s no_filters f a b = both (is_member kind s f) true b refl
 members_more kind s (more_filters g gs) f a b =
     both (is_member kind s g) (are_members kind s (with_filter gs f)) (left _ _ a) (members_more kind s gs f (right (is_member kind s g) (are_members kind s gs) a) b)
 
-pub members_before : (kind : Kind) (s : Standing) (fs : FilterTrees) (f : FilterTree) → are_members kind s (with_filter fs f) ≡ true → are_members kind s fs ≡ true
+pub members_before : (kind : Kind) (s : TypingContext) (fs : FilterTrees) (f : FilterTree) → are_members kind s (with_filter fs f) ≡ true → are_members kind s fs ≡ true
 members_before kind s no_filters f h = refl
 members_before kind s (more_filters g gs) f h =
     both (is_member kind s g) (are_members kind s gs) (left _ _ h) (members_before kind s gs f (right (is_member kind s g) (are_members kind s (with_filter gs f)) h))
 
-pub member_last : (kind : Kind) (s : Standing) (fs : FilterTrees) (f : FilterTree) → are_members kind s (with_filter fs f) ≡ true → is_member kind s f ≡ true
+pub member_last : (kind : Kind) (s : TypingContext) (fs : FilterTrees) (f : FilterTree) → are_members kind s (with_filter fs f) ≡ true → is_member kind s f ≡ true
 member_last kind s no_filters f h = left (is_member kind s f) true h
 member_last kind s (more_filters g gs) f h = member_last kind s gs f (right (is_member kind s g) (are_members kind s (with_filter gs f)) h)
 
@@ -98,10 +98,10 @@ gathered_more kind before some after fs f first then = record {
 
 -- a filter that has members itself
 
-inside_members : (kind : Kind) (s : Standing) (i : ℕ) (fs : FilterTrees) → is_member kind s (filter_at i (any kind fs)) ≡ true → are_members kind s fs ≡ true
+inside_members : (kind : Kind) (s : TypingContext) (i : ℕ) (fs : FilterTrees) → is_member kind s (filter_at i (any kind fs)) ≡ true → are_members kind s fs ≡ true
 unfolding occurrences
 inside_members kind s i fs h =
-    let at : Standing = part_of s kind in
+    let at : TypingContext = part_of s kind in
     let own = is_sound (record { standing = at; at = i; form = any kind fs }) in
     let sound = right (same_kind kind kind) (own && list_all is_sound (all_of at fs)) h in
     members_from kind s fs (own_kind (record { standing = at; at = i; form = any kind fs }) (left own (list_all is_sound (all_of at fs)) sound))
@@ -130,7 +130,7 @@ gathered_inside kind i before after fs other had = record {
 
 -- one in the stead of another
 
-member_instead : (kind : Kind) (s : Standing) (f g : FilterTree) → StandsFor f g → is_member kind s f ≡ true → is_member kind s g ≡ true
+member_instead : (kind : Kind) (s : TypingContext) (f g : FilterTree) → StandsFor f g → is_member kind s f ≡ true → is_member kind s g ≡ true
 member_instead kind s f g stands h =
     both (same_kind (filter_kind g) kind) (list_all is_sound (occurrences (part_of s kind) g))
     (ap (λ k. same_kind k kind) stands.kind ∙ left _ _ h)

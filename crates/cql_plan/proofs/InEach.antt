@@ -5,7 +5,7 @@ use Rattle.std.proofs.lemmas.List.{take_all}
 use Rattle.cq_common.proofs.SpellingLaw.{left, right, both_true as both}
 use Rattle.cq_position.specs.Search.{SearchedTree}
 use Rattle.cql_syntax.specs.Meaning.{Names, value}
-use Rattle.cql_syntax.specs.Occurrences.{Standing, part_of, occurrences, all_of}
+use Rattle.cql_syntax.specs.Occurrences.{TypingContext, part_of, occurrences, all_of}
 use Rattle.cql_syntax.specs.TreeFaults.{past_four_sorts}
 use Rattle.cql_syntax.specs.TreeOf.{filter_tree, filter_trees}
 use Rattle.cql_syntax.specs.Trees.{FilterTree, filter_at, chain, any, FilterTrees, no_filters, more_filters, with_filter}
@@ -17,8 +17,8 @@ use Rattle.cql_syntax.specs.declared.tree.Filter.{Filter}
 use Rattle.cql_syntax.proofs.Lists.{filter_trees_more}
 use Rattle.cql_syntax.proofs.UnplacedSame.{same_value}
 use Rattle.cql_columns.specs.Costs.{filter_cost, filters_cost}
-use Rattle.cql_plan.specs.Joined.{is_sound, StandsFor, alone, has_like, is_member}
-use Rattle.cql_plan.specs.Lifted.{each_holds, one_holds, may_stand, AreCommon, AreDivided, AreLeft, IsRest, AreRests}
+use Rattle.cql_plan.specs.Replacements.{is_sound, StandsFor, alone, has_like, is_member}
+use Rattle.cql_plan.specs.Internal.CommonParts.{each_holds, one_holds, may_stand, AreCommon, AreDivided, AreLeft, IsRest, AreRests}
 use Rattle.cql_plan.proofs.Gathered.{members_more, members_before, member_last, cost_more}
 use Rattle.cql_plan.proofs.Sound.{all_first, all_second, all_both, own_kind, own_rules, own_sound, rules_same, sound_chain, members_from, kinds_of, sound_of}
 
@@ -72,7 +72,7 @@ module _ (tree : SearchedTree) (names : Names) (n : ℕ) where
       ap (λ b. holds (value tree [] names g n) || b) (one_more gs f)
       ∙ sym (or_assoc (holds (value tree [] names g n)) (one_holds tree names n gs) (holds (value tree [] names f n)))
 
-module _ (s : Standing) where
+module _ (s : TypingContext) where
   may_more : (fs : FilterTrees) (f : FilterTree) → may_stand s fs ≡ true → list_all is_sound (occurrences (part_of s Position) f) ≡ true → may_stand s (with_filter fs f) ≡ true
   unfolding occurrences
   may_more no_filters f a b = all_both is_sound (occurrences (part_of s Position) f) [] b refl
@@ -247,11 +247,11 @@ left_kept common parts rest f had = record {
 
 -- the rest of a member
 
-member_rest : (s : Standing) (i j : ℕ) (parts rest : FilterTrees) → (may_stand s parts ≡ true → may_stand s rest ≡ true)
+member_rest : (s : TypingContext) (i j : ℕ) (parts rest : FilterTrees) → (may_stand s parts ≡ true → may_stand s rest ≡ true)
     → is_member Position s (filter_at i (chain All parts)) ≡ true → is_member Position s (filter_at j (chain All rest)) ≡ true
 unfolding occurrences
 member_rest s i j parts rest inside h =
-    let at : Standing = part_of s Position in
+    let at : TypingContext = part_of s Position in
     let own = is_sound (record { standing = at; at = i; form = chain All parts }) in
     let sound = right true (own && may_stand s parts) h in
     both (is_sound (record { standing = at; at = j; form = chain All rest })) (may_stand s rest)
@@ -339,7 +339,7 @@ lifted_stands i members common rests all had = record {
   kind = refl;
   sorts = λ before. refl;
   sound = λ s h.
-      let at : Standing = part_of s Position in
+      let at : TypingContext = part_of s Position in
       let asked = filter_at i (any Position rests) in
       let whole = with_filter common asked in
       let head = is_sound (record { standing = s; at = i; form = any Position members }) in

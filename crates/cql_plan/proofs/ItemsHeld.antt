@@ -6,8 +6,8 @@ use Rattle.cql_syntax.specs.Hits.{is_hit}
 use Rattle.cql_syntax.specs.TreeOf.{filter_trees}
 use Rattle.cql_syntax.specs.Trees.{FilterTrees}
 use Rattle.cql_syntax.specs.declared.tree.Filter.{Filter}
-use Rattle.cql_plan.specs.Items.{item_holds}
-use Rattle.cql_plan.proofs.Items.{all_items}
+use Rattle.cql_plan.specs.Internal.Items.{item_holds}
+use Rattle.cql_plan.proofs.HitItems.{all_items}
 
 -- each item holds at each hit
 pub item_at_hits : (tree : SearchedTree) (ns : List ℕ) (fs : List Filter) (items : FilterTrees) (i : ℕ) (item : Filter) → filter_trees fs ≡ items

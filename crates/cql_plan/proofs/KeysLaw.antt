@@ -4,7 +4,7 @@ use Rattle.std.proofs.lemmas.List.{take_more, take_all}
 use Rattle.std.proofs.lemmas.List.Sums.{fold-append}
 use Rattle.cql_syntax.specs.Hits.{chosen}
 use Rattle.cql_syntax.specs.Values.{Value, as_number, amount, of_both, chosen_from}
-use Rattle.cql_plan.specs.KeyRows.{key_in}
+use Rattle.cql_plan.specs.RowKeys.{key_in}
 
 pub key_first : (least : Bool) (row : List (Option ℤ)) (nodes : List ℕ) (n d : ℕ) (key : ℤ) → 0 < length nodes → n ≡ get_or nodes 0 d → get_or row n None ≡ Some key
     → Some key ≡ key_in least row (take 1 nodes)

@@ -1,4 +1,4 @@
-pub mod Items
+pub mod HitItems
 pub mod ItemsHeld
 pub mod Matched
 pub mod RowsLaw

@@ -4,7 +4,7 @@ use Rattle.cq_position.specs.Games.{Game}
 use Rattle.cql_values.specs.Trees.{searched_tree}
 use Rattle.cql_syntax.specs.Hits.{hits, hits_in, keys, all_keys}
 use Rattle.cql_syntax.specs.Trees.{FilterTrees, QueryTree}
-use Rattle.cql_plan.specs.Plans.{IsAskedFor}
+use Rattle.cql_plan.specs.Plans.{IsJoinedFormOf}
 use Rattle.cql_plan.specs.declared.verdict.Verdict.{Verdict}
 
 -- a game that is turned away has no hit
@@ -12,7 +12,7 @@ pub none_found : (ns : List ℕ) (may_hold : Bool) → (ns ≢ [] → may_hold �
 none_found [] may_hold some away = refl
 none_found (n ∷ ns) may_hold some away = absurd (let holds = some (λ none. cc) in cc)
 
-pub asked_keys : (q : QueryTree) (game : Game) (searched : Bool) (asked : FilterTrees) → IsAskedFor q searched asked
+pub asked_keys : (q : QueryTree) (game : Game) (searched : Bool) (asked : FilterTrees) → IsJoinedFormOf q searched asked
     → {E : Type 0} (found : Result Verdict E) → IfOk found (λ v. v.nodes.items ≡ hits_in (searched_tree game searched) asked)
     → IfOk found (λ v. v.nodes.items ≢ [] → map Some v.keys.items ≡ all_keys (searched_tree game searched) v.nodes.items asked)
     → IfOk found (λ v. v.nodes.items ≢ [] → map Some v.keys.items ≡ keys q game)

@@ -178,9 +178,9 @@ mutual
       either (holds (value tree [] e f n)) (list_any holds (values tree [] e fs n)) (passes tree f) (some_passes tree fs)
       (held_passes tree n e is_node f) (held_some tree n e is_node fs) h
 
-pub what_holds_passes : (tree : SearchedTree) (names : Names) (f : FilterTree) (n : ℕ) → n < length tree.game.nodes
+pub holding_passes_needs : (tree : SearchedTree) (names : Names) (f : FilterTree) (n : ℕ) → n < length tree.game.nodes
     → is_searched tree.variations tree.game.nodes n ≡ true → holds (value tree [] names f n) ≡ true → passes tree f ≡ true
-what_holds_passes tree names f n below kept h = held_passes tree n names (record { below = below; kept = kept }) f h
+holding_passes_needs tree names f n below kept h = held_passes tree n names (record { below = below; kept = kept }) f h
 
 -- each hit is a searched node
 pub hit_searched : (tree : SearchedTree) (items : FilterTrees) → All (λ n. is_searched tree.variations tree.game.nodes n ≡ true) (hits_in tree items)

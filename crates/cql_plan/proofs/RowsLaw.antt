@@ -9,8 +9,8 @@ use Rattle.cql_syntax.specs.Hits.{is_hit, hits_in, key_of, item_keys, chosen}
 use Rattle.cql_syntax.specs.Meaning.{value}
 use Rattle.cql_syntax.specs.Trees.{FilterTree, filter_at, sort, FilterTrees}
 use Rattle.cql_syntax.specs.Values.{Value, as_number, amount, of_both, holds, chosen_from}
-use Rattle.cql_plan.specs.KeyRows.{key_in}
-use Rattle.cql_plan.specs.Rows.{IsRowOf, AreRowsFrom}
+use Rattle.cql_plan.specs.RowKeys.{key_in}
+use Rattle.cql_plan.specs.Internal.KeyRows.{IsRowOf, AreRowsFrom}
 use Rattle.cql_plan.proofs.ItemsLeft.{hits_are_inside}
 use Rattle.cql_plan.proofs.Needed.{hits_hit, hit_searched}
 

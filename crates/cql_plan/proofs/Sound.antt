@@ -7,14 +7,14 @@ use Rattle.cq_common.proofs.SpellingLaw.{left, right, both_true as both}
 use Rattle.cql_syntax.specs.FlatItems.{has_family, kinds_agree, break_no_rule, has_its_kind, breaks_none, is_empty}
 use Rattle.cql_syntax.specs.Kinds.{filter_kind, form_kind}
 use Rattle.cql_syntax.specs.Leaves.{same_kind}
-use Rattle.cql_syntax.specs.Occurrences.{Standing, Occurrence, part_of, occurrences, all_of, of_items}
+use Rattle.cql_syntax.specs.Occurrences.{TypingContext, Occurrence, part_of, occurrences, all_of, of_items}
 use Rattle.cql_syntax.specs.TreeFaults.{broken_rules, wrong_kind, below_top, past_four_sorts, unbound_name, brace_in_comment, is_long_line, is_fifth_square, is_family}
 use Rattle.cql_syntax.specs.TreeLists.{filters_of}
 use Rattle.cql_syntax.specs.Trees.{FilterTree, FormTree, unary, chain, any, FilterTrees, no_filters, more_filters}
 use Rattle.cql_syntax.specs.declared.leaves.Chain.{Chain}
 use Rattle.cql_syntax.specs.declared.leaves.Kind.{Kind}
 use Rattle.cql_syntax.specs.declared.leaves.Unary.{Unary}
-use Rattle.cql_plan.specs.Joined.{is_sound, is_member, are_members}
+use Rattle.cql_plan.specs.Replacements.{is_sound, is_member, are_members}
 
 module _ {A : Type 0} (p : A → Bool) (xs ys : List A) where
   pub all_first : list_all p (xs ++ ys) ≡ true → list_all p xs ≡ true
@@ -41,7 +41,7 @@ pub own_sound : (o : Occurrence) → not (is_family o.form) ≡ true → has_its
 own_sound o a b c = both (not (is_family o.form) && has_its_kind o.form) (breaks_none o) (both (not (is_family o.form)) (has_its_kind o.form) a b) c
 
 -- what breaks no rule breaks none with other parts
-pub rules_same : (s : Standing) (i : ℕ) (f g : FormTree) → form_kind g ≡ form_kind f → below_top s.item g ≡ below_top s.item f
+pub rules_same : (s : TypingContext) (i : ℕ) (f g : FormTree) → form_kind g ≡ form_kind f → below_top s.item g ≡ below_top s.item f
     → past_four_sorts s.item g ≡ past_four_sorts s.item f → (unbound_name s.names g ++ brace_in_comment g) ≡ (unbound_name s.names f ++ brace_in_comment f)
     → is_long_line g ≡ is_long_line f → is_fifth_square s.squares g ≡ is_fifth_square s.squares f
     → breaks_none (record { standing = s; at = i; form = g }) ≡ breaks_none (record { standing = s; at = i; form = f })
@@ -62,19 +62,19 @@ past_any : (item : Option ℕ) (kind : Kind) (fs gs : FilterTrees) → past_four
 past_any None kind fs gs = refl
 past_any (Some k) kind fs gs = refl
 
-pub sound_unary : (s : Standing) (i : ℕ) (u : Unary) (f g : FilterTree) → is_sound (record { standing = s; at = i; form = unary u f }) ≡ true
+pub sound_unary : (s : TypingContext) (i : ℕ) (u : Unary) (f g : FilterTree) → is_sound (record { standing = s; at = i; form = unary u f }) ≡ true
     → is_sound (record { standing = s; at = i; form = unary u g }) ≡ true
 sound_unary s i u f g h =
     own_sound (record { standing = s; at = i; form = unary u g }) refl refl
     (rules_same s i (unary u f) (unary u g) refl refl (past_unary s.item u f g) refl refl refl ∙ own_rules (record { standing = s; at = i; form = unary u f }) h)
 
-pub sound_chain : (s : Standing) (i : ℕ) (c : Chain) (fs gs : FilterTrees) → is_sound (record { standing = s; at = i; form = chain c fs }) ≡ true
+pub sound_chain : (s : TypingContext) (i : ℕ) (c : Chain) (fs gs : FilterTrees) → is_sound (record { standing = s; at = i; form = chain c fs }) ≡ true
     → is_sound (record { standing = s; at = i; form = chain c gs }) ≡ true
 sound_chain s i c fs gs h =
     own_sound (record { standing = s; at = i; form = chain c gs }) refl refl
     (rules_same s i (chain c fs) (chain c gs) refl refl (past_chain s.item c fs gs) refl refl refl ∙ own_rules (record { standing = s; at = i; form = chain c fs }) h)
 
-pub sound_any : (s : Standing) (i : ℕ) (kind : Kind) (fs gs : FilterTrees) → list_all (λ f. same_kind (filter_kind f) kind) (filters_of gs) ≡ true
+pub sound_any : (s : TypingContext) (i : ℕ) (kind : Kind) (fs gs : FilterTrees) → list_all (λ f. same_kind (filter_kind f) kind) (filters_of gs) ≡ true
     → is_sound (record { standing = s; at = i; form = any kind fs }) ≡ true → is_sound (record { standing = s; at = i; form = any kind gs }) ≡ true
 sound_any s i kind fs gs kinds h =
     own_sound (record { standing = s; at = i; form = any kind gs }) refl kinds
@@ -140,7 +140,7 @@ rules_from items h = all_rules (of_items 0 items) h
 
 -- members are of their kind, and may stand
 
-module _ (kind : Kind) (s : Standing) where
+module _ (kind : Kind) (s : TypingContext) where
   pub members_from : (fs : FilterTrees) → list_all (λ f. same_kind (filter_kind f) kind) (filters_of fs) ≡ true
       → list_all is_sound (all_of (part_of s kind) fs) ≡ true → are_members kind s fs ≡ true
   unfolding occurrences

@@ -11,11 +11,11 @@ use Rattle.cql_syntax.specs.Contexts.{unary_image}
 use Rattle.cql_syntax.specs.Hits.{all_keys}
 use Rattle.cql_syntax.specs.Kinds.{chain_kind}
 use Rattle.cql_syntax.specs.Meaning.{Names, value, values, unary_of}
-use Rattle.cql_syntax.specs.Occurrences.{Standing, top_item, part_of, occurrences, all_of, of_items, sorts_with}
+use Rattle.cql_syntax.specs.Occurrences.{TypingContext, top_item, part_of, occurrences, all_of, of_items, sorts_with}
 use Rattle.cql_syntax.specs.TreeOf.{filter_tree, filter_trees}
 use Rattle.cql_syntax.specs.Trees.{FilterTree, filter_at, unary, chain, any, FilterTrees, no_filters, more_filters, with_filter}
 use Rattle.cql_syntax.specs.Values.{Value, as_truth, as_squares, holds, has, chain_of, any_of}
-use Rattle.cql_syntax.specs.Wants.{unary_wants}
+use Rattle.cql_syntax.specs.OperandKinds.{unary_operand_kind}
 use Rattle.cql_syntax.specs.declared.leaves.Chain.{Chain}
 use Rattle.cql_syntax.specs.declared.leaves.Kind.{Kind}
 use Rattle.cql_syntax.specs.declared.leaves.Kind.TheVariants.{Position, Set, Number}
@@ -23,7 +23,7 @@ use Rattle.cql_syntax.specs.declared.leaves.Unary.{Unary}
 use Rattle.cql_syntax.specs.declared.tree.Filter.{Filter}
 use Rattle.cql_syntax.proofs.Lists.{filter_trees_more}
 use Rattle.cql_columns.specs.Costs.{filter_cost, filters_cost}
-use Rattle.cql_plan.specs.Joined.{is_sound, StandsFor, AllStandFor, tells, Gathers, HaveSameHits}
+use Rattle.cql_plan.specs.Replacements.{is_sound, StandsFor, AllStandFor, tells, Gathers, HaveSameHits}
 use Rattle.cql_plan.proofs.Sound.{all_first, all_second, all_both, own_kind, sound_unary, sound_chain, sound_any, members_from, kinds_of, sound_of}
 
 pub stands_itself : (f : FilterTree) → StandsFor f f
@@ -48,9 +48,9 @@ stands_unary i u f g part = record {
   sorts = λ before. refl;
   sound = λ s h.
       let own = is_sound (record { standing = s; at = i; form = unary u f }) in
-      let inside = list_all is_sound (occurrences (part_of s (unary_wants u)) f) in
-      both (is_sound (record { standing = s; at = i; form = unary u g })) (list_all is_sound (occurrences (part_of s (unary_wants u)) g))
-      (sound_unary s i u f g (left own inside h)) (part.sound (part_of s (unary_wants u)) (right own inside h));
+      let inside = list_all is_sound (occurrences (part_of s (unary_operand_kind u)) f) in
+      both (is_sound (record { standing = s; at = i; form = unary u g })) (list_all is_sound (occurrences (part_of s (unary_operand_kind u)) g))
+      (sound_unary s i u f g (left own inside h)) (part.sound (part_of s (unary_operand_kind u)) (right own inside h));
   cost = part.cost;
 }
 
@@ -85,7 +85,7 @@ all_costs (more_filters f fs) (more_filters g gs) all searched = omega (arith, a
 all_costs no_filters (more_filters k ks) all searched = absurd all
 all_costs (more_filters h hs) no_filters all searched = absurd all
 
-all_stand : (fs gs : FilterTrees) → AllStandFor fs gs → (s : Standing) → list_all is_sound (all_of s fs) ≡ true → list_all is_sound (all_of s gs) ≡ true
+all_stand : (fs gs : FilterTrees) → AllStandFor fs gs → (s : TypingContext) → list_all is_sound (all_of s fs) ≡ true → list_all is_sound (all_of s gs) ≡ true
 unfolding occurrences
 all_stand no_filters no_filters all s h = refl
 all_stand (more_filters f fs) (more_filters g gs) all s h =
@@ -150,7 +150,7 @@ stands_any i kind fs gs other had = record {
   kind = refl;
   sorts = λ before. refl;
   sound = λ s h.
-      let at : Standing = part_of s kind in
+      let at : TypingContext = part_of s kind in
       let head = is_sound (record { standing = s; at = i; form = any kind fs }) in
       let inside = list_all is_sound (all_of at fs) in
       let own = left head inside h in

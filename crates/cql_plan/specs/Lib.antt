@@ -1,9 +1,7 @@
-pub mod Items
 pub mod Verdicts
-pub mod Rows
-pub mod Joined
-pub mod Lifted
+pub mod Replacements
 pub mod Needs
 pub mod NeedsRows
 pub mod Plans
-pub mod KeyRows
+pub mod RowKeys
+pub mod Internal

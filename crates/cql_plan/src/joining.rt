@@ -2,7 +2,7 @@
 ghost use Rattle.std.specs.Prelude.{◌≡◌, IfOk, OnOk};
 ghost use Rattle.cql_syntax.specs.Trees.{no_filters};
 ghost use Rattle.cql_syntax.specs.TreeOf.{filter_tree, filters_tree};
-ghost use Rattle.cql_plan.specs.Joined.{StandsFor, AllStandFor, Gathers, HaveSameHits, alone};
+ghost use Rattle.cql_plan.specs.Replacements.{StandsFor, AllStandFor, Gathers, HaveSameHits, alone};
 
 use crate::lifting::any_of;
 use crate::members::{Members, add, no_members};

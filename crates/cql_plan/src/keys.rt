@@ -1,6 +1,6 @@
 //! The key of a sort item, from its row.
 ghost use Rattle.std.specs.Prelude.{◌≡◌, ◌<◌, length, get_or, true, None, Some, is_some, All};
-ghost use Rattle.cql_plan.specs.KeyRows.{key_in};
+ghost use Rattle.cql_plan.specs.RowKeys.{key_in};
 ghost use Rattle.cql_syntax.specs.Hits.{chosen as chosen_of};
 
 /// The greatest entry of a row at some nodes, or the least. That there are nodes, and that the row has an entry at each of them, are

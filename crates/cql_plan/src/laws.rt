@@ -19,8 +19,8 @@ pub fn needs_are_as_worked()
 {}
 
 /// A game passes the needs of each filter that holds at a searched node, whatever squares are bound to names.
-#[tactic(auto, using(crate::proofs::Needed::what_holds_passes))]
-pub fn what_holds_passes()
+#[tactic(auto, using(crate::proofs::Needed::holding_passes_needs))]
+pub fn holding_passes_needs()
     ensures { (tree : SearchedTree) (names : Names) (f : FilterTree) (n : ℕ) → n < length tree.game.nodes
         → is_searched tree.variations tree.game.nodes n ≡ true → holds (value tree [] names f n) ≡ true → passes tree f ≡ true }
 {}

@@ -4,8 +4,8 @@ ghost use Rattle.cql_syntax.specs.Trees.{FilterTrees, filter_at, chain, any, wit
 ghost use Rattle.cql_syntax.specs.TreeOf.{filter_tree, filters_in, filters_tree, filter_trees};
 ghost use Rattle.cql_syntax.specs.declared.leaves.Chain.TheVariants.{All};
 ghost use Rattle.cql_syntax.specs.declared.leaves.Kind.TheVariants.{Position};
-ghost use Rattle.cql_plan.specs.Joined.{StandsFor, alone};
-ghost use Rattle.cql_plan.specs.Lifted.{AreCommon, AreDivided, AreLeft, IsRest, AreRests};
+ghost use Rattle.cql_plan.specs.Replacements.{StandsFor, alone};
+ghost use Rattle.cql_plan.specs.Internal.CommonParts.{AreCommon, AreDivided, AreLeft, IsRest, AreRests};
 
 use crate::members::has_like;
 use cq_common::NoMemory;
@@ -14,7 +14,7 @@ use std::alloc::Global;
 
 /// The parts of a member: those that stand in each member alike, and the rest.
 #[derive(Drop)]
-struct Divided {
+struct CommonAndRest {
     common: Filters,
     rest: Filters,
 }
@@ -52,20 +52,20 @@ fn lifted(alloc: Global, at: u32, members: &Filters) -> Result<Option<Filter>, N
 }
 
 // Divides the parts of a member.
-fn divide(alloc: Global, parts: &Filters, members: &Filters) -> Result<Divided, NoMemory>
+fn divide(alloc: Global, parts: &Filters, members: &Filters) -> Result<CommonAndRest, NoMemory>
     ensures parts { IfOk result (λ d. AreDivided (filters_tree parts.now) (filters_tree d.common) (filters_tree d.rest)) }
     ensures common { IfOk result (λ d. AreCommon (filters_tree members.now) (filters_tree d.common)) }
 {
     let common = Filters::new(alloc);
     let rest = Filters::new(alloc);
-    let mut divided = Divided { common, rest };
+    let mut divided = CommonAndRest { common, rest };
     for part in parts.as_slice() {
         put(alloc, part, members, &mut divided)?;
     }
     Ok(divided)
 }
 
-fn put(alloc: Global, part: &Filter, members: &Filters, to: &mut Divided) -> Result<(), NoMemory>
+fn put(alloc: Global, part: &Filter, members: &Filters, to: &mut CommonAndRest) -> Result<(), NoMemory>
     ensures parts { OnOk result ((parts : FilterTrees) → AreDivided parts (filters_tree to.old.common) (filters_tree to.old.rest)
         → AreDivided (with_filter parts (filter_tree part.now)) (filters_tree to.new.common) (filters_tree to.new.rest)) }
     ensures common { OnOk result (AreCommon (filters_tree members.now) (filters_tree to.old.common)
@@ -110,7 +110,7 @@ fn before_rests(
     alloc: Global,
     at: u32,
     members: &Filters,
-    first: Divided,
+    first: CommonAndRest,
 ) -> Result<Option<Filter>, NoMemory>
     requires common { AreCommon (filters_tree members.now) (filters_tree first.common) }
     requires first { AreRests (filters_tree first.common) (filter_trees (take 1 (filters_in members.now)))

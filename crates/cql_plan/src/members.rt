@@ -3,28 +3,28 @@ ghost use Rattle.std.specs.Prelude.{◌≡◌, true, IfOk, OnOk};
 ghost use Rattle.cql_syntax.specs.Trees.{no_filters};
 ghost use Rattle.cql_syntax.specs.TreeOf.{filter_tree, filters_tree};
 ghost use Rattle.cql_syntax.specs.declared.leaves.Kind.{Kind};
-ghost use Rattle.cql_plan.specs.Joined as spec;
-ghost use Rattle.cql_plan.specs.Joined.{Gathers, alone};
+ghost use Rattle.cql_plan.specs.Replacements as spec;
+ghost use Rattle.cql_plan.specs.Replacements.{Gathers, alone};
 
-use crate::keyed::key_of;
+use crate::hashing::key_of;
 use cq_common::NoMemory;
 use cql_rewrite::same_unplaced;
 use cql_syntax::{Filter, Filters};
 use std::alloc::Global;
 
 /// How many places a table has, a prime, so that every bit of a key counts.
-const PLACES: u64 = 1021;
+const BUCKETS: u64 = 1021;
 
 /// Members, and the numbers of those at each place by their keys. That they stand there saves time, and nothing is told by it.
 #[derive(Drop)]
 pub(crate) struct Members {
     pub(crate) filters: Filters,
-    places: Vec<Place>,
+    places: Vec<MemberBucket>,
 }
 
 /// The numbers of the members of one place.
 #[derive(Drop)]
-struct Place {
+struct MemberBucket {
     numbers: Vec<usize>,
 }
 
@@ -33,8 +33,8 @@ pub(crate) fn no_members(alloc: Global) -> Result<Members, NoMemory>
     ensures { IfOk result (λ m. filters_tree m.filters ≡ no_filters) }
 {
     let mut places = Vec::new(alloc);
-    for _place in 0..PLACES {
-        places.push(Place {
+    for _place in 0..BUCKETS {
+        places.push(MemberBucket {
             numbers: Vec::new(alloc),
         })?;
     }
@@ -49,7 +49,7 @@ pub(crate) fn add(to: &mut Members, member: Filter) -> Result<(), NoMemory>
     ensures { OnOk result ((kind : Kind) →
         Gathers kind (filters_tree to.old.filters) (filters_tree to.new.filters) (alone (filter_tree member))) }
 {
-    let at = (key_of(&member) % PLACES) as usize;
+    let at = (key_of(&member) % BUCKETS) as usize;
     if is_known(to, at, &member) {
         drop(member);
         return Ok(());
@@ -98,7 +98,7 @@ fn is_like(filters: &Filters, number: usize, member: &Filter) -> bool
 }
 
 // Adds the number of a member at its place.
-fn note(places: &mut Vec<Place>, at: usize, number: usize) -> Result<(), NoMemory> {
+fn note(places: &mut Vec<MemberBucket>, at: usize, number: usize) -> Result<(), NoMemory> {
     if at >= places.len() {
         return Ok(());
     }

@@ -21,20 +21,20 @@ use pgn_tree::Game;
 pub(crate) fn all_needed(items: &Filters, variations: bool, game: &Game) -> bool
     ensures { result ≡ spec.all_pass (searched_tree game.now variations) (filters_tree items.now) }
 {
-    let look = Look { game, variations };
+    let look = GameUnderTest { game, variations };
     all_pass(items, &look)
 }
 
 // A look at a game: its tags and result, and its searched positions.
 #[derive(Drop)]
-struct Look<'a> {
+struct GameUnderTest<'a> {
     game: &'a Game,
     variations: bool,
 }
 
 #[cycle(needs)]
 #[tactic(auto, unfolding(crate::specs::Needs::passes))]
-fn passes(f: &Filter, look: &Look) -> bool
+fn passes(f: &Filter, look: &GameUnderTest) -> bool
     ensures { result ≡ spec.passes (searched_tree look.now.game.now look.now.variations) (filter_tree f.now) }
 {
     match &f.form {
@@ -50,7 +50,7 @@ fn passes(f: &Filter, look: &Look) -> bool
 
 #[cycle(needs)]
 #[tactic(auto, unfolding(crate::specs::Needs::passes))]
-fn all_pass(filters: &Filters, look: &Look) -> bool
+fn all_pass(filters: &Filters, look: &GameUnderTest) -> bool
     ensures { result ≡ spec.all_pass (searched_tree look.now.game.now look.now.variations) (filters_tree filters.now) }
 {
     for filter in filters.as_slice() {
@@ -63,7 +63,7 @@ fn all_pass(filters: &Filters, look: &Look) -> bool
 
 #[cycle(needs)]
 #[tactic(auto, unfolding(crate::specs::Needs::passes))]
-fn some_passes(filters: &Filters, look: &Look) -> bool
+fn some_passes(filters: &Filters, look: &GameUnderTest) -> bool
     ensures { result ≡ spec.some_passes (searched_tree look.now.game.now look.now.variations) (filters_tree filters.now) }
 {
     for filter in filters.as_slice() {
@@ -75,7 +75,7 @@ fn some_passes(filters: &Filters, look: &Look) -> bool
 }
 
 // Whether one of a designator's men stands somewhere, or the empty square is among them.
-fn one_stands(designator: &Designator, look: &Look) -> bool
+fn one_stands(designator: &Designator, look: &GameUnderTest) -> bool
     ensures { result ≡ spec.designator_passes (searched_tree look.now.game.now look.now.variations) designator.now.men }
 {
     if has_man(designator.men, Man::Empty) {
@@ -85,13 +85,13 @@ fn one_stands(designator: &Designator, look: &Look) -> bool
 }
 
 // How many men there are: the empty square is the last of the list.
-const TWELVE: usize = 12;
+const MAN_KINDS: usize = 12;
 
 // Whether one of some men stands in a searched position.
-fn some_stands(men: u16, look: &Look) -> bool
+fn some_stands(men: u16, look: &GameUnderTest) -> bool
     ensures { result ≡ spec.one_stands (searched_tree look.now.game.now look.now.variations) men }
 {
-    for man in &Man::ALL[..TWELVE] {
+    for man in &Man::ALL[..MAN_KINDS] {
         if needed_stands(men, *man, look) {
             return true;
         }
@@ -99,7 +99,7 @@ fn some_stands(men: u16, look: &Look) -> bool
     false
 }
 
-fn needed_stands(men: u16, man: Man, look: &Look) -> bool
+fn needed_stands(men: u16, man: Man, look: &GameUnderTest) -> bool
     ensures { result ≡ (is_in men (man_number man)
         && has_man_in (searched_tree look.now.game.now look.now.variations) (man_number man)) }
 {
@@ -107,7 +107,7 @@ fn needed_stands(men: u16, man: Man, look: &Look) -> bool
 }
 
 // Whether a man stands in a searched position. Those after the first in which it does are not looked at.
-fn stands(man: Man, look: &Look) -> bool
+fn stands(man: Man, look: &GameUnderTest) -> bool
     ensures { result ≡ has_man_in (searched_tree look.now.game.now look.now.variations) (man_number man) }
 {
     for k in 0..look.game.len() {
@@ -118,7 +118,7 @@ fn stands(man: Man, look: &Look) -> bool
     false
 }
 
-fn stands_at(man: Man, look: &Look, k: u32) -> bool
+fn stands_at(man: Man, look: &GameUnderTest, k: u32) -> bool
     requires { k < length look.now.game.now.nodes }
     ensures { result ≡ (games.is_searched look.now.variations look.now.game.now.nodes k
         && stands_in (node_at look.now.game.now.nodes k).position (man_number man)) }

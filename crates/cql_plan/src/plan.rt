@@ -1,6 +1,6 @@
 //! A plan of a query.
 ghost use Rattle.std.specs.Prelude.{◌≡◌, true};
-ghost use Rattle.cql_plan.specs.Joined.{HaveSameHits};
+ghost use Rattle.cql_plan.specs.Replacements.{HaveSameHits};
 ghost use Rattle.cql_syntax.specs.Flat.{flat_query};
 ghost use Rattle.cql_syntax.specs.Same.{same_filters};
 ghost use Rattle.cql_syntax.specs.TreeOf.{filters_tree, query_tree};

@@ -7,7 +7,7 @@ ghost use Rattle.cql_syntax.specs.TreeOf.{filters_tree};
 ghost use Rattle.cql_values.specs.Trees.{searched_tree};
 ghost use Rattle.cql_plan.specs.Verdicts.{nodes_of, keys_of};
 
-use crate::found::{Told, hits, keys};
+use crate::hits_and_keys::{QueryColumn, hits, keys};
 use cq_common::{NoMemory, Shared, Steps};
 use cql_eval::hit_columns;
 use cql_syntax::FlatQuery;
@@ -59,7 +59,7 @@ pub(crate) fn find<L: Ledger>(
         + filters_cost (searched_len (searched_tree game.now query.now.variations)) (filters_tree query.now.items) }
 {
     let column = hit_columns(alloc, query, game, steps)?;
-    let told = Told {
+    let told = QueryColumn {
         query,
         game,
         column,

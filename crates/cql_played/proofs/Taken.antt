@@ -23,7 +23,7 @@ use Rattle.cq_moves.proofs.Castled.{Castles, castles_when, castling_squares}
 use Rattle.cq_moves.proofs.Pawns.{Captures, captures_when, beside}
 use Rattle.cq_moves.proofs.Ways.{moved_other, rook_other, home_of, rights_at}
 use Rattle.cql_played.proofs.Goals.{castling_goal_empty, passing_goal_empty, changes_file, nobody}
-use Rattle.cql_played.specs.Taken.{taken_by, IsGone}
+use Rattle.cql_played.specs.Captures.{taken_by, IsCapturedOn}
 
 -- a man of a side is none of the other, and what is of no side is the empty square
 own_not_other : (side : Side) (man : Man) → is_of_side side man ≡ true → is_of_side (opponent side) man ≡ false
@@ -223,7 +223,7 @@ module _ (p : Board) (m : Move) where
   unfolding led
   null_takes null = ap (λ t. taken_by (cond t None (Some (record { origin = m.from; goal = m.to; taken = taken_square p m; promoted = not (is_none m.promotion) })))) null
 
-  gone : (q : Board) (o : Option ℕ) → Takes q.men o → (s : ℕ) → (o ≡ Some s) ↔ IsGone p q s
+  gone : (q : Board) (o : Option ℕ) → Takes q.men o → (s : ℕ) → (o ≡ Some s) ↔ IsCapturedOn p q s
   gone q o takes_ s = (
     λ e. let r = (takes_ s).0 e in record { stood = r.0; gone = r.1 },
     λ is. (takes_ s).1 (is.stood, is.gone),
@@ -233,7 +233,7 @@ module _ (p : Board) (m : Move) where
   unfolding after
   men_of_after = refl
 
-  of_legal : (q : Board) → IsPosition p → Legal p m q → (s : ℕ) → (taken_by (led p m) ≡ Some s) ↔ IsGone p q s
+  of_legal : (q : Board) → IsPosition p → Legal p m q → (s : ℕ) → (taken_by (led p m) ≡ Some s) ↔ IsCapturedOn p q s
   of_legal q i l =
       let men : q.men ≡ men_after p m = ap (λ (b : Board). b.men) l.leads ∙ men_of_after in
       gone q (taken_by (led p m))
@@ -244,13 +244,13 @@ module _ (p : Board) (m : Move) where
   unfolding after_pass
   same_men = refl
 
-  of_pass : (q : Board) → Passes p m q → (s : ℕ) → (taken_by (led p m) ≡ Some s) ↔ IsGone p q s
+  of_pass : (q : Board) → Passes p m q → (s : ℕ) → (taken_by (led p m) ≡ Some s) ↔ IsCapturedOn p q s
   of_pass q pass =
       let men : q.men ≡ p.men = ap (λ (b : Board). b.men) pass.leads ∙ same_men in
       gone q (taken_by (led p m))
       (subst (λ x. Takes x (taken_by (led p m))) (sym men)
       (subst (Takes p.men) (sym (null_takes (ap (λ (x : Move). x.null) pass.null))) (takes_none p.men (λ s there. there))))
 
-pub taken_law : (p : Board) (m : Move) (q : Board) → IsPosition p → Leads p m q → (s : ℕ) → (taken_by (led p m) ≡ Some s) ↔ IsGone p q s
+pub taken_law : (p : Board) (m : Move) (q : Board) → IsPosition p → Leads p m q → (s : ℕ) → (taken_by (led p m) ≡ Some s) ↔ IsCapturedOn p q s
 taken_law p m q i (inl legal) = of_legal p m q i legal
 taken_law p m q i (inr pass) = of_pass p m q pass

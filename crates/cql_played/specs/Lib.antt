@@ -1,2 +1,2 @@
 pub mod Led
-pub mod Taken
+pub mod Captures

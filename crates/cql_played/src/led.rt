@@ -7,7 +7,7 @@ ghost use Rattle.cq_position.specs.Position.{IsPosition};
 ghost use Rattle.cq_position.specs.Legal.{Leads};
 ghost use Rattle.cq_position.specs.Led.{led};
 ghost use Rattle.cql_played.specs.Led.{led_as};
-ghost use Rattle.cql_played.specs.Taken.{taken_by, IsGone};
+ghost use Rattle.cql_played.specs.Captures.{taken_by, IsCapturedOn};
 
 use cq_geometry::{Square, file, rank, square_at};
 use cq_position::position::is_pawn;
@@ -61,5 +61,5 @@ fn taken_by(before: &Position, m: &Move) -> Option<Square>
 #[tactic(auto, using(crate::proofs::Taken::taken_law))]
 pub fn taken_men_are_gone()
     ensures { (p : Board) (m : MoveValue) (q : Board) → IsPosition p → Leads p m q → (s : ℕ) →
-        (taken_by (led p m) ≡ Some s) ↔ IsGone p q s }
+        (taken_by (led p m) ≡ Some s) ↔ IsCapturedOn p q s }
 {}

@@ -17,10 +17,10 @@ use Rattle.cql_syntax.specs.declared.leaves.Chain.TheVariants.{All}
 use Rattle.cql_syntax.specs.declared.leaves.Designator.{Designator}
 use Rattle.cql_syntax.specs.declared.leaves.Pair.TheVariants.{Attacks}
 use Rattle.cql_syntax.specs.declared.tree.Filter.{Filter}
-use Rattle.cql_values.specs.Asked.{settles}
+use Rattle.cql_values.specs.FilterValues.{settles}
 use Rattle.cql_values.proofs.Evaluated.{by_settling}
 use Rattle.cql_values.proofs.Ranges.{same_any}
-use Rattle.cql_pruning.specs.Attacked.{AsksAttack, IsOnly, IsItsName, IsDesignated}
+use Rattle.cql_pruning.specs.NameAttacks.{AsksAttack, IsOnly, IsName, IsDesignated}
 
 on_board : (s : ℕ) → s < 64 → nat_lt s 64 ≡ true
 on_board s low = lt-ltb s 64 low
@@ -37,7 +37,7 @@ one_square : (r : ℕ → Bool) (s : ℕ) → s < 64 → list_any (λ u. nat_lt 
 one_square r s low =
     same_any (λ u. nat_lt u 64 && ((nat_lt u 64 && s == u) && r u)) (λ u. r u && s == u) (λ u h. only_same (nat_lt u 64) (s == u) (r u) (on_board u h)) ∙ any_pick r s low
 
-pub own_name : (f : FilterTree) (i : ℕ) (text given : List ℕ) → f ≡ filter_at i (name text) → bytes_eq given text ≡ true → IsItsName given f
+pub own_name : (f : FilterTree) (i : ℕ) (text given : List ℕ) → f ≡ filter_at i (name text) → bytes_eq given text ≡ true → IsName given f
 unfolding value
 own_name f i text given is same = record {
   each = λ tree e s n. ap (λ g. value tree [] ((given, s) ∷ e) g n) is ∙ ap (λ b. squares_where (λ t. if b then s == t else is_bound_to e text t)) same;
@@ -47,7 +47,7 @@ pub designated : (f : FilterTree) (i : ℕ) (d : Designator) → f ≡ filter_at
 unfolding value designator_image
 designated f i d is = record { each = λ tree e n. ap (λ g. value tree [] e g n) is }
 
-pub pair_asks : (given : List ℕ) (d : Designator) (f a b : FilterTree) (i : ℕ) → f ≡ filter_at i (pair Attacks a b) → IsItsName given a → IsDesignated d b → AsksAttack given d f
+pub pair_asks : (given : List ℕ) (d : Designator) (f a b : FilterTree) (i : ℕ) → f ≡ filter_at i (pair Attacks a b) → IsName given a → IsDesignated d b → AsksAttack given d f
 unfolding value
 pair_asks given d f a b i is own goals = record {
   each = λ tree e s n low. ap (λ g. holds (value tree [] ((given, s) ∷ e) g n)) is
@@ -85,7 +85,7 @@ pub attack_is : (tree : SearchedTree) (e : Names) (given : List ℕ) (d : Design
     → as_truth (holds (related (attacks (position_at tree n).men) x (standing_of (position_at tree n).men (Some d))))
     ≡ square_of every x (λ s. holds (value tree [] ((given, s) ∷ e) f n))
 attack_is tree e given d true x f n some asks = cc
-attack_is tree e given d false x f n some asks = sym (by_settling false x asked found is ∙ turned found)
+attack_is tree e given d false x f n some asks = sym (by_settling false x asked found is ∙ converse found)
   where
     asked : ℕ → Bool
     asked s = holds (value tree [] ((given, s) ∷ e) f n)
@@ -100,6 +100,6 @@ attack_is tree e given d false x f n some asks = sym (by_settling false x asked 
     is = same_any (λ s. nat_lt s 64 && (has x s && reach s)) (settles false (has x) asked)
         (λ s low. here_alone (nat_lt s 64) (has x s) (reach s) (on_board s low) ∙ ap (λ b. has x s && b) (sym (asks.each tree e s n low)))
 
-    turned : (b : Bool) → as_truth (if b then not false else false) ≡ as_truth b
-    turned true = refl
-    turned false = refl
+    converse : (b : Bool) → as_truth (if b then not false else false) ≡ as_truth b
+    converse true = refl
+    converse false = refl

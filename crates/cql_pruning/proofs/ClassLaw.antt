@@ -10,13 +10,13 @@ use Rattle.cql_syntax.specs.TreeOf.{filter_tree, filter_trees}
 use Rattle.cql_syntax.specs.Values.{Value, holds, as_truth}
 use Rattle.cql_syntax.specs.declared.tree.Filter.{Filter}
 use Rattle.cql_syntax.proofs.Lists.{filter_trees_more}
-use Rattle.cql_columns.specs.Columns.{is_live, is_so, shown, AreAsked, IsColumn, IsNarrowed, Where}
+use Rattle.cql_columns.specs.Columns.{is_live, is_as_wanted, shown, IsNodeSet, IsColumn, IsNarrowed, Where}
 use Rattle.cql_columns.specs.Costs.{filter_cost, filters_cost}
 use Rattle.cql_columns.specs.declared.filter_column.FilterColumn.{FilterColumn}
 use Rattle.cql_columns.proofs.Chains.{take_whole}
 use Rattle.cql_columns.proofs.Costing.{more, within}
 use Rattle.cql_columns.proofs.Keeping.{written}
-use Rattle.cql_pruning.specs.Classes.{form_class, filter_class, is_of, is_before, is_so_if, are_so, cost_if, cost_of, IsLeft}
+use Rattle.cql_pruning.specs.Classes.{form_class, filter_class, is_of, is_before, is_as_wanted_if, are_as_wanted, cost_if, cost_of, IsLeft}
 use Rattle.cql_pruning.proofs.Placing.{Placed}
 
 pub and_true : (b : Bool) → b ≡ (b && true)
@@ -28,10 +28,10 @@ and_assoc true b c = refl
 and_assoc false b c = refl
 
 -- what is left, and left of that
-pub is_left_begun : (tree : SearchedTree) (live left : List Bool) (test : ℕ → Bool) → AreAsked tree live → left ≡ live → ((n : ℕ) → test n ≡ true)
+pub is_left_begun : (tree : SearchedTree) (live left : List Bool) (test : ℕ → Bool) → IsNodeSet tree live → left ≡ live → ((n : ℕ) → test n ≡ true)
     → IsLeft tree live test left
 is_left_begun tree live left test asked is all = record {
-  asked = subst (AreAsked tree) (sym is) asked;
+  asked = subst (IsNodeSet tree) (sym is) asked;
   each = λ n. ap (λ l. is_live l n) is ∙ and_true (is_live live n) ∙ ap (λ b. is_live live n && b) (sym (all n));
 }
 
@@ -47,12 +47,12 @@ is_left_same tree live left s t same is = record { asked = is.asked; each = λ n
 
 -- one filter, where it is taken and where it is not
 pub left_told : (taken : FilterTree → Bool) (tree : SearchedTree) (e : Names) (want : Bool) (f : FilterTree) (live left : List Bool) (c : FilterColumn)
-    → taken f ≡ true → AreAsked tree live → Where live (λ n. holds (shown c n) ≡ holds (value tree [] e f n)) → IsNarrowed live c want left
-    → IsLeft tree live (is_so_if taken tree e want f) left
+    → taken f ≡ true → IsNodeSet tree live → Where live (λ n. holds (shown c n) ≡ holds (value tree [] e f n)) → IsNarrowed live c want left
+    → IsLeft tree live (is_as_wanted_if taken tree e want f) left
 left_told taken tree e want f live left c is asked column narrowed = record {
   asked = narrowed.asked tree asked;
-  each = λ n. narrowed.each n ∙ by (is_live live n) (is_so want (holds (shown c n))) (is_so want (holds (value tree [] e f n))) (taken f) is
-      (λ l. ap (is_so want) (column n l));
+  each = λ n. narrowed.each n ∙ by (is_live live n) (is_as_wanted want (holds (shown c n))) (is_as_wanted want (holds (value tree [] e f n))) (taken f) is
+      (λ l. ap (is_as_wanted want) (column n l));
 }
   where
     by : (a x y t : Bool) → t ≡ true → (a ≡ true → x ≡ y) → (a && x) ≡ (a && (not t || y))
@@ -60,49 +60,49 @@ left_told taken tree e want f live left c is asked column narrowed = record {
     by true x y t is e = e refl ∙ ap (λ b. not b || y) (sym is)
 
 pub left_taken : (taken : FilterTree → Bool) (tree : SearchedTree) (e : Names) (want : Bool) (f : FilterTree) (live left : List Bool) (c : FilterColumn)
-    → taken f ≡ true → AreAsked tree live → IsColumn c live (value tree [] e f) → IsNarrowed live c want left → IsLeft tree live (is_so_if taken tree e want f) left
+    → taken f ≡ true → IsNodeSet tree live → IsColumn c live (value tree [] e f) → IsNarrowed live c want left → IsLeft tree live (is_as_wanted_if taken tree e want f) left
 left_taken taken tree e want f live left c is asked column narrowed = left_told taken tree e want f live left c is asked (λ n l. ap holds (column n l)) narrowed
 
 pub left_passed : (taken : FilterTree → Bool) (tree : SearchedTree) (e : Names) (want : Bool) (f : FilterTree) (live : List Bool)
-    → taken f ≡ false → AreAsked tree live → IsLeft tree live (is_so_if taken tree e want f) live
+    → taken f ≡ false → IsNodeSet tree live → IsLeft tree live (is_as_wanted_if taken tree e want f) live
 left_passed taken tree e want f live is asked =
-    is_left_begun tree live live (is_so_if taken tree e want f) asked refl (λ n. ap (λ b. not b || is_so want (holds (value tree [] e f n))) is)
+    is_left_begun tree live live (is_as_wanted_if taken tree e want f) asked refl (λ n. ap (λ b. not b || is_as_wanted want (holds (value tree [] e f n))) is)
 
 -- filters one by one
 pub so_begun : (taken : FilterTree → Bool) (tree : SearchedTree) (e : Names) (want : Bool) (xs : List Filter) (n : ℕ)
-    → are_so taken tree e want (filter_trees (take 0 xs)) n ≡ true
-unfolding are_so
+    → are_as_wanted taken tree e want (filter_trees (take 0 xs)) n ≡ true
+unfolding are_as_wanted
 so_begun taken tree e want [] n = refl
 so_begun taken tree e want (x ∷ xs) n = refl
 
 so_snoc : (taken : FilterTree → Bool) (tree : SearchedTree) (e : Names) (want : Bool) (fs : FilterTrees) (f : FilterTree) (n : ℕ)
-    → are_so taken tree e want (with_filter fs f) n ≡ (are_so taken tree e want fs n && is_so_if taken tree e want f n)
-unfolding are_so
-so_snoc taken tree e want no_filters f n = sym (and_true (is_so_if taken tree e want f n))
+    → are_as_wanted taken tree e want (with_filter fs f) n ≡ (are_as_wanted taken tree e want fs n && is_as_wanted_if taken tree e want f n)
+unfolding are_as_wanted
+so_snoc taken tree e want no_filters f n = sym (and_true (is_as_wanted_if taken tree e want f n))
 so_snoc taken tree e want (more_filters x fs) f n =
-    ap (λ b. is_so_if taken tree e want x n && b) (so_snoc taken tree e want fs f n)
-    ∙ sym (and_assoc (is_so_if taken tree e want x n) (are_so taken tree e want fs n) (is_so_if taken tree e want f n))
+    ap (λ b. is_as_wanted_if taken tree e want x n && b) (so_snoc taken tree e want fs f n)
+    ∙ sym (and_assoc (is_as_wanted_if taken tree e want x n) (are_as_wanted taken tree e want fs n) (is_as_wanted_if taken tree e want f n))
 
 pub so_more : (taken : FilterTree → Bool) (tree : SearchedTree) (e : Names) (want : Bool) (xs : List Filter) (i : ℕ) (f : Filter) (n : ℕ)
     → i < length xs → f ≡ get_or xs i f
-    → are_so taken tree e want (filter_trees (take (i + 1) xs)) n ≡ (are_so taken tree e want (filter_trees (take i xs)) n && is_so_if taken tree e want (filter_tree f) n)
+    → are_as_wanted taken tree e want (filter_trees (take (i + 1) xs)) n ≡ (are_as_wanted taken tree e want (filter_trees (take i xs)) n && is_as_wanted_if taken tree e want (filter_tree f) n)
 so_more taken tree e want xs i f n below is =
-    ap (λ fs. are_so taken tree e want fs n) (filter_trees_more xs i f below is) ∙ so_snoc taken tree e want (filter_trees (take i xs)) (filter_tree f) n
+    ap (λ fs. are_as_wanted taken tree e want fs n) (filter_trees_more xs i f below is) ∙ so_snoc taken tree e want (filter_trees (take i xs)) (filter_tree f) n
 
 pub so_whole : (taken : FilterTree → Bool) (tree : SearchedTree) (e : Names) (want : Bool) (xs : List Filter) (i : ℕ) (fs : FilterTrees) (n : ℕ)
-    → length xs ≤ i → filter_trees xs ≡ fs → are_so taken tree e want (filter_trees (take i xs)) n ≡ are_so taken tree e want fs n
+    → length xs ≤ i → filter_trees xs ≡ fs → are_as_wanted taken tree e want (filter_trees (take i xs)) n ≡ are_as_wanted taken tree e want fs n
 so_whole taken tree e want xs i fs n end is =
-    ap (λ ys. are_so taken tree e want (filter_trees ys) n) (take_whole xs i end) ∙ ap (λ gs. are_so taken tree e want gs n) is
+    ap (λ ys. are_as_wanted taken tree e want (filter_trees ys) n) (take_whole xs i end) ∙ ap (λ gs. are_as_wanted taken tree e want gs n) is
 
 -- class by class
 not_below : (x : ℕ) → nat_lt x 0 ≡ false
 not_below x = grind (arith, nat_tests)
 
-pub so_none : (tree : SearchedTree) (e : Names) (want : Bool) (fs : FilterTrees) (n : ℕ) → are_so (is_before 0) tree e want fs n ≡ true
-unfolding are_so
+pub so_none : (tree : SearchedTree) (e : Names) (want : Bool) (fs : FilterTrees) (n : ℕ) → are_as_wanted (is_before 0) tree e want fs n ≡ true
+unfolding are_as_wanted
 so_none tree e want no_filters n = refl
 so_none tree e want (more_filters f fs) n =
-    ap₂ (λ a b. (not a || is_so want (holds (value tree [] e f n))) && b) (not_below (filter_class f)) (so_none tree e want fs n)
+    ap₂ (λ a b. (not a || is_as_wanted want (holds (value tree [] e f n))) && b) (not_below (filter_class f)) (so_none tree e want fs n)
 
 below_next : (x c : ℕ) → nat_lt x (c + 1) ≡ (nat_lt x c || nat_eq x c)
 below_next x c = grind (arith, nat_tests)
@@ -123,14 +123,14 @@ crossed true false false d = refl
 crossed false b c d = refl
 
 pub so_next : (tree : SearchedTree) (e : Names) (want : Bool) (c : ℕ) (fs : FilterTrees) (n : ℕ)
-    → are_so (is_before (c + 1)) tree e want fs n ≡ (are_so (is_before c) tree e want fs n && are_so (is_of c) tree e want fs n)
-unfolding are_so
+    → are_as_wanted (is_before (c + 1)) tree e want fs n ≡ (are_as_wanted (is_before c) tree e want fs n && are_as_wanted (is_of c) tree e want fs n)
+unfolding are_as_wanted
 so_next tree e want c no_filters n = refl
 so_next tree e want c (more_filters f fs) n =
-    let p = is_so want (holds (value tree [] e f n)) in
+    let p = is_as_wanted want (holds (value tree [] e f n)) in
     ap₂ (λ a b. (not a || p) && b) (below_next (filter_class f) c) (so_next tree e want c fs n)
-    ∙ ap (λ a. a && (are_so (is_before c) tree e want fs n && are_so (is_of c) tree e want fs n)) (split_or (is_before c f) (is_of c f) p)
-    ∙ crossed (not (is_before c f) || p) (not (is_of c f) || p) (are_so (is_before c) tree e want fs n) (are_so (is_of c) tree e want fs n)
+    ∙ ap (λ a. a && (are_as_wanted (is_before c) tree e want fs n && are_as_wanted (is_of c) tree e want fs n)) (split_or (is_before c f) (is_of c f) p)
+    ∙ crossed (not (is_before c f) || p) (not (is_of c f) || p) (are_as_wanted (is_before c) tree e want fs n) (are_as_wanted (is_of c) tree e want fs n)
 
 form_low : (g : FormTree) → nat_lt (form_class g) 6 ≡ true
 unfolding form_class
@@ -159,15 +159,15 @@ pub class_low : (f : FilterTree) → is_before 6 f ≡ true
 class_low (filter_at at f) = form_low f
 
 pub so_all : (tree : SearchedTree) (e : Names) (want : Bool) (fs : FilterTrees) (n : ℕ)
-    → are_so (is_before 6) tree e want fs n ≡ list_all (λ v. is_so want (holds v)) (values tree [] e fs n)
-unfolding are_so value
+    → are_as_wanted (is_before 6) tree e want fs n ≡ list_all (λ v. is_as_wanted want (holds v)) (values tree [] e fs n)
+unfolding are_as_wanted value
 so_all tree e want no_filters n = refl
 so_all tree e want (more_filters f fs) n =
-    ap₂ (λ a b. (not a || is_so want (holds (value tree [] e f n))) && b) (class_low f) (so_all tree e want fs n)
+    ap₂ (λ a b. (not a || is_as_wanted want (holds (value tree [] e f n))) && b) (class_low f) (so_all tree e want fs n)
 
 -- none holds where each doesn't
 pub so_no : (tree : SearchedTree) (e : Names) (fs : FilterTrees) (n : ℕ)
-    → are_so (is_before 6) tree e false fs n ≡ not (list_any holds (values tree [] e fs n))
+    → are_as_wanted (is_before 6) tree e false fs n ≡ not (list_any holds (values tree [] e fs n))
 so_no tree e fs n = so_all tree e false fs n ∙ none (values tree [] e fs n)
   where
     none : (vs : List Value) → list_all (λ v. not (holds v)) vs ≡ not (list_any holds vs)
@@ -196,12 +196,12 @@ after_is w = written w.len w.later w.left w.count
 
 -- one class more, in place
 pub class_left : (tree : SearchedTree) (e : Names) (want : Bool) (c : ℕ) (fs : FilterTrees) (live : List Bool) (w : InPlace)
-    → IsLeft tree live (are_so (is_before c) tree e want fs) w.left → IsLeft tree w.given (are_so (is_of c) tree e want fs) w.later
-    → IsLeft tree live (are_so (is_before (c + 1)) tree e want fs) (left_after w)
+    → IsLeft tree live (are_as_wanted (is_before c) tree e want fs) w.left → IsLeft tree w.given (are_as_wanted (is_of c) tree e want fs) w.later
+    → IsLeft tree live (are_as_wanted (is_before (c + 1)) tree e want fs) (left_after w)
 class_left tree e want c fs live w had asked =
-    subst (IsLeft tree live (are_so (is_before (c + 1)) tree e want fs)) (sym (after_is w))
-    (is_left_then tree live w.left w.later (are_so (is_before c) tree e want fs) (are_so (is_of c) tree e want fs) (are_so (is_before (c + 1)) tree e want fs) had
-    (subst (λ l. IsLeft tree l (are_so (is_of c) tree e want fs) w.later) w.same asked) (so_next tree e want c fs))
+    subst (IsLeft tree live (are_as_wanted (is_before (c + 1)) tree e want fs)) (sym (after_is w))
+    (is_left_then tree live w.left w.later (are_as_wanted (is_before c) tree e want fs) (are_as_wanted (is_of c) tree e want fs) (are_as_wanted (is_before (c + 1)) tree e want fs) had
+    (subst (λ l. IsLeft tree l (are_as_wanted (is_of c) tree e want fs) w.later) w.same asked) (so_next tree e want c fs))
 
 pub class_end : (c past : ℕ) → past ≤ c → c ≤ past → c ≡ past
 class_end c past h k = omega (arith, h, k)

@@ -14,9 +14,9 @@ use Rattle.cql_syntax.specs.Trees.{FilterTree, FilterTrees}
 use Rattle.cql_syntax.specs.Values.{holds}
 use Rattle.cql_syntax.specs.declared.tree.Filter.{Filter}
 use Rattle.cql_values.proofs.Masks.{bit_in}
-use Rattle.cql_columns.specs.Columns.{is_so}
+use Rattle.cql_columns.specs.Columns.{is_as_wanted}
 use Rattle.cql_columns.proofs.Wanting.{in_either}
-use Rattle.cql_pruning.specs.Classes.{filter_class, is_of, are_so, AreAmong}
+use Rattle.cql_pruning.specs.Classes.{filter_class, is_of, are_as_wanted, CoverClasses}
 use Rattle.cql_pruning.proofs.ClassLaw.{class_low}
 
 pub class_small : (f : FilterTree) → filter_class f < 32
@@ -45,12 +45,12 @@ before classes more k e = left_out (is_in more k) (is_in classes k) (sym (in_eit
 set_there : (classes c : ℕ) → c < 32 → is_in (bit_or classes (1 * 2 ^ c % 2 ^ 32)) c ≡ true
 set_there classes c low = bit_in (bit_or classes (1 * 2 ^ c % 2 ^ 32)) c (bit_at_set_same w32 classes c low)
 
-pub among_begun : (classes : ℕ) (xs : List Filter) → AreAmong classes (take 0 xs)
+pub among_begun : (classes : ℕ) (xs : List Filter) → CoverClasses classes (take 0 xs)
 among_begun classes [] k e = refl
 among_begun classes (x ∷ xs) k e = refl
 
-pub among_more : (xs : List Filter) (i : ℕ) (f : Filter) (classes c : ℕ) → i < length xs → f ≡ get_or xs i f → c ≡ filter_class (filter_tree f) → AreAmong classes (take i xs)
-    → AreAmong (bit_or classes (1 * 2 ^ c % 2 ^ 32)) (take (i + 1) xs)
+pub among_more : (xs : List Filter) (i : ℕ) (f : Filter) (classes c : ℕ) → i < length xs → f ≡ get_or xs i f → c ≡ filter_class (filter_tree f) → CoverClasses classes (take i xs)
+    → CoverClasses (bit_or classes (1 * 2 ^ c % 2 ^ 32)) (take (i + 1) xs)
 among_more xs i f classes c low is own had k e =
     list_any_more (λ g. is_of k (filter_tree g)) xs i f low
     ∙ neither (list_any (λ g. is_of k (filter_tree g)) (take i xs)) (is_of k (filter_tree (get_or xs i f)))
@@ -67,14 +67,14 @@ among_more xs i f classes c low is own had k e =
 
 -- of a class of which there is no filter nothing is asked
 none_asked : (tree : SearchedTree) (e : Names) (want : Bool) (k : ℕ) (xs : List Filter) (n : ℕ) → list_any (λ f. is_of k (filter_tree f)) xs ≡ false
-    → are_so (is_of k) tree e want (filter_trees xs) n ≡ true
-unfolding are_so
+    → are_as_wanted (is_of k) tree e want (filter_trees xs) n ≡ true
+unfolding are_as_wanted
 none_asked tree e want k [] n none = refl
 none_asked tree e want k (x ∷ xs) n none =
-    ap₂ (λ a b. (not a || is_so want (holds (value tree [] e (filter_tree x) n))) && b)
+    ap₂ (λ a b. (not a || is_as_wanted want (holds (value tree [] e (filter_tree x) n))) && b)
     (left_out (list_any (λ f. is_of k (filter_tree f)) xs) (is_of k (filter_tree x)) none)
     (none_asked tree e want k xs n (right_out (is_of k (filter_tree x)) (list_any (λ f. is_of k (filter_tree f)) xs) none))
 
 pub so_other : (tree : SearchedTree) (e : Names) (want : Bool) (k : ℕ) (xs : List Filter) (fs : FilterTrees) (n : ℕ) → fs ≡ filter_trees xs
-    → list_any (λ f. is_of k (filter_tree f)) xs ≡ false → are_so (is_of k) tree e want fs n ≡ true
-so_other tree e want k xs fs n same none = ap (λ gs. are_so (is_of k) tree e want gs n) same ∙ none_asked tree e want k xs n none
+    → list_any (λ f. is_of k (filter_tree f)) xs ≡ false → are_as_wanted (is_of k) tree e want fs n ≡ true
+so_other tree e want k xs fs n same none = ap (λ gs. are_as_wanted (is_of k) tree e want gs n) same ∙ none_asked tree e want k xs n none

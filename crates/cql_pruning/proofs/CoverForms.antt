@@ -21,12 +21,12 @@ use Rattle.cql_syntax.specs.declared.leaves.Pair.TheVariants.{Attacks, AttackedB
 use Rattle.cql_syntax.specs.declared.leaves.Unary.{Unary}
 use Rattle.cql_syntax.specs.declared.tree.Filter.{Filter}
 use Rattle.cql_syntax.specs.declared.tree.Played.{Played}
-use Rattle.cql_values.specs.Asked.{settles}
+use Rattle.cql_values.specs.FilterValues.{settles}
 use Rattle.cql_values.proofs.Evaluated.{by_settling}
 use Rattle.cql_values.proofs.Ranges.{same_any, some_square, square_found}
-use Rattle.cql_pruning.specs.Covers.{Agree, Binds, AreCut, MayHold, MayHave, IsOwn, IsOwnPart, IsOfMove, AreSetsOf, AreWorthTrying}
+use Rattle.cql_pruning.specs.Covers.{Agree, Binds, AreCut, MayHold, MayHave, GivesOnlyName, PartGivesOnlyName, IsOfMove, AreSetsOf, AreWorthTrying}
 use Rattle.cql_pruning.proofs.CoverLaw.{cut_as, cut_then}
-use Rattle.cql_pruning.proofs.FreeLaw.{all_at, some_there}
+use Rattle.cql_pruning.proofs.IndependenceLaw.{all_at, some_there}
 use Rattle.cql_pruning.proofs.MoveLaw.{move_value, origin_of, goal_of, taken_of, promoted_of}
 use Rattle.cql_pruning.proofs.Placing.{Placed}
 
@@ -61,7 +61,7 @@ part_set_cut t v w old new from = cut_as t.live (MayHave t.opened t.outer t.name
     (λ n s a p. record { inner = p.inner; agree = p.agree; binds = p.binds; has_there = from p.inner n s p.has_there })
 
 -- of a filter that has no other square
-pub own_cut : (t : Tried) (f : FilterTree) (old new : List ℕ) → IsOwn t.name (λ r e n. value r [] e f n)
+pub own_cut : (t : Tried) (f : FilterTree) (old new : List ℕ) → GivesOnlyName t.name (λ r e n. value r [] e f n)
     → KeepsHaving t (λ e. value t.tree [] e f) old new → KeepsHolding t (λ e. value t.tree [] e f) old new
 own_cut t f old new own = cut_as t.live (MayHold t.opened t.outer t.name (λ e. value t.tree [] e f)) (MayHave t.opened t.outer t.name (λ e. value t.tree [] e f)) old new
     (λ n s a p. record { inner = p.inner; agree = p.agree; binds = p.binds; has_there = own.some t.tree p.inner n s p.binds p.holds_there })
@@ -176,11 +176,11 @@ pub record AreTurned (p back : Pair) : Type 0 where
   pub attacks : p ≡ Attacks → back ≡ AttackedBy
   pub attacked : p ≡ AttackedBy → back ≡ Attacks
 
-pub turned_cut : (t : Tried) (f : FilterTree) (p back : Pair) (a b : FilterTree) (old new : List ℕ) → IsAttack f p a b → AreTurned p back → IsOwn t.name (λ r e n. value r [] e b n)
+pub turned_cut : (t : Tried) (f : FilterTree) (p back : Pair) (a b : FilterTree) (old new : List ℕ) → IsAttack f p a b → AreTurned p back → GivesOnlyName t.name (λ r e n. value r [] e b n)
     → ((v : Names → ℕ → Value) → KeepsHaving t (λ e n. pair_of (position_at t.tree n).men back (v e n) (value t.tree [] e a n)) old new)
     → KeepsHolding t (λ e. value t.tree [] e f) old new
 unfolding value
-turned_cut t f p back a b old new attack turned own cut =
+turned_cut t f p back a b old new attack converse own cut =
     let tree = t.tree in
     cut_as t.live (MayHold t.opened t.outer t.name (λ e. value tree [] e f))
     (MayHave t.opened t.outer t.name (λ e n. pair_of (position_at tree n).men back (value tree [] e b n) (value tree [] e a n))) old new
@@ -191,10 +191,10 @@ turned_cut t f p back a b old new attack turned own cut =
       agree = m.agree;
       binds = m.binds;
       has_there = ⊎_elim
-          (λ same. ap (λ r. has (pair_of (position_at tree n).men r (value tree [] m.inner b n) (value tree [] m.inner a n)) s) (turned.attacks same)
+          (λ same. ap (λ r. has (pair_of (position_at tree n).men r (value tree [] m.inner b n) (value tree [] m.inner a n)) s) (converse.attacks same)
           ∙ turned_has (attacks (position_at tree n).men) (value tree [] m.inner a n) (value tree [] m.inner b n) s (λ u h. own.only tree m.inner n s u m.binds h)
           (sym (ap (λ r. holds (pair_of (position_at tree n).men r (value tree [] m.inner a n) (value tree [] m.inner b n))) same) ∙ there))
-          (λ same. ap (λ r. has (pair_of (position_at tree n).men r (value tree [] m.inner b n) (value tree [] m.inner a n)) s) (turned.attacked same)
+          (λ same. ap (λ r. has (pair_of (position_at tree n).men r (value tree [] m.inner b n) (value tree [] m.inner a n)) s) (converse.attacked same)
           ∙ turned_has (λ u v. attacks (position_at tree n).men v u) (value tree [] m.inner a n) (value tree [] m.inner b n) s (λ u h. own.only tree m.inner n s u m.binds h)
           (sym (ap (λ r. holds (pair_of (position_at tree n).men r (value tree [] m.inner a n) (value tree [] m.inner b n))) same) ∙ there))
           attack.which;
@@ -206,7 +206,7 @@ pub written_sets : (len : ℕ) (new old : List ℕ) → len ≡ length new → t
 written_sets len new old e = ap (λ i. take i (new ++ drop (length new) old)) e ∙ take-append_seam new (drop (length new) old)
 
 -- the move filter
-own_meets : (tree : SearchedTree) (given : List ℕ) (w : WrittenTree) (e : Names) (m s : ℕ) (q : Option ℕ) → IsOwnPart given w → Binds e given s → meets (written_value tree [] e w m) q ≡ true → q ≡ Some s
+own_meets : (tree : SearchedTree) (given : List ℕ) (w : WrittenTree) (e : Names) (m s : ℕ) (q : Option ℕ) → PartGivesOnlyName given w → Binds e given s → meets (written_value tree [] e w m) q ≡ true → q ≡ Some s
 unfolding value
 own_meets tree given w e m s q own binds met = by q (sym (ap (λ x. meets (written_value tree [] e x m) q) own.is) ∙ met)
   where
@@ -236,8 +236,8 @@ of_move (Some l) a b c d origin goal taken s only all =
       at_taken = λ yes. only.from_taken yes l.taken (second_true (meets a (Some l.origin) && meets b (Some l.goal)) (meets c l.taken) three);
     }
 
-pub move_cut : (t : Tried) (p : Played) (origin goal taken : Bool) (old new : List ℕ) → (origin ≡ true → IsOwnPart t.name (origin_of p))
-    → (goal ≡ true → IsOwnPart t.name (goal_of p)) → (taken ≡ true → IsOwnPart t.name (taken_of p))
+pub move_cut : (t : Tried) (p : Played) (origin goal taken : Bool) (old new : List ℕ) → (origin ≡ true → PartGivesOnlyName t.name (origin_of p))
+    → (goal ≡ true → PartGivesOnlyName t.name (goal_of p)) → (taken ≡ true → PartGivesOnlyName t.name (taken_of p))
     → AreCut t.live (λ n. IsOfMove (led_to t.tree.game.nodes n) origin goal taken) old new → KeepsHolding t (λ e n. as_truth (played_value t.tree [] e (played_tree p) n)) old new
 move_cut t p origin goal taken old new first second third =
     let tree = t.tree in

@@ -17,7 +17,7 @@ use Rattle.cql_values.proofs.Masks.{in_both, nothing_in, is_in_bit, above}
 use Rattle.cql_columns.specs.Columns.{is_live}
 use Rattle.cql_columns.proofs.Filling.{split_last, live_below, any_default, equal_or, split_at, or_left, or_right}
 use Rattle.cql_columns.proofs.Wanting.{in_either}
-use Rattle.cql_pruning.specs.Covers.{AreCut, IsCut, AreAmong, HasSome, IsSoRelated}
+use Rattle.cql_pruning.specs.Covers.{AreCut, IsCut, AreAmong, HasSome, IsRelatedSquare}
 
 -- those of the first k nodes
 pub record CutTo (live : List Bool) (P : ℕ → ℕ → Type 0) (old : List ℕ) (k : ℕ) (new : List ℕ) : Type 0 where
@@ -142,11 +142,11 @@ related_kept test y asked set new Q is from = record {
     found s = list_any (λ t. has y t && test s t) squares
 
 pub related_cut : (men : List Man) (p : Pair) (y : Value) (asked : Bool) (set new : ℕ) → (p ≡ Attacks) ⊎ (p ≡ AttackedBy) → is_in new ≡ has (pair_of men p (as_squares (is_in set)) y)
-    → IsCut asked (IsSoRelated men p y) set new
+    → IsCut asked (IsRelatedSquare men p y) set new
 related_cut men p y asked set new which is = ⊎_elim
-    (λ same. related_kept (attacks men) y asked set new (IsSoRelated men p y) (is ∙ ap (λ q. has (pair_of men q (as_squares (is_in set)) y)) same)
+    (λ same. related_kept (attacks men) y asked set new (IsRelatedSquare men p y) (is ∙ ap (λ q. has (pair_of men q (as_squares (is_in set)) y)) same)
     (λ s q. (q.first, sym (ap (λ r. has (pair_of men r q.first y) s) same) ∙ q.has_there)))
-    (λ same. related_kept (λ s t. attacks men t s) y asked set new (IsSoRelated men p y) (is ∙ ap (λ q. has (pair_of men q (as_squares (is_in set)) y)) same)
+    (λ same. related_kept (λ s t. attacks men t s) y asked set new (IsRelatedSquare men p y) (is ∙ ap (λ q. has (pair_of men q (as_squares (is_in set)) y)) same)
     (λ s q. (q.first, sym (ap (λ r. has (pair_of men r q.first y) s) same) ∙ q.has_there)))
     which
 

@@ -4,10 +4,10 @@ pub mod ClassSets
 pub mod CoverForms
 pub mod CoverLaw
 pub mod CoverSome
-pub mod EverLaw
-pub mod FreeLaw
+pub mod OccupancyLaw
+pub mod IndependenceLaw
 pub mod MoveLaw
-pub mod MovedLaw
+pub mod MoveTargetsLaw
 pub mod PairLaw
 pub mod Placing
-pub mod ToldLaw
+pub mod OccupancyColumnLaw

@@ -19,7 +19,7 @@ use Rattle.cql_columns.specs.Columns.{is_live, shown, IsColumn, Where}
 use Rattle.cql_columns.specs.Costs.{filter_cost, played_cost, written_cost}
 use Rattle.cql_columns.specs.FlatTrees.{unflat, IsFlat, IsFlatPart}
 use Rattle.cql_columns.specs.declared.filter_column.FilterColumn.{FilterColumn}
-use Rattle.cql_pruning.specs.Moved.{ArePartColumns, is_as_asked}
+use Rattle.cql_pruning.specs.MoveTargets.{ArePartColumns, is_as_asked}
 use Rattle.cql_pruning.specs.Promoting.{ArePromoting, is_promotion}
 use Rattle.cql_pruning.specs.declared.moves.PartColumns.{PartColumns}
 

@@ -20,12 +20,12 @@ use Rattle.cql_columns.specs.Columns.{shown, IsColumn}
 use Rattle.cql_columns.specs.Scopes.{tree_in}
 use Rattle.cql_columns.specs.declared.filter_column.FilterColumn.{FilterColumn}
 use Rattle.cql_columns.proofs.FindLaw.{any_filtered}
-use Rattle.cql_pruning.specs.Covers.{Binds, AreCut, HasSome, IsFree, IsOwn, IsSoRelated, MayHold, MayPair}
+use Rattle.cql_pruning.specs.Covers.{Binds, AreCut, HasSome, IsIndependent, GivesOnlyName, IsRelatedSquare, MayHold, MayPair}
 use Rattle.cql_pruning.specs.Pairs.{LeavesPaired}
 use Rattle.cql_pruning.specs.declared.pairs.PairTrial.{PairTrial}
 use Rattle.cql_pruning.proofs.CoverForms.{AreTurned, KeepsHolding, Tried, first_true, second_true, yes_both, turned_has, still_bound}
 use Rattle.cql_pruning.proofs.CoverLaw.{cut_as, cut_then, cut_wide}
-use Rattle.cql_pruning.proofs.FreeLaw.{all_at, some_there, related_own}
+use Rattle.cql_pruning.proofs.IndependenceLaw.{all_at, some_there, related_own}
 use Rattle.cql_pruning.proofs.Placing.{Placed}
 
 -- the tree that is searched
@@ -111,19 +111,19 @@ related_more test x y v s more h =
     (yes_both (has v found.k) (test s found.k) (more found.k (first_true (has y found.k) (test s found.k) found.passes)) (second_true (has y found.k) (test s found.k) found.passes))))
 
 -- the square of the other name is one of those that are known
-known : (tree : SearchedTree) (other : List ℕ) (x : ℕ → Value) (b : FilterTree) (e : Names) (n t : ℕ) → IsOwn other (λ r e n. value r [] e b n) → Binds e other t → has (x n) t ≡ true
+known : (tree : SearchedTree) (other : List ℕ) (x : ℕ → Value) (b : FilterTree) (e : Names) (n t : ℕ) → GivesOnlyName other (λ r e n. value r [] e b n) → Binds e other t → has (x n) t ≡ true
     → (u : ℕ) → has (value tree [] e b n) u ≡ true → has (x n) u ≡ true
 known tree other x b e n t own binds there u h = subst (λ q. has (x n) q ≡ true) (own.only tree e n t u binds h) there
 
 pub paired_own : (p : PairTrial) (a b : FilterTree) (k : Pair) (old new : List ℕ) → (k ≡ Attacks) ⊎ (k ≡ AttackedBy)
-    → IsOwn p.name.now (λ r e n. value r [] e a n) → IsOwn p.other.now (λ r e n. value r [] e b n)
-    → AreCut p.live.now (λ n. IsSoRelated (position_at (tree_of p) n).men k (shown p.column.now n)) old new
+    → GivesOnlyName p.name.now (λ r e n. value r [] e a n) → GivesOnlyName p.other.now (λ r e n. value r [] e b n)
+    → AreCut p.live.now (λ n. IsRelatedSquare (position_at (tree_of p) n).men k (shown p.column.now n)) old new
     → LeavesPaired p (λ e n. pair_of (position_at (tree_of p) n).men k (value (tree_of p) [] e a n) (value (tree_of p) [] e b n)) old new
 paired_own p a b k old new which first second =
     let tree = tree_of p in
     let x = shown p.column.now in
     cut_as p.live.now (MayPair p.name.now p.other.now x (λ e n. pair_of (position_at tree n).men k (value tree [] e a n) (value tree [] e b n)))
-    (λ n. IsSoRelated (position_at tree n).men k (x n)) old new
+    (λ n. IsRelatedSquare (position_at tree n).men k (x n)) old new
     (λ n s l m. let known_there = known tree p.other.now x b m.inner n m.t second m.binds_other m.has_other in
     record {
       first = value tree [] m.inner a n;
@@ -140,23 +140,23 @@ paired_own p a b k old new which first second =
     })
 
 pub paired_turned : (p : PairTrial) (a b : FilterTree) (k back : Pair) (old new : List ℕ) → (k ≡ Attacks) ⊎ (k ≡ AttackedBy) → AreTurned k back
-    → IsOwn p.other.now (λ r e n. value r [] e a n) → IsOwn p.name.now (λ r e n. value r [] e b n)
-    → AreCut p.live.now (λ n. IsSoRelated (position_at (tree_of p) n).men back (shown p.column.now n)) old new
+    → GivesOnlyName p.other.now (λ r e n. value r [] e a n) → GivesOnlyName p.name.now (λ r e n. value r [] e b n)
+    → AreCut p.live.now (λ n. IsRelatedSquare (position_at (tree_of p) n).men back (shown p.column.now n)) old new
     → LeavesPaired p (λ e n. pair_of (position_at (tree_of p) n).men k (value (tree_of p) [] e a n) (value (tree_of p) [] e b n)) old new
-paired_turned p a b k back old new which turned first second =
+paired_turned p a b k back old new which converse first second =
     let tree = tree_of p in
     let x = shown p.column.now in
     cut_as p.live.now (MayPair p.name.now p.other.now x (λ e n. pair_of (position_at tree n).men k (value tree [] e a n) (value tree [] e b n)))
-    (λ n. IsSoRelated (position_at tree n).men back (x n)) old new
+    (λ n. IsRelatedSquare (position_at tree n).men back (x n)) old new
     (λ n s l m. let known_there = known tree p.other.now x a m.inner n m.t first m.binds_other m.has_other in
     record {
       first = value tree [] m.inner b n;
       has_there = ⊎_elim
-          (λ same. ap (λ r. has (pair_of (position_at tree n).men r (value tree [] m.inner b n) (x n)) s) (turned.attacks same)
+          (λ same. ap (λ r. has (pair_of (position_at tree n).men r (value tree [] m.inner b n) (x n)) s) (converse.attacks same)
           ∙ related_more (λ u t. attacks (position_at tree n).men t u) (value tree [] m.inner b n) (value tree [] m.inner a n) (x n) s known_there
           (turned_has (attacks (position_at tree n).men) (value tree [] m.inner a n) (value tree [] m.inner b n) s (λ t h. second.only tree m.inner n s t m.binds h)
           (sym (ap (λ r. holds (pair_of (position_at tree n).men r (value tree [] m.inner a n) (value tree [] m.inner b n))) same) ∙ m.holds_there)))
-          (λ same. ap (λ r. has (pair_of (position_at tree n).men r (value tree [] m.inner b n) (x n)) s) (turned.attacked same)
+          (λ same. ap (λ r. has (pair_of (position_at tree n).men r (value tree [] m.inner b n) (x n)) s) (converse.attacked same)
           ∙ related_more (attacks (position_at tree n).men) (value tree [] m.inner b n) (value tree [] m.inner a n) (x n) s known_there
           (turned_has (λ u t. attacks (position_at tree n).men t u) (value tree [] m.inner a n) (value tree [] m.inner b n) s (λ t h. second.only tree m.inner n s t m.binds h)
           (sym (ap (λ r. holds (pair_of (position_at tree n).men r (value tree [] m.inner a n) (value tree [] m.inner b n))) same) ∙ m.holds_there)))
@@ -165,7 +165,7 @@ paired_turned p a b k back old new which turned first second =
 
 -- the column of a filter in which no open name stands
 pub record FreeColumn (t : Tried) (some : List Bool) (f : FilterTree) (c : FilterColumn) : Type 0 where
-  pub free : IsFree t.opened f
+  pub free : IsIndependent t.opened f
   pub column : IsColumn c some (value t.tree [] t.outer f)
 
 -- another name is bound to a square of a set in which no open name stands

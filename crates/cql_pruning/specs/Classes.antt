@@ -8,7 +8,7 @@ use Rattle.cql_syntax.specs.Trees.{FilterTree, filter_at, FormTree, designator, 
 use Rattle.cql_syntax.specs.TreeOf.{filter_tree}
 use Rattle.cql_syntax.specs.Values.{holds}
 use Rattle.cql_syntax.specs.declared.tree.Filter.{Filter}
-use Rattle.cql_columns.specs.Columns.{is_live, is_so, AreAsked}
+use Rattle.cql_columns.specs.Columns.{is_live, is_as_wanted, IsNodeSet}
 use Rattle.cql_columns.specs.Costs.{filter_cost}
 
 -- 0 what is the same at all nodes, 1 words and designators, 2 what has parts, 3 lines, 4 squares that are tried one by one, 5 sort items
@@ -45,16 +45,16 @@ abbrev pub is_before : ℕ → FilterTree → Bool
 is_before class f = nat_lt (filter_class f) class
 
 -- bit k of a set is set where one of the filters is of class k
-abbrev pub AreAmong : ℕ → List Filter → Type 0
-AreAmong classes fs = (k : ℕ) → is_in classes k ≡ false → list_any (λ f. is_of k (filter_tree f)) fs ≡ false
+abbrev pub CoverClasses : ℕ → List Filter → Type 0
+CoverClasses classes fs = (k : ℕ) → is_in classes k ≡ false → list_any (λ f. is_of k (filter_tree f)) fs ≡ false
 
 -- a filter that passes a test holds or, where `want` is false, doesn't; of others nothing is asked
-abbrev pub is_so_if : (FilterTree → Bool) → SearchedTree → Names → Bool → FilterTree → ℕ → Bool
-is_so_if taken tree e want f n = not (taken f) || is_so want (holds (value tree [] e f n))
+abbrev pub is_as_wanted_if : (FilterTree → Bool) → SearchedTree → Names → Bool → FilterTree → ℕ → Bool
+is_as_wanted_if taken tree e want f n = not (taken f) || is_as_wanted want (holds (value tree [] e f n))
 
-unfoldable pub are_so : (FilterTree → Bool) → SearchedTree → Names → Bool → FilterTrees → ℕ → Bool
-are_so taken tree e want no_filters n = true
-are_so taken tree e want (more_filters f fs) n = is_so_if taken tree e want f n && are_so taken tree e want fs n
+unfoldable pub are_as_wanted : (FilterTree → Bool) → SearchedTree → Names → Bool → FilterTrees → ℕ → Bool
+are_as_wanted taken tree e want no_filters n = true
+are_as_wanted taken tree e want (more_filters f fs) n = is_as_wanted_if taken tree e want f n && are_as_wanted taken tree e want fs n
 
 -- what the filters cost that are taken
 abbrev pub cost_if : (FilterTree → Bool) → ℕ → FilterTree → ℕ
@@ -66,5 +66,5 @@ cost_of taken searched (more_filters f fs) = cost_if taken searched f + cost_of 
 
 -- of a game's nodes that are asked for those that pass a test
 pub record IsLeft (tree : SearchedTree) (live : List Bool) (test : ℕ → Bool) (left : List Bool) : Type 0 where
-  pub asked : AreAsked tree left
+  pub asked : IsNodeSet tree left
   pub each : (n : ℕ) → is_live left n ≡ (is_live live n && test n)

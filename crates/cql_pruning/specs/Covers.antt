@@ -1,4 +1,4 @@
--- Squares that are worth trying for a name: those at which what is asked may hold.
+-- Squares that are candidates for a name: those at which what is asked may hold.
 use Rattle.std.specs.Prelude.{◌≡◌, ℕ, ◌<◌, ◌==◌, ◌&&◌, not, [], Bool, true, false, List, Option, Some, option_map, length, get_or}
 use Rattle.cq_position.specs.Led.{PlainLed}
 use Rattle.cq_position.specs.Search.{SearchedTree}
@@ -8,7 +8,7 @@ use Rattle.cql_syntax.specs.Trees.{FilterTree, FilterTrees, PlayedTree, WrittenT
 use Rattle.cql_syntax.specs.Values.{Value, holds, has, squares_where, pair_of}
 use Rattle.cql_syntax.specs.declared.leaves.Pair.{Pair}
 use Rattle.cq_position.specs.declared.men.Man.{Man}
-use Rattle.cql_columns.specs.Columns.{is_live, shown, AreAsked}
+use Rattle.cql_columns.specs.Columns.{is_live, shown, IsNodeSet}
 use Rattle.cql_columns.specs.declared.filter_column.FilterColumn.{FilterColumn}
 use Rattle.cql_columns.specs.Costs.{filter_cost, filters_cost, played_cost, written_cost}
 
@@ -21,22 +21,22 @@ pub record Agree (opened inner outer : Names) : Type 0 where
   pub each : (text : List ℕ) → is_open opened text ≡ false → (t : ℕ) → is_bound_to inner text t ≡ is_bound_to outer text t
 
 -- it has the same values whatever is bound to the opened names, and takes no steps
-pub record IsFree (opened : Names) (f : FilterTree) : Type 0 where
+pub record IsIndependent (opened : Names) (f : FilterTree) : Type 0 where
   pub each : (tree : SearchedTree) (inner outer : Names) (n : ℕ)
       → Agree opened inner outer → value tree [] inner f n ≡ value tree [] outer f n
   pub cost : (nodes : ℕ) → filter_cost nodes f ≡ 0
 
-pub record AreFree (opened : Names) (fs : FilterTrees) : Type 0 where
+pub record AreIndependent (opened : Names) (fs : FilterTrees) : Type 0 where
   pub each : (tree : SearchedTree) (inner outer : Names) (n : ℕ)
       → Agree opened inner outer → values tree [] inner fs n ≡ values tree [] outer fs n
   pub cost : (nodes : ℕ) → filters_cost nodes fs ≡ 0
 
-pub record IsFreeMove (opened : Names) (p : PlayedTree) : Type 0 where
+pub record IsIndependentMove (opened : Names) (p : PlayedTree) : Type 0 where
   pub each : (tree : SearchedTree) (inner outer : Names) (n : ℕ)
       → Agree opened inner outer → played_value tree [] inner p n ≡ played_value tree [] outer p n
   pub cost : (nodes : ℕ) → played_cost nodes p ≡ 0
 
-pub record IsFreePart (opened : Names) (w : WrittenTree) : Type 0 where
+pub record IsIndependentPart (opened : Names) (w : WrittenTree) : Type 0 where
   pub each : (tree : SearchedTree) (inner outer : Names) (n : ℕ)
       → Agree opened inner outer → written_value tree [] inner w n ≡ written_value tree [] outer w n
   pub cost : (nodes : ℕ) → written_cost nodes w ≡ 0
@@ -46,16 +46,16 @@ abbrev pub Binds : Names → List ℕ → ℕ → Type 0
 Binds e name s = (t : ℕ) → is_bound_to e name t ≡ (s == t)
 
 -- with a square bound to a name these values have no other square, and hold only where they have it
-pub record IsOwn (name : List ℕ) (v : SearchedTree → Names → ℕ → Value) : Type 0 where
+pub record GivesOnlyName (name : List ℕ) (v : SearchedTree → Names → ℕ → Value) : Type 0 where
   pub only : (tree : SearchedTree) (e : Names) (n s t : ℕ) → Binds e name s → has (v tree e n) t ≡ true → s ≡ t
   pub some : (tree : SearchedTree) (e : Names) (n s : ℕ)
       → Binds e name s → holds (v tree e n) ≡ true → has (v tree e n) s ≡ true
 
 -- a part of a move is written, and with a square bound to a name it has no other, and holds only where it has that one
-pub record IsOwnPart (name : List ℕ) (w : WrittenTree) : Type 0 where
+pub record PartGivesOnlyName (name : List ℕ) (w : WrittenTree) : Type 0 where
   pub part : FilterTree
   pub is : w ≡ written part
-  pub own : IsOwn name (λ tree e n. value tree [] e part n)
+  pub own : GivesOnlyName name (λ tree e n. value tree [] e part n)
 
 -- of the sets of squares at the nodes some squares are left: at the nodes that are asked for all of which this is true
 pub record AreCut (live : List Bool) (P : ℕ → ℕ → Type 0) (old new : List ℕ) : Type 0 where
@@ -112,7 +112,7 @@ pub record AreAmong (live : List Bool) (sets : List ℕ) (among : ℕ) : Type 0 
   pub each : (n s : ℕ) → is_live live n ≡ true → is_in (get_or sets n 0) s ≡ true → is_in among s ≡ true
 
 -- the same squares at each node of a set
-pub record AreEverywhere (live : List Bool) (set : ℕ) (sets : List ℕ) : Type 0 where
+pub record AreUniform (live : List Bool) (set : ℕ) (sets : List ℕ) : Type 0 where
   pub count : length sets ≡ length live
   pub each : (n : ℕ) → is_live live n ≡ true → get_or sets n 0 ≡ set
 
@@ -125,18 +125,18 @@ pub record IsOfMove (l : Option PlainLed) (origin goal taken : Bool) (s : ℕ) :
   pub at_taken : taken ≡ true → led.taken ≡ Some s
 
 -- where a part of a move is met, with whatever is bound to the opened names, the column meets it too
-pub record AsksNoMore (tree : SearchedTree) (opened outer : Names) (w : WrittenTree) (live : List Bool)
+pub record IsNecessaryPart (tree : SearchedTree) (opened outer : Names) (w : WrittenTree) (live : List Bool)
     (c : Option FilterColumn) : Type 0 where
   pub each : (n : ℕ) (inner : Names) → is_live live n ≡ true → Agree opened inner outer
       → (q : Option ℕ) → meets (written_value tree [] inner w n) q ≡ true → meets (option_map (λ x. shown x n) c) q ≡ true
 
 -- the nodes of a set at which there are squares
 pub record HasSome (tree : SearchedTree) (live : List Bool) (sets : List ℕ) (some : List Bool) : Type 0 where
-  pub asked : AreAsked tree some
+  pub asked : IsNodeSet tree some
   pub each : (n : ℕ) → is_live some n ≡ (is_live live n && not (get_or sets n 0 == 0))
 
 -- what the pair gives of some first value and of this one has the square
-pub record IsSoRelated (men : List Man) (pair : Pair) (y : Value) (s : ℕ) : Type 0 where
+pub record IsRelatedSquare (men : List Man) (pair : Pair) (y : Value) (s : ℕ) : Type 0 where
   pub first : Value
   pub has_there : has (pair_of men pair first y) s ≡ true
 

@@ -1,7 +1,7 @@
-pub mod Attacked
+pub mod NameAttacks
 pub mod Classes
 pub mod Covers
-pub mod Ever
-pub mod Moved
+pub mod Occupancy
+pub mod MoveTargets
 pub mod Pairs
 pub mod Promoting

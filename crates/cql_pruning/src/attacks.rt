@@ -1,7 +1,7 @@
 //! Filters that ask of some square whether a man on it attacks one of a designator.
 ghost use Rattle.std.specs.Prelude.{◌≡◌, true, false, IfSome};
 ghost use Rattle.cql_syntax.specs.TreeOf.{filter_tree, filter_trees};
-ghost use Rattle.cql_pruning.specs.Attacked.{AsksAttack, IsOnly, IsItsName, IsDesignated};
+ghost use Rattle.cql_pruning.specs.NameAttacks.{AsksAttack, IsOnly, IsName, IsDesignated};
 
 use cql_syntax::{Chain, Designator, Filter, Form, Pair};
 
@@ -38,14 +38,14 @@ fn attacked_by_pair<'a>(name: &[u8], asked: &'a Filter) -> Option<&'a Designator
     ensures { IfSome result (λ d. AsksAttack name.now d.now (filter_tree asked.now)) }
 {
     match &asked.form {
-        Form::Pair(Pair::Attacks, first, second) => designated_if(is_its_name(name, first), second),
+        Form::Pair(Pair::Attacks, first, second) => designated_if(is_name(name, first), second),
         _ => None,
     }
 }
 
 /// Whether a filter is a name.
-pub fn is_its_name(name: &[u8], filter: &Filter) -> bool
-    ensures { result ≡ true → IsItsName name.now (filter_tree filter.now) }
+pub fn is_name(name: &[u8], filter: &Filter) -> bool
+    ensures { result ≡ true → IsName name.now (filter_tree filter.now) }
 {
     match &filter.form {
         Form::Name(text) => name == text.as_slice(),

@@ -6,19 +6,19 @@ ghost use Rattle.cq_position.specs.Led.{led_to as led_to_in};
 ghost use Rattle.cq_symmetry.specs.Images.{is_in};
 ghost use Rattle.cql_syntax.specs.Values as spec;
 ghost use Rattle.cql_syntax.specs.declared.leaves.Pair.TheVariants.{Attacks, AttackedBy};
-ghost use Rattle.cql_columns.specs.Columns.{AreAsked, AreKept, shown};
+ghost use Rattle.cql_columns.specs.Columns.{IsNodeSet, AreKept, shown};
 ghost use Rattle.cql_columns.specs.Scopes.{tree_in};
-ghost use Rattle.cql_pruning.specs.Covers.{AreCut, IsCut, AreSetsOf, IsOfMove, HasSome, IsSoRelated, AreAmong, AreEverywhere, AreJoined};
+ghost use Rattle.cql_pruning.specs.Covers.{AreCut, IsCut, AreSetsOf, IsOfMove, HasSome, IsRelatedSquare, AreAmong, AreUniform, AreJoined};
 
 use cq_common::NoMemory;
 use cq_geometry::Square;
-use cq_square_sets::mark;
+use cq_square_sets::set_of;
 use cql_columns::filter_column::{FilterColumn, blank_sets, set_at};
 use cql_columns::nodes::same;
 use cql_columns::scope::Scope;
 use cql_syntax::Pair;
 use cql_values::combine::related;
-use cql_values::led::led_to;
+use cql_values::move_filter::led_to;
 use cql_values::value::Value;
 use pgn_tree::Game;
 use std::alloc::Global;
@@ -89,8 +89,8 @@ fn set_where(asked: bool, sets: &[u64], n: usize) -> u64
 }
 
 /// The same squares at each node of a set.
-pub fn everywhere(alloc: Global, live: &[bool], set: u64) -> Result<Vec<u64>, NoMemory>
-    ensures { IfOk result (λ sets. AreEverywhere live.now set sets.items) }
+pub fn uniform_sets(alloc: Global, live: &[bool], set: u64) -> Result<Vec<u64>, NoMemory>
+    ensures { IfOk result (λ sets. AreUniform live.now set sets.items) }
 {
     let mut sets = blank_sets(alloc, live.len())?;
     for n in 0..live.len() {
@@ -112,7 +112,7 @@ pub fn with_squares(
     live: &[bool],
     sets: &[u64],
 ) -> Result<Vec<bool>, NoMemory>
-    requires asked { AreAsked (tree_in scope.now) live.now }
+    requires asked { IsNodeSet (tree_in scope.now) live.now }
     ensures { IfOk result (λ some. HasSome (tree_in scope.now) live.now sets.now some.items) }
 {
     let mut some = same(alloc, live)?;
@@ -176,11 +176,11 @@ pub fn cut_related(
     pair: Pair,
     column: &FilterColumn,
 )
-    requires asked { AreAsked (tree_in scope.now) live.now }
+    requires asked { IsNodeSet (tree_in scope.now) live.now }
     requires count { length sets.old ≡ length live.now }
     requires attack { (pair ≡ Attacks) ⊎ (pair ≡ AttackedBy) }
     ensures { AreCut live.now
-        (λ n. IsSoRelated (node_at scope.now.game.now.nodes n).position.men pair (shown column.now n)) sets.old sets.new }
+        (λ n. IsRelatedSquare (node_at scope.now.game.now.nodes n).position.men pair (shown column.now n)) sets.old sets.new }
 {
     for n in 0..scope.game.len() {
         sets[n as usize] = related_one(
@@ -197,7 +197,7 @@ pub fn cut_related(
 fn related_one(set: u64, asked: bool, game: &Game, pair: Pair, column: &FilterColumn, n: u32) -> u64
     requires node { n < length game.now.nodes }
     requires attack { (pair ≡ Attacks) ⊎ (pair ≡ AttackedBy) }
-    ensures { IsCut asked (IsSoRelated (node_at game.now.nodes n).position.men pair (shown column.now n)) set result }
+    ensures { IsCut asked (IsRelatedSquare (node_at game.now.nodes n).position.men pair (shown column.now n)) set result }
 {
     if asked {
         related(
@@ -221,7 +221,7 @@ pub fn cut_moves(
     taken: bool,
 )
     requires tree { IsTree scope.now.game.now.nodes }
-    requires asked { AreAsked (tree_in scope.now) live.now }
+    requires asked { IsNodeSet (tree_in scope.now) live.now }
     requires count { length sets.old ≡ length live.now }
     ensures { AreCut live.now (λ n. IsOfMove (led_to_in scope.now.game.now.nodes n) origin goal taken) sets.old sets.new }
 {
@@ -268,5 +268,5 @@ fn cut_to(set: u64, wanted: bool, square: Option<Square>) -> u64
     ensures within { (s : ℕ) → is_in result s ≡ true → is_in set s ≡ true }
     ensures keeps { (s : ℕ) → (wanted ≡ true → square ≡ Some s) → is_in set s ≡ true → is_in result s ≡ true }
 {
-    if wanted { set & mark(square) } else { set }
+    if wanted { set & set_of(square) } else { set }
 }

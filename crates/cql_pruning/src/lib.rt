@@ -6,10 +6,10 @@
 
 pub mod attacks;
 pub mod covers;
-pub mod ever;
-pub mod free;
-pub mod moved;
+pub mod ever_standing;
+pub mod independent;
+pub mod move_targets;
 pub mod moves;
 pub mod order;
 pub mod pairs;
-pub mod told;
+pub mod by_occupancy;

@@ -1,10 +1,10 @@
 //! Whether the moves to nodes are as columns ask.
 ghost use Rattle.std.specs.Prelude.{◌≡◌, ℕ, ◌<◌, ◌&&◌, length, get_or, false, option_map, Option, IfOk};
 ghost use Rattle.cq_position.specs.Games.{IsTree, node_at};
-ghost use Rattle.cql_values.specs.Shown.{meant};
-ghost use Rattle.cql_columns.specs.Columns.{AreAsked, AreKept, is_live, shown};
+ghost use Rattle.cql_values.specs.ValueModel.{as_value};
+ghost use Rattle.cql_columns.specs.Columns.{IsNodeSet, AreKept, is_live, shown};
 ghost use Rattle.cql_columns.specs.Scopes.{tree_in};
-ghost use Rattle.cql_pruning.specs.Moved.{is_as_asked};
+ghost use Rattle.cql_pruning.specs.MoveTargets.{is_as_asked};
 ghost use Rattle.cql_pruning.specs.Promoting.{ArePromoting, is_promotion};
 
 use cq_common::NoMemory;
@@ -12,8 +12,8 @@ use cq_position::Promotion;
 use cql_columns::filter_column::{FilterColumn, blank_truths};
 use cql_columns::nodes::same;
 use cql_columns::scope::Scope;
-use cql_columns::spans::{asked_end, first_asked};
-use cql_values::led::{before, led_to, meets_all};
+use cql_columns::spans::{live_node_end, first_live_node};
+use cql_values::move_filter::{before, led_to, meets_all};
 use cql_values::value::Value;
 use pgn_tree::Game;
 use std::alloc::Global;
@@ -25,7 +25,7 @@ pub fn promoting(
     wanted: bool,
     live: &[bool],
 ) -> Result<Vec<bool>, NoMemory>
-    requires asked { AreAsked (tree_in scope.now) live.now }
+    requires asked { IsNodeSet (tree_in scope.now) live.now }
     ensures { IfOk result (λ some. ArePromoting (tree_in scope.now) wanted live.now some.items) }
 {
     let mut some = same(alloc, live)?;
@@ -40,7 +40,7 @@ fn keep_promotions(left: &mut [bool], game: &Game)
     requires { length left.old ≡ length game.now.nodes }
     ensures { AreKept (λ n. is_promotion (node_at game.now.nodes n).led_by) left.old left.new }
 {
-    for n in first_asked(left, game.len())..asked_end(left, game.len()) {
+    for n in first_live_node(left, game.len())..live_node_end(left, game.len()) {
         left[n as usize] = is_promoted(left[n as usize], game, n);
     }
 }
@@ -75,7 +75,7 @@ pub fn moves_met(
     live: &[bool],
 ) -> Result<Vec<bool>, NoMemory>
     requires tree { IsTree scope.now.game.now.nodes }
-    requires asked { AreAsked (tree_in scope.now) live.now }
+    requires asked { IsNodeSet (tree_in scope.now) live.now }
     ensures { IfOk result (λ truths. (n : ℕ) → get_or truths.items n false
         ≡ (is_live live.now n && is_as_asked (tree_in scope.now) parts.now (option_map (λ c. shown c n) goal.now) n)) }
 {
@@ -109,7 +109,7 @@ fn is_met(
 pub fn meets_parts(scope: &Scope, parts: &PartColumns, goal: Option<Value>, n: u32) -> bool
     requires tree { IsTree scope.now.game.now.nodes }
     requires node { n < length scope.now.game.now.nodes }
-    ensures { result ≡ is_as_asked (tree_in scope.now) parts.now (option_map meant goal) n }
+    ensures { result ≡ is_as_asked (tree_in scope.now) parts.now (option_map as_value goal) n }
 {
     let before = before(scope.game, scope.variations, n) as usize;
     let origin = written_at(&parts.origin, before);
@@ -120,7 +120,7 @@ pub fn meets_parts(scope: &Scope, parts: &PartColumns, goal: Option<Value>, n: u
 
 // The value of a part that is written.
 fn written_at(column: &Option<FilterColumn>, n: usize) -> Option<Value>
-    ensures { option_map meant result ≡ option_map (λ c. shown c n) column.now }
+    ensures { option_map as_value result ≡ option_map (λ c. shown c n) column.now }
 {
     match column {
         Some(column) => Some(column.at(n)),

@@ -2,7 +2,7 @@
 ghost use Rattle.std.specs.Prelude.{◌≡◌, false};
 ghost use Rattle.cq_symmetry.specs.Images.{is_in};
 ghost use Rattle.cql_syntax.specs.TreeOf.{filter_tree};
-ghost use Rattle.cql_pruning.specs.Classes.{filter_class, is_of, AreAmong};
+ghost use Rattle.cql_pruning.specs.Classes.{filter_class, is_of, CoverClasses};
 
 use cql_syntax::{Filter, Form};
 
@@ -39,7 +39,7 @@ pub fn is_of_class(filter: &Filter, class: u32) -> bool
 
 /// The classes of some filters: bit k is set where one of them is of class k.
 pub fn classes_of(filters: &[Filter]) -> u32
-    ensures { AreAmong result filters.now }
+    ensures { CoverClasses result filters.now }
 {
     let mut classes = 0;
     for filter in filters {

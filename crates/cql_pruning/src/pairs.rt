@@ -5,13 +5,13 @@ ghost use Rattle.cql_syntax.specs.Meaning as meaning;
 ghost use Rattle.cql_syntax.specs.TreeOf.{filter_tree, filters_tree};
 ghost use Rattle.cql_syntax.specs.Values as spec;
 ghost use Rattle.cq_position.specs.Games.{node_at};
-ghost use Rattle.cql_columns.specs.Columns.{AreAsked};
+ghost use Rattle.cql_columns.specs.Columns.{IsNodeSet};
 ghost use Rattle.cql_columns.specs.Scopes.{tree_in, value_with, values_with};
-ghost use Rattle.cql_pruning.specs.Covers.{IsOwn};
+ghost use Rattle.cql_pruning.specs.Covers.{GivesOnlyName};
 ghost use Rattle.cql_pruning.specs.Pairs.{LeavesPaired};
 
 use crate::covers::cut_related;
-use crate::free::{is_all, is_attack, is_own, turned};
+use crate::independent::{is_all, is_attack, gives_only_name, converse};
 use cql_columns::filter_column::FilterColumn;
 use cql_columns::scope::Scope;
 use cql_syntax::{Chain, Filter, Filters, Form, Pair};
@@ -35,7 +35,7 @@ pub fn asks_pair(name: &[u8], other: &[u8], asked: &Filter) -> bool {
         Form::Square(_, _, _, part) => asks_pair(name, other, part),
         Form::Pair(pair, first, second) => {
             is_attack(*pair)
-                && (are_own(name, first, other, second) || are_own(other, first, name, second))
+                && (each_gives_only_name(name, first, other, second) || each_gives_only_name(other, first, name, second))
         }
         _ => false,
     }
@@ -55,7 +55,7 @@ fn some_pair(name: &[u8], other: &[u8], parts: &Filters) -> bool {
 #[cycle(cut_paired)]
 #[tactic(auto, unfolding(cql_syntax::specs::Meaning::value))]
 pub fn cut_paired(sets: &mut [u64], paired: &PairTrial, asked: &Filter)
-    requires asked { AreAsked (tree_in paired.now.scope.now) paired.now.live.now }
+    requires asked { IsNodeSet (tree_in paired.now.scope.now) paired.now.live.now }
     requires count { length sets.old ≡ length paired.now.live.now }
     ensures cut { LeavesPaired paired.now
         (value_with paired.now.scope.now (filter_tree asked.now)) sets.old sets.new }
@@ -79,7 +79,7 @@ pub fn cut_paired(sets: &mut [u64], paired: &PairTrial, asked: &Filter)
 // Of the filters of a chain: of those that must all hold.
 #[cycle(cut_paired)]
 fn cut_chain(sets: &mut [u64], paired: &PairTrial, chain: Chain, parts: &Filters)
-    requires asked { AreAsked (tree_in paired.now.scope.now) paired.now.live.now }
+    requires asked { IsNodeSet (tree_in paired.now.scope.now) paired.now.live.now }
     requires count { length sets.old ≡ length paired.now.live.now }
     ensures cut { LeavesPaired paired.now
         (λ e n. spec.chain_of chain (values_with paired.now.scope.now (filters_tree parts.now) e n)) sets.old sets.new }
@@ -94,7 +94,7 @@ fn cut_chain(sets: &mut [u64], paired: &PairTrial, chain: Chain, parts: &Filters
 // Of filters that must all hold.
 #[cycle(cut_paired)]
 fn cut_each(sets: &mut [u64], paired: &PairTrial, parts: &Filters)
-    requires asked { AreAsked (tree_in paired.now.scope.now) paired.now.live.now }
+    requires asked { IsNodeSet (tree_in paired.now.scope.now) paired.now.live.now }
     requires count { length sets.old ≡ length paired.now.live.now }
     ensures cut { LeavesPaired paired.now
         (λ e n. spec.all_hold (values_with paired.now.scope.now (filters_tree parts.now) e n)) sets.old sets.new }
@@ -108,7 +108,7 @@ fn cut_each(sets: &mut [u64], paired: &PairTrial, parts: &Filters)
 // Of what is asked of some square under a third name, whatever that square is.
 #[cycle(cut_paired)]
 fn cut_third(sets: &mut [u64], paired: &PairTrial, every: bool, third: &[u8], part: &Filter)
-    requires asked { AreAsked (tree_in paired.now.scope.now) paired.now.live.now }
+    requires asked { IsNodeSet (tree_in paired.now.scope.now) paired.now.live.now }
     requires count { length sets.old ≡ length paired.now.live.now }
     ensures cut { (x : meaning.Names → ℕ → spec.Value) → LeavesPaired paired.now
         (λ e n. spec.square_of every (x e n)
@@ -123,7 +123,7 @@ fn cut_third(sets: &mut [u64], paired: &PairTrial, every: bool, third: &[u8], pa
 
 // Of two sets, one of which has no square but that of the one name, and the other none but that of the other name.
 fn cut_pair(sets: &mut [u64], paired: &PairTrial, pair: Pair, first: &Filter, second: &Filter)
-    requires asked { AreAsked (tree_in paired.now.scope.now) paired.now.live.now }
+    requires asked { IsNodeSet (tree_in paired.now.scope.now) paired.now.live.now }
     requires count { length sets.old ≡ length paired.now.live.now }
     ensures cut { LeavesPaired paired.now
         (λ e n. spec.pair_of (node_at paired.now.scope.now.game.now.nodes n).position.men pair
@@ -134,21 +134,21 @@ fn cut_pair(sets: &mut [u64], paired: &PairTrial, pair: Pair, first: &Filter, se
     if !is_attack(pair) {
         return;
     }
-    if are_own(paired.name, first, paired.other, second) {
+    if each_gives_only_name(paired.name, first, paired.other, second) {
         cut_related(sets, paired.live, paired.scope, pair, paired.column);
         return;
     }
-    if are_own(paired.other, first, paired.name, second) {
-        cut_related(sets, paired.live, paired.scope, turned(pair), paired.column);
+    if each_gives_only_name(paired.other, first, paired.name, second) {
+        cut_related(sets, paired.live, paired.scope, converse(pair), paired.column);
     }
 }
 
 // Whether a filter gives no square but that of a name, and another none but that of another name.
-fn are_own(name: &[u8], first: &Filter, other: &[u8], second: &Filter) -> bool
-    ensures first { result ≡ true → IsOwn name.now (λ tree e n. meaning.value tree [] e (filter_tree first.now) n) }
-    ensures second { result ≡ true → IsOwn other.now (λ tree e n. meaning.value tree [] e (filter_tree second.now) n) }
+fn each_gives_only_name(name: &[u8], first: &Filter, other: &[u8], second: &Filter) -> bool
+    ensures first { result ≡ true → GivesOnlyName name.now (λ tree e n. meaning.value tree [] e (filter_tree first.now) n) }
+    ensures second { result ≡ true → GivesOnlyName other.now (λ tree e n. meaning.value tree [] e (filter_tree second.now) n) }
 {
-    is_own(name, first) && is_own(other, second)
+    gives_only_name(name, first) && gives_only_name(other, second)
 }
 
 // Whether some square is asked for, under a name that differs from two others.

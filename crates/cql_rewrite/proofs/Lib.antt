@@ -3,6 +3,6 @@ pub mod PlayedRolled
 pub mod Meant
 pub mod Rows
 pub mod Placed
-pub mod PartsSame
+pub mod SamePlayedParts
 pub mod Texts
 pub mod Pairs

@@ -14,7 +14,7 @@ use Rattle.cql_syntax.specs.Same.{same_filter}
 use Rattle.cql_syntax.specs.Trees.{FilterTree, FormTree, transform, any, FilterTrees, no_filters, more_filters, TermTrees, no_terms, more_terms, PartTrees, no_parts, more_parts, BodyTree, with_filter, with_term, with_part}
 use Rattle.cql_syntax.specs.declared.leaves.Mark.{Mark}
 use Rattle.cql_syntax.proofs.SameSound.{filter_is}
-use Rattle.cql_rewrite.specs.Kept.{flat_if_fits, some_same, with_new}
+use Rattle.cql_rewrite.specs.Internal.DistinctMembers.{flat_if_fits, some_same, with_new}
 
 pub flat_all_snoc : (g : Context) (fs : FilterTrees) (f : FilterTree) → flat_all g (with_filter fs f) ≡ with_filter (flat_all g fs) (flat g f)
 unfolding flat

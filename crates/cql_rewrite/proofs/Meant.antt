@@ -6,7 +6,7 @@ use Rattle.cql_syntax.specs.Meaning.{values}
 use Rattle.cql_syntax.specs.Trees.{FilterTrees, QueryTree}
 use Rattle.cql_syntax.proofs.FlatHits.{hits_same, keys_same}
 use Rattle.cql_syntax.proofs.FlatSame.{all_is_same}
-use Rattle.cql_rewrite.specs.Meant.{MeansTheSame, with_items}
+use Rattle.cql_rewrite.specs.SameMeaning.{MeansTheSame, with_items}
 
 pub flat_means_the_same : (q : QueryTree) (items : FilterTrees) → items ≡ flat_all [] q.items → MeansTheSame q items
 flat_means_the_same q items is = record {

@@ -6,7 +6,7 @@ use Rattle.cql_syntax.specs.Trees.{TermTrees, no_terms, more_terms}
 use Rattle.cql_syntax.specs.TreeOf.{term_trees}
 use Rattle.cql_syntax.specs.declared.tree.Term.{Term}
 use Rattle.cql_rewrite.specs.FlatText.{text, in_parens, sign_word, sum_after}
-use Rattle.cql_rewrite.specs.Sums.{opening, openings, term_text, sum_start}
+use Rattle.cql_rewrite.specs.Internal.Sums.{opening, openings, term_text, sum_start}
 
 -- the terms, the first of which may be the sum's first
 abbrev pub sum_rest : Bool → TermTrees → List ℕ

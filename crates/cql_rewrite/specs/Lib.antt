@@ -1,4 +1,3 @@
-pub mod Kept
-pub mod Meant
+pub mod SameMeaning
 pub mod FlatText
-pub mod Sums
+pub mod Internal

@@ -4,8 +4,8 @@ ghost use Rattle.cq_symmetry.specs.Families.{members};
 ghost use Rattle.cql_syntax.specs.Flat as spec;
 ghost use Rattle.cql_syntax.specs.Meaning.{fitting};
 ghost use Rattle.cql_syntax.specs.TreeOf.{filter_tree, form_tree, filters_tree, terms_tree, line_tree, played_tree, written_tree, parts_tree, body_tree, query_tree};
-ghost use Rattle.cql_rewrite.specs.Meant.{MeansTheSame};
-ghost use Rattle.cql_rewrite.specs.Kept.{with_new, some_same, flat_if_fits};
+ghost use Rattle.cql_rewrite.specs.SameMeaning.{MeansTheSame};
+ghost use Rattle.cql_rewrite.specs.Internal.DistinctMembers.{with_new, some_same, flat_if_fits};
 
 use crate::same_filter;
 use cq_common::{Bytes, NoMemory};

@@ -6,11 +6,11 @@
 
 mod flat;
 mod leaves;
-mod pieces;
+mod text_pieces;
 mod same;
-mod sums;
+mod text_sums;
 mod text;
-mod words;
+mod text_words;
 
 pub use flat::expand;
 pub use same::{same_filter, same_unplaced};

@@ -4,12 +4,12 @@ ghost use Rattle.std.specs.Fmt.{decimal};
 ghost use Rattle.cql_syntax.specs.TreeOf.{filter_tree, filters_tree, terms_tree, line_tree, played_tree, written_tree, parts_tree, body_tree};
 ghost use Rattle.cql_rewrite.specs.FlatText as spec;
 
-use crate::pieces::{
+use crate::text_pieces::{
     comment, designator, elo, in_move, in_parens, line_start, marked, number, outcome, push_each,
     quoted, tagged,
 };
-use crate::sums::{push_term, sum_start};
-use crate::words::{any_word, chain_word, pair_word, sort_word, square_word};
+use crate::text_sums::{push_term, sum_start};
+use crate::text_words::{any_word, chain_word, pair_word, sort_word, square_word};
 use cq_common::{Bytes, NoMemory};
 use cql_syntax::{Body, Constituents, Filter, Filters, FlatQuery, Form, Line, Played, Terms, Word};
 use std::alloc::Global;

@@ -11,13 +11,13 @@ use Rattle.cql_syntax.specs.FlatItems.{has_its_kind, breaks_none, is_empty}
 use Rattle.cql_syntax.specs.Kinds.{plain_kind, unary_kind, chain_kind, filter_kind, form_kind}
 use Rattle.cql_syntax.specs.Leaves.{same_kind, kind_number}
 use Rattle.cql_syntax.specs.Meaning.{fitting}
-use Rattle.cql_syntax.specs.Occurrences.{Standing, Occurrence, top_item, part_of, part_of_square, asked_of_each, occurrences, inner, all_of, of_terms, of_line, of_played, of_written, of_parts, of_body, sorts_with, of_items}
+use Rattle.cql_syntax.specs.Occurrences.{TypingContext, Occurrence, top_item, part_of, part_of_square, square_condition, occurrences, inner, all_of, of_terms, of_line, of_played, of_written, of_parts, of_body, sorts_with, of_items}
 use Rattle.cql_syntax.specs.Places.{copies, places, parts_places, body_places}
 use Rattle.cql_syntax.specs.Same.{same_filter}
 use Rattle.cql_syntax.specs.TreeFaults.{where_it, wrong_kind, below_top, past_four_sorts, unbound_name, brace_in_comment, is_long_line, is_fifth_square, is_family, is_any}
 use Rattle.cql_syntax.specs.TreeLists.{filters_of}
 use Rattle.cql_syntax.specs.Trees.{FilterTree, filter_at, FormTree, designator, number, name, plain, tagged, outcome, elo, unary, direction, chain, sum_of, pair, if_, square, line, played, transform, sort, comment, any, FilterTrees, no_filters, more_filters, TermTrees, no_terms, more_terms, LineTree, path, PlayedTree, move_of, WrittenTree, left_out, written, PartTrees, no_parts, more_parts, BodyTree, atom, group}
-use Rattle.cql_syntax.specs.Wants.{accepts, unary_wants, pair_wants}
+use Rattle.cql_syntax.specs.OperandKinds.{accepts, unary_operand_kind, pair_operand_kind}
 use Rattle.cql_syntax.specs.declared.fault.QueryReason.{QueryReason}
 use Rattle.cql_syntax.specs.declared.leaves.Kind.{Kind}
 use Rattle.cql_syntax.specs.declared.leaves.Kind.TheVariants.{Position, Set, Number}
@@ -36,7 +36,7 @@ abbrev pub good : Occurrence → Bool
 good o = (not (is_family o.form) && has_its_kind o.form) && breaks_none o
 
 -- a place at which another kind is wanted
-abbrev wanting : Kind → Standing → Standing
+abbrev wanting : Kind → TypingContext → TypingContext
 wanting w s = record { wanted = w; names = s.names; squares = s.squares; item = s.item }
 
 -- the rules other than that of kinds
@@ -91,7 +91,7 @@ all_mapped : (p : FilterTree → Bool) (a : Context → FilterTree) (gs : List C
 all_mapped p a [] is = refl
 all_mapped p a (g ∷ gs) is = both _ _ (is g) (all_mapped p a gs is)
 
-each_good : (s : Standing) (fs : FilterTrees) → list_all (λ x. list_all good (occurrences s x)) (filters_of fs) ≡ true → list_all good (all_of s fs) ≡ true
+each_good : (s : TypingContext) (fs : FilterTrees) → list_all (λ x. list_all good (occurrences s x)) (filters_of fs) ≡ true → list_all good (all_of s fs) ≡ true
 unfolding occurrences
 each_good s no_filters h = refl
 each_good s (more_filters f fs) h =
@@ -100,7 +100,7 @@ each_good s (more_filters f fs) h =
 
 -- what the flat form keeps of a filter
 
-wants_light : (b : Bool) (u : Unary) → unary_wants (if b then exchanged_light u else u) ≡ unary_wants u
+wants_light : (b : Bool) (u : Unary) → unary_operand_kind (if b then exchanged_light u else u) ≡ unary_operand_kind u
 wants_light false u = refl
 wants_light true Not = refl
 wants_light true Complement = refl
@@ -113,8 +113,8 @@ wants_light true FindUp = refl
 wants_light true Child = refl
 wants_light true Parent = refl
 
-wants_kept : (g : Context) (u : Unary) → unary_wants (unary_image g u) ≡ unary_wants u
-wants_kept g u = kept unary_wants (λ m x. if changes_light m then exchanged_light x else x) (λ m x. wants_light (changes_light m) x) g u
+wants_kept : (g : Context) (u : Unary) → unary_operand_kind (unary_image g u) ≡ unary_operand_kind u
+wants_kept g u = kept unary_operand_kind (λ m x. if changes_light m then exchanged_light x else x) (λ m x. wants_light (changes_light m) x) g u
 
 form_kind_kept : (g : Context) (f : FormTree) → form_kind (flat_form g f) ≡ form_kind f
 unfolding flat
@@ -205,7 +205,7 @@ sorts_kept sorts (filter_at at (comment text)) = refl
 sorts_kept sorts (filter_at at (any kind fs)) = refl
 
 -- a filter that is like another but for its parts breaks no rule where the other breaks none, whatever kind is wanted that it has
-step : (g : Context) (s : Standing) (w : Kind) (i : ℕ) (f : FormTree) → (not (is_family (flat_form g f)) && has_its_kind (flat_form g f)) ≡ true
+step : (g : Context) (s : TypingContext) (w : Kind) (i : ℕ) (f : FormTree) → (not (is_family (flat_form g f)) && has_its_kind (flat_form g f)) ≡ true
     → below_top s.item (flat_form g f) ≡ below_top s.item f
     → (unbound_name s.names (flat_form g f) ++ brace_in_comment (flat_form g f)) ≡ (unbound_name s.names f ++ brace_in_comment f)
     → is_long_line (flat_form g f) ≡ is_long_line f → is_fifth_square s.squares (flat_form g f) ≡ is_fifth_square s.squares f
@@ -225,7 +225,7 @@ family_kinds f gs =
     all_distinct (λ x. same_kind (filter_kind x) (filter_kind f)) (map (λ h. flat h f) gs)
     (all_mapped (λ x. same_kind (filter_kind x) (filter_kind f)) (λ h. flat h f) gs (λ h. ap (λ k. same_kind k (filter_kind f)) (kind_kept h f) ∙ same_numbers (kind_number (filter_kind f))))
 
-head : (g : Context) (s : Standing) (w : Kind) (i : ℕ) (f : FormTree) → accepts w (form_kind f) ≡ true → sound (record { standing = s; at = i; form = f }) ≡ true
+head : (g : Context) (s : TypingContext) (w : Kind) (i : ℕ) (f : FormTree) → accepts w (form_kind f) ≡ true → sound (record { standing = s; at = i; form = f }) ≡ true
     → good (record { standing = wanting w s; at = i; form = flat_form g f }) ≡ true
 unfolding flat
 head g s w i (designator d) a h = step g s w i (designator d) refl refl refl refl refl a h
@@ -249,7 +249,7 @@ head g s w i (sort least text f) a h = step g s w i (sort least text f) refl ref
 head g s w i (comment text) a h = step g s w i (comment text) refl refl refl refl refl a h
 head g s w i (any kind fs) a h = absurd (cc)
 
-wanted_is : (s : Standing) (f : FilterTree) → list_all sound (occurrences s f) ≡ true → accepts s.wanted (filter_kind f) ≡ true
+wanted_is : (s : TypingContext) (f : FilterTree) → list_all sound (occurrences s f) ≡ true → accepts s.wanted (filter_kind f) ≡ true
 unfolding occurrences
 wanted_is s (filter_at i f) h =
     accepted_from (accepts s.wanted (form_kind f)) _ (rest s.item s.names f) (left _ _ (left _ _ (right (not (is_any f)) _ (left _ _ h))))
@@ -257,14 +257,14 @@ wanted_is s (filter_at i f) h =
 mutual
   unfolding flat occurrences
 
-  flat_good : (f : FilterTree) (g : Context) (s : Standing) (w : Kind) → accepts w (filter_kind f) ≡ true → list_all sound (occurrences s f) ≡ true
+  flat_good : (f : FilterTree) (g : Context) (s : TypingContext) (w : Kind) → accepts w (filter_kind f) ≡ true → list_all sound (occurrences s f) ≡ true
       → list_all good (occurrences (wanting w s) (flat g f)) ≡ true
   flat_good (filter_at i f) g s w a h =
       let here = sound (record { standing = s; at = i; form = f }) in
       let mine = good (record { standing = wanting w s; at = i; form = flat_form g f }) in
       both mine (list_all good (inner (wanting w s) (flat_form g f))) (head g s w i f a (left here (list_all sound (inner s f)) h)) (inner_good f g s w (right here (list_all sound (inner s f)) h))
 
-  inner_good : (f : FormTree) (g : Context) (s : Standing) (w : Kind) → list_all sound (inner s f) ≡ true → list_all good (inner (wanting w s) (flat_form g f)) ≡ true
+  inner_good : (f : FormTree) (g : Context) (s : TypingContext) (w : Kind) → list_all sound (inner s f) ≡ true → list_all good (inner (wanting w s) (flat_form g f)) ≡ true
   inner_good (designator d) g s w h = refl
   inner_good (number k) g s w h = refl
   inner_good (name text) g s w h = refl
@@ -273,24 +273,24 @@ mutual
   inner_good (outcome o) g s w h = refl
   inner_good (elo whose) g s w h = refl
   inner_good (unary u f) g s w h =
-      let at : Standing = part_of s (unary_wants u) in
+      let at : TypingContext = part_of s (unary_operand_kind u) in
       ap (λ k. list_all good (occurrences (part_of s k) (flat g f))) (wants_kept g u) ∙ flat_good f g at at.wanted (wanted_is at f h) h
-  inner_good (direction way m n f) g s w h = let at : Standing = part_of s Set in flat_good f g at at.wanted (wanted_is at f h) h
+  inner_good (direction way m n f) g s w h = let at : TypingContext = part_of s Set in flat_good f g at at.wanted (wanted_is at f h) h
   inner_good (chain c fs) g s w h = all_good fs g (part_of s (chain_kind c)) h
   inner_good (sum_of ts) g s w h = terms_good ts g (part_of s Number) h
   inner_good (pair c x y) g s w h =
-      let at : Standing = part_of s (pair_wants c) in
+      let at : TypingContext = part_of s (pair_operand_kind c) in
       two (occurrences at x) (occurrences at y) (occurrences at (flat g x)) (occurrences at (flat g y))
       (λ k. flat_good x g at at.wanted (wanted_is at x k) k) (λ k. flat_good y g at at.wanted (wanted_is at y k) k) h
   inner_good (if_ x y z) g s w h =
-      let at : Standing = part_of s Position in
+      let at : TypingContext = part_of s Position in
       two (occurrences at x) (occurrences at y ++ occurrences at z) (occurrences at (flat g x))
       (occurrences at (flat g y) ++ occurrences at (flat g z)) (λ k. flat_good x g at at.wanted (wanted_is at x k) k)
       (two (occurrences at y) (occurrences at z) (occurrences at (flat g y)) (occurrences at (flat g z))
       (λ k. flat_good y g at at.wanted (wanted_is at y k) k) (λ k. flat_good z g at at.wanted (wanted_is at z k) k)) h
   inner_good (square every text x y) g s w h =
-      let at : Standing = part_of_square s Set in
-      let of_each : Standing = asked_of_each s text in
+      let at : TypingContext = part_of_square s Set in
+      let of_each : TypingContext = square_condition s text in
       two (occurrences at x) (occurrences of_each y) (occurrences at (flat g x)) (occurrences of_each (flat g y))
       (λ k. flat_good x g at at.wanted (wanted_is at x k) k) (λ k. flat_good y g of_each of_each.wanted (wanted_is of_each y k) k) h
   inner_good (line l) g s w h = line_good l g (part_of s Position) h
@@ -301,43 +301,43 @@ mutual
       let gs : List Context = fitting g (members t) f in
       each_good (part_of s k) (distinct (map (λ c. flat c f) gs))
       (all_distinct p (map (λ c. flat c f) gs) (all_mapped p (λ c. flat c f) gs (λ c. flat_good f c (part_of s Position) k (accepts_same k) h)))
-  inner_good (sort least text f) g s w h = let at : Standing = part_of s Number in flat_good f g at at.wanted (wanted_is at f h) h
+  inner_good (sort least text f) g s w h = let at : TypingContext = part_of s Number in flat_good f g at at.wanted (wanted_is at f h) h
   inner_good (comment text) g s w h = refl
   inner_good (any kind fs) g s w h = all_good fs g (part_of s kind) h
 
-  all_good : (fs : FilterTrees) (g : Context) (s : Standing) → list_all sound (all_of s fs) ≡ true → list_all good (all_of s (flat_all g fs)) ≡ true
+  all_good : (fs : FilterTrees) (g : Context) (s : TypingContext) → list_all sound (all_of s fs) ≡ true → list_all good (all_of s (flat_all g fs)) ≡ true
   all_good no_filters g s h = refl
   all_good (more_filters f fs) g s h = two (occurrences s f) (all_of s fs) (occurrences s (flat g f)) (all_of s (flat_all g fs)) (λ k. flat_good f g s s.wanted (wanted_is s f k) k) (all_good fs g s) h
 
-  terms_good : (ts : TermTrees) (g : Context) (s : Standing) → list_all sound (of_terms s ts) ≡ true → list_all good (of_terms s (flat_terms g ts)) ≡ true
+  terms_good : (ts : TermTrees) (g : Context) (s : TypingContext) → list_all sound (of_terms s ts) ≡ true → list_all good (of_terms s (flat_terms g ts)) ≡ true
   terms_good no_terms g s h = refl
   terms_good (more_terms minus f ts) g s h = two (occurrences s f) (of_terms s ts) (occurrences s (flat g f)) (of_terms s (flat_terms g ts))
       (λ k. flat_good f g s s.wanted (wanted_is s f k) k) (terms_good ts g s) h
 
-  line_good : (l : LineTree) (g : Context) (s : Standing) → list_all sound (of_line s l) ≡ true → list_all good (of_line s (flat_line g l)) ≡ true
+  line_good : (l : LineTree) (g : Context) (s : TypingContext) → list_all sound (of_line s l) ≡ true → list_all good (of_line s (flat_line g l)) ≡ true
   line_good (path back primary extent cs) g s h = parts_good cs g s h
 
-  played_good : (p : PlayedTree) (g : Context) (s : Standing) → list_all sound (of_played s p) ≡ true → list_all good (of_played s (flat_played g p)) ≡ true
+  played_good : (p : PlayedTree) (g : Context) (s : TypingContext) → list_all sound (of_played s p) ≡ true → list_all good (of_played s (flat_played g p)) ≡ true
   played_good (move_of a b c d) g s h =
       two (of_written s a) (of_written s b ++ (of_written s c ++ of_written s d)) (of_written s (flat_written g a))
       (of_written s (flat_written g b) ++ (of_written s (flat_written g c) ++ of_written s (flat_written g d))) (written_good a g s)
       (two (of_written s b) (of_written s c ++ of_written s d) (of_written s (flat_written g b)) (of_written s (flat_written g c) ++ of_written s (flat_written g d)) (written_good b g s)
       (two (of_written s c) (of_written s d) (of_written s (flat_written g c)) (of_written s (flat_written g d)) (written_good c g s) (written_good d g s))) h
 
-  written_good : (a : WrittenTree) (g : Context) (s : Standing) → list_all sound (of_written s a) ≡ true → list_all good (of_written s (flat_written g a)) ≡ true
+  written_good : (a : WrittenTree) (g : Context) (s : TypingContext) → list_all sound (of_written s a) ≡ true → list_all good (of_written s (flat_written g a)) ≡ true
   written_good left_out g s h = refl
   written_good (written f) g s h = flat_good f g s s.wanted (wanted_is s f h) h
 
-  parts_good : (cs : PartTrees) (g : Context) (s : Standing) → list_all sound (of_parts s cs) ≡ true → list_all good (of_parts s (flat_parts g cs)) ≡ true
+  parts_good : (cs : PartTrees) (g : Context) (s : TypingContext) → list_all sound (of_parts s cs) ≡ true → list_all good (of_parts s (flat_parts g cs)) ≡ true
   parts_good no_parts g s h = refl
   parts_good (more_parts body mark cs) g s h =
       two (of_body s body) (of_parts s cs) (of_body s (flat_body g body)) (of_parts s (flat_parts g cs)) (body_good body g s) (parts_good cs g s) h
 
-  body_good : (b : BodyTree) (g : Context) (s : Standing) → list_all sound (of_body s b) ≡ true → list_all good (of_body s (flat_body g b)) ≡ true
+  body_good : (b : BodyTree) (g : Context) (s : TypingContext) → list_all sound (of_body s b) ≡ true → list_all good (of_body s (flat_body g b)) ≡ true
   body_good (atom f) g s h = flat_good f g s s.wanted (wanted_is s f h) h
   body_good (group cs) g s h = parts_good cs g s h
 
-part_good : (f : FilterTree) (g : Context) (s : Standing) → list_all sound (occurrences s f) ≡ true → list_all good (occurrences s (flat g f)) ≡ true
+part_good : (f : FilterTree) (g : Context) (s : TypingContext) → list_all sound (occurrences s f) ≡ true → list_all good (occurrences s (flat g f)) ≡ true
 part_good f g s h = flat_good f g s s.wanted (wanted_is s f h) h
 
 pub items_good : (fs : FilterTrees) (sorts : ℕ) → list_all sound (of_items sorts fs) ≡ true → list_all good (of_items sorts (flat_all [] fs)) ≡ true

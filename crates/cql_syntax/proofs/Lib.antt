@@ -1,24 +1,24 @@
-mod SetRows
+mod SetExamples
 mod Shown
 pub mod Lists
 pub mod Rows
 pub mod Weighing
-mod NumberRows
-mod PositionRows
-mod LineRows
+mod NumberExamples
+mod PositionExamples
+mod LineExamples
 mod LongestPaths
 mod Images
-mod FamilyRows
-mod FaultRows
-mod HitRows
+mod FamilyExamples
+mod FaultExamples
+mod HitExamples
 mod ValueKinds
 mod TreeLists
-mod EdgeRows
+mod EdgeExamples
 pub mod SameLeaves
 pub mod SameSound
 pub mod FlatSame
 pub mod FlatHits
-mod FlatRows
+mod FlatExamples
 pub mod FlatKept
 pub mod FlatFacts
 pub mod PlayedParts

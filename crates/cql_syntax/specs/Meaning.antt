@@ -7,7 +7,7 @@ use Rattle.cq_geometry.specs.declared.compass.Compass.{Compass}
 use Rattle.cq_geometry.specs.declared.compass.Compass.TheVariants.{Up as ToUp, Down as ToDown, Left as ToLeft, Right as ToRight, Northeast as ToNortheast, Northwest as ToNorthwest, Southeast as ToSoutheast, Southwest as ToSouthwest}
 use Rattle.cq_common.specs.Greatest.{longest}
 use Rattle.cq_common.specs.Spelling.{Pattern, one, nothing, joined, repeated, spells}
-use Rattle.cq_common.specs.Within.{is_within}
+use Rattle.cq_common.specs.Range.{is_within}
 use Rattle.cq_position.specs.Attacks.{in_check}
 use Rattle.cq_position.specs.Board.{Board, man_at}
 use Rattle.cq_position.specs.Games.{node_at, is_main, way_up}

@@ -2,12 +2,12 @@
 use Rattle.std.specs.Prelude.{ℕ, ◌+◌, List, [], ◌∷◌, ◌++◌, Option, None, Some}
 use Rattle.cql_syntax.specs.Kinds.{chain_kind}
 use Rattle.cql_syntax.specs.Trees.{FilterTree, filter_at, FormTree, designator, number, name, plain, tagged, outcome, elo, unary, direction, chain, sum_of, pair, if_, square, line, played, transform, sort, comment, any, FilterTrees, no_filters, more_filters, TermTrees, no_terms, more_terms, LineTree, path, PartTrees, no_parts, more_parts, BodyTree, atom, group, PlayedTree, move_of, WrittenTree, left_out, written, QueryTree}
-use Rattle.cql_syntax.specs.Wants.{unary_wants, pair_wants}
+use Rattle.cql_syntax.specs.OperandKinds.{unary_operand_kind, pair_operand_kind}
 use Rattle.cql_syntax.specs.declared.leaves.Kind.{Kind}
 use Rattle.cql_syntax.specs.declared.leaves.Kind.TheVariants.{Position, Set, Number}
 
 -- how a filter stands in its query
-pub record Standing : Type 0 where
+pub record TypingContext : Type 0 where
   -- the kind that is wanted of it
   pub wanted : Kind
   -- the names that are bound there, the innermost first
@@ -18,33 +18,33 @@ pub record Standing : Type 0 where
   pub item : Option ℕ
 
 pub record Occurrence : Type 0 where
-  pub standing : Standing
+  pub standing : TypingContext
   pub at : ℕ
   pub form : FormTree
 
 -- a top item, with so many sort items before it
-abbrev pub top_item : ℕ → Standing
+abbrev pub top_item : ℕ → TypingContext
 top_item sorts = record { wanted = Position; names = []; squares = 0; item = Some sorts }
 
 -- a part of a filter, of which a kind is wanted
-abbrev pub part_of : Standing → Kind → Standing
+abbrev pub part_of : TypingContext → Kind → TypingContext
 part_of s wanted = record { wanted = wanted; names = s.names; squares = s.squares; item = None }
 
 -- a part of a `square`, of which a kind is wanted
-abbrev pub part_of_square : Standing → Kind → Standing
+abbrev pub part_of_square : TypingContext → Kind → TypingContext
 part_of_square s wanted = record { wanted = wanted; names = s.names; squares = s.squares + 1; item = None }
 
 -- what a `square` asks of each square that it binds to a name
-abbrev pub asked_of_each : Standing → List ℕ → Standing
-asked_of_each s bound = record { wanted = Position; names = bound ∷ s.names; squares = s.squares + 1; item = None }
+abbrev pub square_condition : TypingContext → List ℕ → TypingContext
+square_condition s bound = record { wanted = Position; names = bound ∷ s.names; squares = s.squares + 1; item = None }
 
 -- A filter and all in it. A family takes a part of each kind. The name that a `square` binds is bound in what it asks
 -- of each square alone.
 unfoldable mutual
-  pub occurrences : Standing → FilterTree → List Occurrence
+  pub occurrences : TypingContext → FilterTree → List Occurrence
   occurrences s (filter_at at f) = record { standing = s; at = at; form = f } ∷ inner s f
 
-  pub inner : Standing → FormTree → List Occurrence
+  pub inner : TypingContext → FormTree → List Occurrence
   inner s (designator d) = []
   inner s (number n) = []
   inner s (name text) = []
@@ -52,14 +52,14 @@ unfoldable mutual
   inner s (tagged field text) = []
   inner s (outcome o) = []
   inner s (elo whose) = []
-  inner s (unary u f) = occurrences (part_of s (unary_wants u)) f
+  inner s (unary u f) = occurrences (part_of s (unary_operand_kind u)) f
   inner s (direction way m n f) = occurrences (part_of s Set) f
   inner s (chain c fs) = all_of (part_of s (chain_kind c)) fs
   inner s (sum_of ts) = of_terms (part_of s Number) ts
-  inner s (pair c f g) = occurrences (part_of s (pair_wants c)) f ++ occurrences (part_of s (pair_wants c)) g
+  inner s (pair c f g) = occurrences (part_of s (pair_operand_kind c)) f ++ occurrences (part_of s (pair_operand_kind c)) g
   inner s (if_ f g h) =
       occurrences (part_of s Position) f ++ (occurrences (part_of s Position) g ++ occurrences (part_of s Position) h)
-  inner s (square every text f g) = occurrences (part_of_square s Set) f ++ occurrences (asked_of_each s text) g
+  inner s (square every text f g) = occurrences (part_of_square s Set) f ++ occurrences (square_condition s text) g
   inner s (line l) = of_line (part_of s Position) l
   inner s (played p) = of_played (part_of s Set) p
   inner s (transform t f) = occurrences (part_of s Position) f
@@ -67,30 +67,30 @@ unfoldable mutual
   inner s (comment text) = []
   inner s (any kind fs) = all_of (part_of s kind) fs
 
-  pub all_of : Standing → FilterTrees → List Occurrence
+  pub all_of : TypingContext → FilterTrees → List Occurrence
   all_of s no_filters = []
   all_of s (more_filters f fs) = occurrences s f ++ all_of s fs
 
-  pub of_terms : Standing → TermTrees → List Occurrence
+  pub of_terms : TypingContext → TermTrees → List Occurrence
   of_terms s no_terms = []
   of_terms s (more_terms minus f ts) = occurrences s f ++ of_terms s ts
 
-  pub of_line : Standing → LineTree → List Occurrence
+  pub of_line : TypingContext → LineTree → List Occurrence
   of_line s (path back primary extent cs) = of_parts s cs
 
-  pub of_played : Standing → PlayedTree → List Occurrence
+  pub of_played : TypingContext → PlayedTree → List Occurrence
   of_played s (move_of origin goal taken promoted) =
       of_written s origin ++ (of_written s goal ++ (of_written s taken ++ of_written s promoted))
 
-  pub of_written : Standing → WrittenTree → List Occurrence
+  pub of_written : TypingContext → WrittenTree → List Occurrence
   of_written s left_out = []
   of_written s (written f) = occurrences s f
 
-  pub of_parts : Standing → PartTrees → List Occurrence
+  pub of_parts : TypingContext → PartTrees → List Occurrence
   of_parts s no_parts = []
   of_parts s (more_parts body mark cs) = of_body s body ++ of_parts s cs
 
-  pub of_body : Standing → BodyTree → List Occurrence
+  pub of_body : TypingContext → BodyTree → List Occurrence
   of_body s (atom f) = occurrences s f
   of_body s (group cs) = of_parts s cs
 

@@ -8,7 +8,7 @@ use Rattle.cql_syntax.specs.Limits.{most_places, most_sorts, most_squares, most_
 use Rattle.cql_syntax.specs.Occurrences.{Occurrence, all_occurrences}
 use Rattle.cql_syntax.specs.Places.{places}
 use Rattle.cql_syntax.specs.Trees.{FormTree, name, square, line, transform, sort, comment, any, QueryTree}
-use Rattle.cql_syntax.specs.Wants.{accepts}
+use Rattle.cql_syntax.specs.OperandKinds.{accepts}
 use Rattle.cql_syntax.specs.Weights.{query_weight}
 use Rattle.cql_syntax.specs.declared.leaves.Kind.{Kind}
 use Rattle.cql_syntax.specs.declared.fault.QueryFault.{QueryFault}

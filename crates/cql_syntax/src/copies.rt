@@ -70,7 +70,7 @@ impl Filter {
 
     // A `square` that asks a copy of this of each square.
     #[cycle(copy)]
-    fn copy_asked(
+    fn copy_condition(
         &self,
         every: bool,
         text: Bytes,
@@ -112,7 +112,7 @@ impl Form {
             Form::Square(every, name, a, b) => {
                 let name = Bytes::from_slice(alloc, name.as_slice())?;
                 let squares = a.boxed(alloc)?;
-                b.copy_asked(*every, name, squares, alloc)
+                b.copy_condition(*every, name, squares, alloc)
             }
             Form::Line(line) => line.copy(alloc),
             Form::Played(played) => played.copy(alloc),

@@ -1,9 +1,9 @@
 //! The faults of a query's tree at worked rows.
-ghost use Rattle.cql_syntax.specs.FaultRows.{RuleRows, LimitRows};
+ghost use Rattle.cql_syntax.specs.FaultExamples.{RuleExamples, LimitExamples};
 
 /// The faults of small queries.
-#[tactic(auto, using(crate::proofs::FaultRows::rule_rows, crate::proofs::FaultRows::limit_rows))]
+#[tactic(auto, using(crate::proofs::FaultExamples::rule_rows, crate::proofs::FaultExamples::limit_rows))]
 pub fn faults_are_as_worked()
-    ensures rules { RuleRows }
-    ensures limits { LimitRows }
+    ensures rules { RuleExamples }
+    ensures limits { LimitExamples }
 {}

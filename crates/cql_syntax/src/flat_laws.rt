@@ -4,7 +4,7 @@ ghost use Rattle.cq_position.specs.Search.{SearchedTree};
 ghost use Rattle.cql_syntax.specs.Contexts.{Context};
 ghost use Rattle.cql_syntax.specs.Flat.{flat, flat_all, flat_query};
 ghost use Rattle.cql_syntax.specs.FlatItems.{has_family, kinds_agree, break_no_rule};
-ghost use Rattle.cql_syntax.specs.FlatRows.{FlatRows};
+ghost use Rattle.cql_syntax.specs.FlatExamples.{FlatExamples};
 ghost use Rattle.cql_syntax.specs.Hits.{hits, keys, marks};
 ghost use Rattle.cql_syntax.specs.Meaning.{Names, value, values};
 ghost use Rattle.cql_syntax.specs.Same.{same_filter};
@@ -14,9 +14,9 @@ ghost use Rattle.cql_syntax.specs.Trees.{FilterTree, FilterTrees, QueryTree};
 ghost use Rattle.std.specs.Prelude.{◌≡◌, ◌↔◌, ℕ, [], None, true, false};
 
 /// The flat forms of small filters.
-#[tactic(auto, using(crate::proofs::FlatRows::flat_rows))]
+#[tactic(auto, using(crate::proofs::FlatExamples::flat_rows))]
 pub fn flat_forms_are_as_worked()
-    ensures { FlatRows }
+    ensures { FlatExamples }
 {}
 
 /// The test of two filters is true exactly where they are equal.

@@ -2,72 +2,72 @@
 ghost use Rattle.cq_common.specs.Spelling.{TestIsSpelling};
 ghost use Rattle.cq_position.specs.Search.{SearchedTree};
 ghost use Rattle.cql_syntax.specs.Contexts.{Context};
-ghost use Rattle.cql_syntax.specs.EdgeRows.{FitRows, ExchangeRows, EdgeRows};
-ghost use Rattle.cql_syntax.specs.FamilyRows.{FamilyRows, DropRows, ImageRows};
-ghost use Rattle.cql_syntax.specs.HitRows.{HitRows};
+ghost use Rattle.cql_syntax.specs.EdgeExamples.{FitExamples, ExchangeExamples, EdgeExamples};
+ghost use Rattle.cql_syntax.specs.FamilyExamples.{FamilyExamples, DropExamples, ImageExamples};
+ghost use Rattle.cql_syntax.specs.HitExamples.{HitExamples};
 ghost use Rattle.cql_syntax.specs.Kinds.{filter_kind};
-ghost use Rattle.cql_syntax.specs.LineRows.{LineRows, MoveRows};
+ghost use Rattle.cql_syntax.specs.LineExamples.{LineExamples, MoveExamples};
 ghost use Rattle.cql_syntax.specs.LongestPaths.{LinesAreLongestPaths};
 ghost use Rattle.cql_syntax.specs.Meaning.{Names, value};
-ghost use Rattle.cql_syntax.specs.NumberRows.{NumberRows, ComparisonRows};
-ghost use Rattle.cql_syntax.specs.PositionRows.{WordRows, HeaderRows, LogicRows, TreeRows};
-ghost use Rattle.cql_syntax.specs.SetRows.{SetRows, DirectionRows};
-ghost use Rattle.cql_syntax.specs.TabledLines.{LinesAreTheirs, SpelledLinesAreTheirs};
+ghost use Rattle.cql_syntax.specs.NumberExamples.{NumberExamples, ComparisonExamples};
+ghost use Rattle.cql_syntax.specs.PositionExamples.{WordExamples, HeaderExamples, LogicExamples, TreeExamples};
+ghost use Rattle.cql_syntax.specs.SetExamples.{SetExamples, DirectionExamples};
+ghost use Rattle.cql_syntax.specs.LineTables.{TablesGiveLines, SpelledTablesGiveLines};
 ghost use Rattle.cql_syntax.specs.TreeLists.{AreInverse, AreTreesOfEach, EndsAlike, filters_from, filters_of, parts_from, parts_of, terms_from, terms_of};
 ghost use Rattle.cql_syntax.specs.Trees.{FilterTree};
 ghost use Rattle.cql_syntax.specs.Values.{Value, is_of_kind};
 ghost use Rattle.std.specs.Prelude.{◌≡◌, ℕ, true};
 
 /// What the filters that are sets give in the initial array.
-#[tactic(auto, using(crate::proofs::SetRows::set_rows, crate::proofs::SetRows::direction_rows))]
+#[tactic(auto, using(crate::proofs::SetExamples::set_rows, crate::proofs::SetExamples::direction_rows))]
 pub fn sets_are_as_worked()
-    ensures sets { SetRows }
-    ensures directions { DirectionRows }
+    ensures sets { SetExamples }
+    ensures directions { DirectionExamples }
 {}
 
 /// What the filters that are numbers give, and how numbers compare.
-#[tactic(auto, using(crate::proofs::NumberRows::number_rows, crate::proofs::NumberRows::comparison_rows))]
+#[tactic(auto, using(crate::proofs::NumberExamples::number_rows, crate::proofs::NumberExamples::comparison_rows))]
 pub fn numbers_are_as_worked()
-    ensures numbers { NumberRows }
-    ensures comparisons { ComparisonRows }
+    ensures numbers { NumberExamples }
+    ensures comparisons { ComparisonExamples }
 {}
 
 /// Where the filters that are positions hold.
-#[tactic(auto, using(crate::proofs::PositionRows::word_rows, crate::proofs::PositionRows::header_rows, crate::proofs::PositionRows::logic_rows, crate::proofs::PositionRows::tree_rows))]
+#[tactic(auto, using(crate::proofs::PositionExamples::word_rows, crate::proofs::PositionExamples::header_rows, crate::proofs::PositionExamples::logic_rows, crate::proofs::PositionExamples::tree_rows))]
 pub fn positions_are_as_worked()
-    ensures words { WordRows }
-    ensures headers { HeaderRows }
-    ensures logic { LogicRows }
-    ensures tree { TreeRows }
+    ensures words { WordExamples }
+    ensures headers { HeaderExamples }
+    ensures logic { LogicExamples }
+    ensures tree { TreeExamples }
 {}
 
 /// What lines give, and where the filter of the move holds.
-#[tactic(auto, using(crate::proofs::LineRows::line_rows, crate::proofs::LineRows::move_rows))]
+#[tactic(auto, using(crate::proofs::LineExamples::line_rows, crate::proofs::LineExamples::move_rows))]
 pub fn lines_and_moves_are_as_worked()
-    ensures lines { LineRows }
-    ensures moves { MoveRows }
+    ensures lines { LineExamples }
+    ensures moves { MoveExamples }
 {}
 
 /// What families give, and which designators drop out of their members.
-#[tactic(auto, using(crate::proofs::FamilyRows::family_rows, crate::proofs::FamilyRows::drop_rows, crate::proofs::FamilyRows::image_rows))]
+#[tactic(auto, using(crate::proofs::FamilyExamples::family_rows, crate::proofs::FamilyExamples::drop_rows, crate::proofs::FamilyExamples::image_rows))]
 pub fn families_are_as_worked()
-    ensures families { FamilyRows }
-    ensures drops { DropRows }
-    ensures images { ImageRows }
+    ensures families { FamilyExamples }
+    ensures drops { DropExamples }
+    ensures images { ImageExamples }
 {}
 
 /// Which filters fit a shift, what an exchange of colours and a turn make of leaves, and values at their edges.
-#[tactic(auto, using(crate::proofs::EdgeRows::fit_rows, crate::proofs::EdgeRows::exchange_rows, crate::proofs::EdgeRows::edge_rows))]
+#[tactic(auto, using(crate::proofs::EdgeExamples::fit_rows, crate::proofs::EdgeExamples::exchange_rows, crate::proofs::EdgeExamples::edge_rows))]
 pub fn edges_are_as_worked()
-    ensures fits { FitRows }
-    ensures exchanges { ExchangeRows }
-    ensures edges { EdgeRows }
+    ensures fits { FitExamples }
+    ensures exchanges { ExchangeExamples }
+    ensures edges { EdgeExamples }
 {}
 
 /// What queries hit, what they mark hits with, and what they sort by.
-#[tactic(auto, using(crate::proofs::HitRows::hit_rows))]
+#[tactic(auto, using(crate::proofs::HitExamples::hit_rows))]
 pub fn hits_are_as_worked()
-    ensures { HitRows }
+    ensures { HitExamples }
 {}
 
 /// A path passes the test of a line's pattern exactly where the pattern spells it.
@@ -86,13 +86,13 @@ pub fn lines_are_longest_paths()
 /// table's pattern spells is the value of the line.
 #[tactic(auto, using(crate::proofs::TabledLines::lines_are_theirs))]
 pub fn tables_give_their_lines()
-    ensures { LinesAreTheirs }
+    ensures { TablesGiveLines }
 {}
 
 /// The same, where a table's pattern spells on the paths from a node what the filters spell there.
 #[tactic(auto, using(crate::proofs::TabledLines::spelled_lines_are_theirs))]
 pub fn spelled_tables_give_their_lines()
-    ensures { SpelledLinesAreTheirs }
+    ensures { SpelledTablesGiveLines }
 {}
 
 /// The value of a filter is of the filter's kind.

@@ -25,7 +25,7 @@ const HEADED: &[u8] = b"query 1 bytes 108\n\
 const REPORT: &[u8] = b"games 1 matched 1 refused 0\n";
 
 // How a query is answered up to its first match. The contract of this call is a large one.
-fn answered<R: Threads + Sync>(
+fn status_of_answer<R: Threads + Sync>(
     rt: &R,
     alloc: Global,
     query: &TypedQuery,
@@ -42,7 +42,7 @@ fn answered<R: Threads + Sync>(
 }
 
 // How queries are answered at once. Its contract is as large.
-fn many_answered<R: Threads + Sync>(
+fn status_of_many<R: Threads + Sync>(
     rt: &R,
     alloc: Global,
     queries: &[TypedQuery],
@@ -61,7 +61,7 @@ fn many_answered<R: Threads + Sync>(
 }
 
 // How the one query is answered, by itself or as one of several.
-fn one_answered<R: Threads + Sync>(
+fn status_of_one<R: Threads + Sync>(
     rt: &R,
     alloc: Global,
     queries: &[TypedQuery],
@@ -73,9 +73,9 @@ fn one_answered<R: Threads + Sync>(
     requires { length queries.now ≡ 1 }
 {
     if several {
-        many_answered(rt, alloc, queries, source, out, err)
+        status_of_many(rt, alloc, queries, source, out, err)
     } else {
-        answered(rt, alloc, &queries[0], source, out, err)
+        status_of_answer(rt, alloc, &queries[0], source, out, err)
     }
 }
 
@@ -95,7 +95,7 @@ fn is_answered_with<R: Threads + Sync>(
     requires { length queries.now ≡ 1 }
 {
     let mut err = SureSink::new(alloc, 4096)?;
-    let status = one_answered(rt, alloc, queries, several, source, out, &mut err);
+    let status = status_of_one(rt, alloc, queries, several, source, out, &mut err);
     let text = if several { HEADED } else { EXPORT };
     Ok(is_done(status, out, &err, text))
 }

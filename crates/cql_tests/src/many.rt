@@ -50,9 +50,9 @@ const WTM: &[u8] = b"cql() wtm";
 const SIXTEEN: [&[u8]; 16] = [WTM; 16];
 
 /// Queries, and how many different parts they have. What they find is among the examples of `model/worked.py`.
-type Row<'a> = (&'a [&'a [u8]], u32);
+type PartsCase<'a> = (&'a [&'a [u8]], u32);
 
-static ROWS: [Row<'static>; 7] = [
+static ROWS: [PartsCase<'static>; 7] = [
     (&[b"cql() wtm check", b"cql() check wtm"], 2),
     (&[WTM, b"cql(variations) wtm"], 2),
     (&[b"cql() {btm check}", b"cql() (check and btm)  Qa8"], 3),
@@ -72,11 +72,11 @@ static ROWS: [Row<'static>; 7] = [
 ];
 
 // Whether a plan has the queries and the parts of a row.
-fn has_parts(plan: &SharedPlan, row: &Row<'_>) -> bool {
+fn has_parts(plan: &SharedPlan, row: &PartsCase<'_>) -> bool {
     plan.len() as usize == row.0.len() && plan.parts() == row.1
 }
 
-fn expect<R: Abort>(rt: &R, alloc: Global, row: &Row<'_>) -> Result<(), Fail> {
+fn expect<R: Abort>(rt: &R, alloc: Global, row: &PartsCase<'_>) -> Result<(), Fail> {
     let plan = plan_of(rt, alloc, row.0)?;
     let right = has_parts(&plan, row);
     drop(plan);

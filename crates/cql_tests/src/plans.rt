@@ -43,9 +43,9 @@ pub(crate) fn plan_of(alloc: Global, text: &[u8]) -> Result<Plan, Refusal<QueryF
 }
 
 /// A query, and how many parts its first item has in the form that is asked, where it is braces there.
-type Asked<'a> = (&'a [u8], usize);
+type JoinedCase<'a> = (&'a [u8], usize);
 
-static JOINED: [Asked<'static>; 3] = [
+static JOINED: [JoinedCase<'static>; 3] = [
     (b"cql() flip { check Ka1 }", 2),
     (b"cql() flip { check Ka1 mate }", 3),
     (b"cql() flip { Ka1 Ra8 }", 0),

@@ -172,7 +172,7 @@ fn batch_of<R: Abort>(rt: &R, alloc: Global, archive: &[u8]) -> Result<Batch, No
 }
 
 // How many answers a batch has. The contract of this call is a large one, so that it is made here alone.
-fn answered<R: Threads + Sync>(
+fn count_answers<R: Threads + Sync>(
     rt: &R,
     alloc: Global,
     plan: &Plan,
@@ -197,7 +197,7 @@ fn are_both_seen<R: Threads + Sync>(
     at_enter: bool,
 ) -> Result<bool, NoMemory> {
     let watch = Watch::new(alloc, at_enter)?;
-    let count = answered(rt, alloc, plan, batch, &watch)?;
+    let count = count_answers(rt, alloc, plan, batch, &watch)?;
     Ok(count == 64 && watch.has_seen_all())
 }
 

@@ -19,7 +19,7 @@ use Rattle.cq_position.specs.declared.men.Man.TheVariants.{K, Q, R, B, N, P, Bla
 use Rattle.cq_square_sets.proofs.Marked.{marks_or, marks_and}
 use Rattle.cq_symmetry.specs.Images.{is_in}
 use Rattle.cql_syntax.specs.Values.{worth}
-use Rattle.cql_values.specs.Squares.{worth_there}
+use Rattle.cql_values.specs.Internal.Squares.{piece_value_in}
 use Rattle.cql_values.proofs.Masks.{bit_is}
 
 of_bit : (b : Bool) → bit_of b ≡ cond b 1 0
@@ -44,8 +44,8 @@ as_mask mask test fits is =
     ∙ ap (λ b. cond b 1 0) (ap test (sym (own_number k low)) ∙ sym (get_or-map test squares k 0 false (omega (arith, all_squares, low))))
     ∙ sym (bit_mask_l (map test squares) k))
 
-pub counted : (mask : ℕ) (test : ℕ → Bool) → mask < 2 ^ 64 → IsBitboard mask test → count_ones mask ≡ count_by test squares
-counted mask test fits is = ap count_ones (as_mask mask test fits is) ∙ ones-mask_l test squares
+pub count_value : (mask : ℕ) (test : ℕ → Bool) → mask < 2 ^ 64 → IsBitboard mask test → count_ones mask ≡ count_by test squares
+count_value mask test fits is = ap count_ones (as_mask mask test fits is) ∙ ones-mask_l test squares
 
 -- a set is that of its own squares
 pub own_squares : (set : ℕ) → IsBitboard set (is_in set)
@@ -97,10 +97,10 @@ worth_is true BlackP = refl
 worth_is true Empty = refl
 worth_is false m = refl
 
-pub worth_in_all : (men : List Man) (set : ℕ) → sum_by (worth_there men set) squares
+pub worth_in_all : (men : List Man) (set : ℕ) → sum_by (piece_value_in men set) squares
     ≡ count_by (λ s. is_in set s && is_pawn (man_at men s)) squares + 3 * count_by (λ s. is_in set s && is_minor (man_at men s)) squares
     + 5 * count_by (λ s. is_in set s && is_rook (man_at men s)) squares + 9 * count_by (λ s. is_in set s && is_queen (man_at men s)) squares
-worth_in_all men set = weighed (worth_there men set)
+worth_in_all men set = weighed (piece_value_in men set)
     (λ s. is_in set s && is_pawn (man_at men s)) (λ s. is_in set s && is_minor (man_at men s))
     (λ s. is_in set s && is_rook (man_at men s)) (λ s. is_in set s && is_queen (man_at men s))
     (λ s. worth_is (is_in set s) (man_at men s)) squares

@@ -14,8 +14,8 @@ use Rattle.cql_syntax.specs.declared.leaves.Unary.TheVariants.{Not, Complement, 
 use Rattle.cql_syntax.specs.declared.tree.Filter.{Filter}
 use Rattle.cql_syntax.specs.declared.tree.Term.{Term}
 use Rattle.cql_syntax.proofs.Lists.{filter_trees_more, term_trees_more}
-use Rattle.cql_values.specs.Asked.{settles, of_value}
-use Rattle.cql_values.specs.Shown.{meant, terms_meant}
+use Rattle.cql_values.specs.FilterValues.{settles, unary_result}
+use Rattle.cql_values.specs.ValueModel.{as_value, terms_as_values}
 use Rattle.cql_values.specs.declared.value.Value.{Value as Kept}
 
 pub map_snoc : {A B : Type 0} (f : A → B) (xs : List A) (x : A) → map f (xs ++ x ∷ []) ≡ map f xs ++ f x ∷ []
@@ -28,10 +28,10 @@ values_snoc tree g e no_filters f n = refl
 values_snoc tree g e (more_filters x fs) f n = ap (λ vs. value tree g e x n ∷ vs) (values_snoc tree g e fs f n)
 
 pub values_more : (tree : SearchedTree) (g : Context) (e : Names) (n : ℕ) (xs : List Filter) (i : ℕ) (f : Filter) (before later : List Kept) (v : Kept) → i < length xs → f ≡ get_or xs i f
-    → map meant before ≡ values tree g e (filter_trees (take i xs)) n → meant v ≡ value tree g e (filter_tree f) n → later ≡ before ++ v ∷ []
-    → map meant later ≡ values tree g e (filter_trees (take (i + 1) xs)) n
+    → map as_value before ≡ values tree g e (filter_trees (take i xs)) n → as_value v ≡ value tree g e (filter_tree f) n → later ≡ before ++ v ∷ []
+    → map as_value later ≡ values tree g e (filter_trees (take (i + 1) xs)) n
 values_more tree g e n xs i f before later v below is had new more =
-    ap (map meant) more ∙ map_snoc meant before v ∙ ap (λ vs. vs ++ meant v ∷ []) had ∙ ap (λ w. values tree g e (filter_trees (take i xs)) n ++ w ∷ []) new
+    ap (map as_value) more ∙ map_snoc as_value before v ∙ ap (λ vs. vs ++ as_value v ∷ []) had ∙ ap (λ w. values tree g e (filter_trees (take i xs)) n ++ w ∷ []) new
     ∙ sym (values_snoc tree g e (filter_trees (take i xs)) (filter_tree f) n) ∙ sym (ap (λ fs. values tree g e fs n) (filter_trees_more xs i f below is))
 
 pub terms_snoc : (tree : SearchedTree) (g : Context) (e : Names) (ts : TermTrees) (minus : Bool) (f : FilterTree) (n : ℕ)
@@ -41,10 +41,10 @@ terms_snoc tree g e no_terms minus f n = refl
 terms_snoc tree g e (more_terms other x ts) minus f n = ap (λ vs. (other, value tree g e x n) ∷ vs) (terms_snoc tree g e ts minus f n)
 
 pub terms_more : (tree : SearchedTree) (g : Context) (e : Names) (n : ℕ) (xs : List Term) (i : ℕ) (t : Term) (before later : List (Bool × Kept)) (v : Kept) → i < length xs → t ≡ get_or xs i t
-    → terms_meant before ≡ term_values tree g e (term_trees (take i xs)) n → meant v ≡ value tree g e (filter_tree t.filter) n → later ≡ before ++ (t.minus, v) ∷ []
-    → terms_meant later ≡ term_values tree g e (term_trees (take (i + 1) xs)) n
+    → terms_as_values before ≡ term_values tree g e (term_trees (take i xs)) n → as_value v ≡ value tree g e (filter_tree t.filter) n → later ≡ before ++ (t.minus, v) ∷ []
+    → terms_as_values later ≡ term_values tree g e (term_trees (take (i + 1) xs)) n
 terms_more tree g e n xs i t before later v below is had new more =
-    ap terms_meant more ∙ map_snoc (λ (term : Bool × Kept). (term.0, meant term.1)) before (t.minus, v) ∙ ap (λ vs. vs ++ (t.minus, meant v) ∷ []) had
+    ap terms_as_values more ∙ map_snoc (λ (term : Bool × Kept). (term.0, as_value term.1)) before (t.minus, v) ∙ ap (λ vs. vs ++ (t.minus, as_value v) ∷ []) had
     ∙ ap (λ w. term_values tree g e (term_trees (take i xs)) n ++ (t.minus, w) ∷ []) new
     ∙ sym (terms_snoc tree g e (term_trees (take i xs)) t.minus (filter_tree t.filter) n) ∙ sym (ap (λ ts. term_values tree g e ts n) (term_trees_more xs i t below is))
 
@@ -85,7 +85,7 @@ by_settling false x asked found e = ap as_truth (some_kept (has x) asked squares
 
 -- a word before a part
 pub word_here : (tree : SearchedTree) (word : Unary) (v : ℕ → Value) (n : ℕ) (x : Value) → (word ≡ Find → ⊥) → (word ≡ FindUp → ⊥) → (word ≡ Child → ⊥) → (word ≡ Parent → ⊥)
-    → x ≡ v n → of_value (position_at tree n).men word x ≡ unary_of tree word v n
+    → x ≡ v n → unary_result (position_at tree n).men word x ≡ unary_of tree word v n
 word_here tree Not v n x a b c d is = ap (λ y. as_truth (not (holds y))) is
 word_here tree Complement v n x a b c d is = ap complement_of is
 word_here tree Count v n x a b c d is = ap size_of is

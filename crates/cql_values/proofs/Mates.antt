@@ -5,7 +5,7 @@ use Rattle.cq_position.specs.Board.{Board}
 use Rattle.cq_position.specs.Attacks.{in_check}
 use Rattle.cq_position.specs.Legality.{has_legal_move}
 use Rattle.cq_position.proofs.Legality.{legal_move_law}
-use Rattle.cq_moves.specs.Outcome.{HasLegalMove, IsMate, IsStalemate}
+use Rattle.cq_moves.specs.Mate.{HasLegalMove, IsMate, IsStalemate}
 use Rattle.cql_values.proofs.Ranges.{same_truth, left, right, both}
 
 no_move : (p : Board) → length p.men ≡ 64 → not (has_legal_move p) ≡ true → ¬ HasLegalMove p

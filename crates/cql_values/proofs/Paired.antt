@@ -4,7 +4,7 @@ use Rattle.cq_position.specs.declared.men.Man.{Man}
 use Rattle.cql_syntax.specs.Values.{Value, as_truth, as_squares, has, pair_of}
 use Rattle.cql_syntax.specs.declared.leaves.Pair.{Pair}
 use Rattle.cql_syntax.specs.declared.leaves.Pair.TheVariants.{Attacks, AttackedBy, Between, Less, AtMost, Equal, AtLeast, Greater}
-use Rattle.cql_values.specs.Asked.{is_true}
+use Rattle.cql_values.specs.FilterValues.{is_true}
 
 pub gives_squares : (men : List Man) (p : Pair) (x y : Value) → (p ≡ Attacks) ⊎ ((p ≡ AttackedBy) ⊎ (p ≡ Between)) → as_squares (has (pair_of men p x y)) ≡ pair_of men p x y
 gives_squares men p x y is = elim is [

@@ -14,7 +14,7 @@ use Rattle.cq_position.specs.Bitboards.{IsBitboard}
 use Rattle.cq_position.proofs.Marked.{marks_one, marks_same}
 use Rattle.cq_symmetry.specs.Images.{is_square}
 use Rattle.cql_syntax.specs.Values.{leads_to}
-use Rattle.cql_values.specs.Squares.{is_step_to}
+use Rattle.cql_values.specs.Internal.Squares.{is_step_to}
 use Rattle.cql_values.proofs.Ranges.{same_truth, left, right, both, from_range, in_range}
 
 off_high : (z : ℤ) → pos 8 ≤ℤ z → on_board z ≡ None

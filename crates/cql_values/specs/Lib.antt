@@ -1,7 +1,7 @@
-pub mod Asked
+pub mod FilterValues
 pub mod Bindings
 pub mod Counts
 pub mod Names
-pub mod Shown
-pub mod Squares
+pub mod ValueModel
 pub mod Trees
+pub mod Internal

@@ -4,8 +4,8 @@ ghost use Rattle.std.specs.List.{list_any, list_all};
 ghost use Rattle.cq_position.specs.declared.men.Man.{Man};
 ghost use Rattle.cq_symmetry.specs.Images.{is_in};
 ghost use Rattle.cql_syntax.specs.Values as spec;
-ghost use Rattle.cql_values.specs.Asked.{of_value, is_true};
-ghost use Rattle.cql_values.specs.Shown.{meant};
+ghost use Rattle.cql_values.specs.FilterValues.{unary_result, is_true};
+ghost use Rattle.cql_values.specs.ValueModel.{as_value};
 
 use crate::numbers::{greatest, greatest_of_all, least_of_all, power, product, size};
 use crate::sets::{attacked_by, attacking, between, complement, dark, intersection, light, union};
@@ -14,20 +14,20 @@ use cq_position::Position;
 use cql_syntax::{Chain, Kind, Pair, Unary};
 
 fn some_holds(values: &[Value]) -> bool
-    ensures { result ≡ list_any (λ v. spec.holds (meant v)) values.now }
+    ensures { result ≡ list_any (λ v. spec.holds (as_value v)) values.now }
 {
     values.iter().any(|value| value.holds())
 }
 
 fn all_hold(values: &[Value]) -> bool
-    ensures { result ≡ list_all (λ v. spec.holds (meant v)) values.now }
+    ensures { result ≡ list_all (λ v. spec.holds (as_value v)) values.now }
 {
     values.iter().all(|value| value.holds())
 }
 
 /// What a filter of any number of parts makes of their values.
 pub fn chain_of(chain: Chain, values: &[Value]) -> Value
-    ensures { meant result ≡ spec.chain_of chain (map meant values.now) }
+    ensures { as_value result ≡ spec.chain_of chain (map as_value values.now) }
 {
     match chain {
         Chain::Or => Value::Truth(some_holds(values)),
@@ -42,7 +42,7 @@ pub fn chain_of(chain: Chain, values: &[Value]) -> Value
 
 /// Any of some values of a kind: whether one holds, their union, or the greatest of them.
 pub fn any_of(kind: Kind, values: &[Value]) -> Value
-    ensures { meant result ≡ spec.any_of kind (map meant values.now) }
+    ensures { as_value result ≡ spec.any_of kind (map as_value values.now) }
 {
     match kind {
         Kind::Position => Value::Truth(some_holds(values)),
@@ -54,7 +54,7 @@ pub fn any_of(kind: Kind, values: &[Value]) -> Value
 /// What a filter of two parts makes of their values.
 #[inline(always)]
 pub fn pair_of(position: &Position, pair: Pair, x: Value, y: Value) -> Value
-    ensures { meant result ≡ spec.pair_of position.now.men pair (meant x) (meant y) }
+    ensures { as_value result ≡ spec.pair_of position.now.men pair (as_value x) (as_value y) }
 {
     match pair {
         Pair::Attacks | Pair::AttackedBy | Pair::Between => {
@@ -69,7 +69,7 @@ pub fn pair_of(position: &Position, pair: Pair, x: Value, y: Value) -> Value
 /// The squares that a filter of two parts gives, of men in a relation of attack or between two sets; a comparison gives none.
 #[inline(always)]
 pub fn related(position: &Position, pair: Pair, x: Value, y: Value) -> u64
-    ensures { is_in result ≡ spec.has (spec.pair_of position.now.men pair (meant x) (meant y)) }
+    ensures { is_in result ≡ spec.has (spec.pair_of position.now.men pair (as_value x) (as_value y)) }
 {
     match pair {
         Pair::Attacks => attacking(position, x, y).squares(),
@@ -82,7 +82,7 @@ pub fn related(position: &Position, pair: Pair, x: Value, y: Value) -> u64
 /// Whether two values are as a comparison asks. A filter of two parts that gives squares compares nothing.
 #[inline(always)]
 pub fn compares(pair: Pair, x: Value, y: Value) -> bool
-    ensures { (men : List Man) → result ≡ is_true (spec.pair_of men pair (meant x) (meant y)) }
+    ensures { (men : List Man) → result ≡ is_true (spec.pair_of men pair (as_value x) (as_value y)) }
 {
     match pair {
         Pair::Less => is_less(x, y),
@@ -96,7 +96,7 @@ pub fn compares(pair: Pair, x: Value, y: Value) -> bool
 
 // Whether both have a value, and the first is less.
 fn is_less(x: Value, y: Value) -> bool
-    ensures { result ≡ spec.compares int_lt (spec.amount (meant x)) (spec.amount (meant y)) }
+    ensures { result ≡ spec.compares int_lt (spec.amount (as_value x)) (spec.amount (as_value y)) }
 {
     match (x.number(), y.number()) {
         (Some(a), Some(b)) => a < b,
@@ -106,7 +106,7 @@ fn is_less(x: Value, y: Value) -> bool
 
 // Whether both have a value, and the first is at most the second.
 fn is_at_most(x: Value, y: Value) -> bool
-    ensures { result ≡ spec.compares int_le (spec.amount (meant x)) (spec.amount (meant y)) }
+    ensures { result ≡ spec.compares int_le (spec.amount (as_value x)) (spec.amount (as_value y)) }
 {
     match (x.number(), y.number()) {
         (Some(a), Some(b)) => a <= b,
@@ -116,15 +116,15 @@ fn is_at_most(x: Value, y: Value) -> bool
 
 /// The second where the first holds, else the third.
 pub fn if_of(x: Value, y: Value, z: Value) -> Value
-    ensures { meant result ≡ spec.if_of (meant x) (meant y) (meant z) }
+    ensures { as_value result ≡ spec.if_of (as_value x) (as_value y) (as_value z) }
 {
     Value::Truth(if x.holds() { y.holds() } else { z.holds() })
 }
 
 /// What a word or mark before a part makes of its value, where it asks of no other node.
 #[inline(always)]
-pub fn unary_here(word: Unary, position: &Position, x: Value) -> Value
-    ensures { meant result ≡ of_value position.now.men word (meant x) }
+pub fn unary_of_value(word: Unary, position: &Position, x: Value) -> Value
+    ensures { as_value result ≡ unary_result position.now.men word (as_value x) }
 {
     match word {
         Unary::Complement => complement(x),

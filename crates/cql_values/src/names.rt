@@ -3,7 +3,7 @@ ghost use Rattle.std.specs.Prelude.{◌≡◌, ◌<◌, [], ◌∷◌, length, d
 ghost use Rattle.cql_syntax.specs.Meaning.{is_bound_to};
 ghost use Rattle.cql_syntax.specs.Values.{squares_where};
 ghost use Rattle.cql_values.specs.Bindings.{rebound};
-ghost use Rattle.cql_values.specs.Shown.{meant};
+ghost use Rattle.cql_values.specs.ValueModel.{as_value};
 
 use crate::value::Value;
 use cq_common::{Bytes, NoMemory};
@@ -88,7 +88,7 @@ impl Names {
 
     /// The square that is bound to a name, as a set; of a name that isn't bound there is none.
     pub fn squares_of(&self, name: &[u8]) -> Value
-        ensures { meant result ≡ squares_where (is_bound_to self.now name.now) }
+        ensures { as_value result ≡ squares_where (is_bound_to self.now name.now) }
     {
         let mut kept = self.pairs.len();
         while kept > 0 {

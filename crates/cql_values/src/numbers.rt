@@ -5,15 +5,15 @@ ghost use Rattle.cq_geometry.specs.Squares.{squares};
 ghost use Rattle.cq_position.specs.Bitboards.{IsBitboard};
 ghost use Rattle.cq_position.specs.Board.{stands};
 ghost use Rattle.cql_syntax.specs.Values as spec;
-ghost use Rattle.cql_values.specs.Shown.{meant, terms_meant};
-ghost use Rattle.cql_values.specs.Squares.{worth_there};
+ghost use Rattle.cql_values.specs.ValueModel.{as_value, terms_as_values};
+ghost use Rattle.cql_values.specs.Internal.Squares.{piece_value_in};
 
 use crate::value::Value;
 use cq_position::{Man, Men, Position};
 
 /// The product of some numbers, from left to right; no value once it leaves 64 bits, or where one has none.
 pub fn product(values: &[Value]) -> Value
-    ensures { meant result ≡ spec.product_of (map meant values.now) }
+    ensures { as_value result ≡ spec.product_of (map as_value values.now) }
 {
     let mut total = Some(1);
     for value in values {
@@ -24,14 +24,14 @@ pub fn product(values: &[Value]) -> Value
 
 // A product with one more factor.
 fn times(total: Option<i64>, value: Value) -> Option<i64>
-    ensures { result ≡ spec.times_one total (meant value) }
+    ensures { result ≡ spec.times_one total (as_value value) }
 {
     total?.checked_mul(value.number()?)
 }
 
 /// The sum of some numbers, each of which is added, or subtracted where it says so.
 pub fn total(terms: &[(bool, Value)]) -> Value
-    ensures { meant result ≡ spec.total_of (terms_meant terms.now) }
+    ensures { as_value result ≡ spec.total_of (terms_as_values terms.now) }
 {
     let mut total = Some(0);
     for term in terms {
@@ -42,7 +42,7 @@ pub fn total(terms: &[(bool, Value)]) -> Value
 
 // A sum with one more term.
 fn plus(total: Option<i64>, term: (bool, Value)) -> Option<i64>
-    ensures { result ≡ spec.plus_one total (term.0, meant term.1) }
+    ensures { result ≡ spec.plus_one total (term.0, as_value term.1) }
 {
     let (minus, value) = term;
     let total = total?;
@@ -56,7 +56,7 @@ fn plus(total: Option<i64>, term: (bool, Value)) -> Option<i64>
 
 /// The greatest of some numbers that all have a value.
 pub fn greatest_of_all(values: &[Value]) -> Value
-    ensures { meant result ≡ spec.as_number (spec.chosen_from int_max (map meant values.now)) }
+    ensures { as_value result ≡ spec.as_number (spec.chosen_from int_max (map as_value values.now)) }
 {
     let Some((first, rest)) = values.split_first() else {
         return Value::Number(None);
@@ -69,14 +69,14 @@ pub fn greatest_of_all(values: &[Value]) -> Value
 }
 
 fn greater_of_both(a: Option<i64>, value: Value) -> Option<i64>
-    ensures { result ≡ spec.of_both (λ x y. Some (int_max x y)) a (spec.amount (meant value)) }
+    ensures { result ≡ spec.of_both (λ x y. Some (int_max x y)) a (spec.amount (as_value value)) }
 {
     Some(a?.max(value.number()?))
 }
 
 /// The least of some numbers that all have a value.
 pub fn least_of_all(values: &[Value]) -> Value
-    ensures { meant result ≡ spec.as_number (spec.chosen_from int_min (map meant values.now)) }
+    ensures { as_value result ≡ spec.as_number (spec.chosen_from int_min (map as_value values.now)) }
 {
     let Some((first, rest)) = values.split_first() else {
         return Value::Number(None);
@@ -89,14 +89,14 @@ pub fn least_of_all(values: &[Value]) -> Value
 }
 
 fn less_of_both(a: Option<i64>, value: Value) -> Option<i64>
-    ensures { result ≡ spec.of_both (λ x y. Some (int_min x y)) a (spec.amount (meant value)) }
+    ensures { result ≡ spec.of_both (λ x y. Some (int_min x y)) a (spec.amount (as_value value)) }
 {
     Some(a?.min(value.number()?))
 }
 
 /// The greatest of the values that there are.
 pub fn greatest(values: &[Value]) -> Option<i64>
-    ensures { result ≡ spec.greatest (map meant values.now) }
+    ensures { result ≡ spec.greatest (map as_value values.now) }
 {
     let mut found = None;
     for value in values {
@@ -118,14 +118,14 @@ pub fn greater(a: Option<i64>, b: Option<i64>) -> Option<i64>
 
 /// How many squares a set has.
 pub fn size(x: Value) -> Value
-    ensures { meant result ≡ spec.size_of (meant x) }
+    ensures { as_value result ≡ spec.size_of (as_value x) }
 {
-    counted(count(x.squares()))
+    count_value(count(x.squares()))
 }
 
 /// The value of a number that always has one.
-pub fn counted(n: u32) -> Value
-    ensures { meant result ≡ spec.count n }
+pub fn count_value(n: u32) -> Value
+    ensures { as_value result ≡ spec.count n }
 {
     Value::Number(Some(i64::from(n)))
 }
@@ -147,13 +147,13 @@ pub fn one_if(there: bool) -> u32
 
 /// What the men on a set are worth together: a pawn 1, a knight and a bishop 3, a rook 5 and a queen 9.
 pub fn power(position: &Position, x: Value) -> Value
-    ensures { meant result ≡ spec.power_of position.now.men (meant x) }
+    ensures { as_value result ≡ spec.power_of position.now.men (as_value x) }
 {
-    counted(worth_of_all(position.men(), x.squares()))
+    count_value(material_of(position.men(), x.squares()))
 }
 
-fn worth_of_all(men: &Men, set: u64) -> u32
-    ensures { result ≡ sum_by (worth_there men.now set) squares }
+fn material_of(men: &Men, set: u64) -> u32
+    ensures { result ≡ sum_by (piece_value_in men.now set) squares }
 {
     let minor = either_side(men, Man::N, Man::BlackN) | either_side(men, Man::B, Man::BlackB);
     count(set & either_side(men, Man::P, Man::BlackP))

@@ -6,8 +6,8 @@ ghost use Rattle.cq_position.specs.Attacks.{attacks};
 ghost use Rattle.cq_position.specs.Bitboards.{IsBitboard};
 ghost use Rattle.cq_symmetry.specs.Images.{is_in};
 ghost use Rattle.cql_syntax.specs.Values as spec;
-ghost use Rattle.cql_values.specs.Shown.{meant};
-ghost use Rattle.cql_values.specs.Squares.{is_step_to};
+ghost use Rattle.cql_values.specs.ValueModel.{as_value};
+ghost use Rattle.cql_values.specs.Internal.Squares.{is_step_to};
 
 use crate::value::Value;
 use cq_bits::{attacked, attackers_among, between_all};
@@ -19,28 +19,28 @@ const LIGHT: u64 = 0x55aa_55aa_55aa_55aa;
 
 /// The squares that are not in a set.
 pub fn complement(x: Value) -> Value
-    ensures { meant result ≡ spec.complement_of (meant x) }
+    ensures { as_value result ≡ spec.complement_of (as_value x) }
 {
     Value::Set(!x.squares())
 }
 
 /// The light squares of a set.
 pub fn light(x: Value) -> Value
-    ensures { meant result ≡ spec.light_of (meant x) }
+    ensures { as_value result ≡ spec.light_of (as_value x) }
 {
     Value::Set(x.squares() & LIGHT)
 }
 
 /// The dark squares of a set.
 pub fn dark(x: Value) -> Value
-    ensures { meant result ≡ spec.dark_of (meant x) }
+    ensures { as_value result ≡ spec.dark_of (as_value x) }
 {
     Value::Set(x.squares() & !LIGHT)
 }
 
 /// The squares that are in one of some sets.
 pub fn union(values: &[Value]) -> u64
-    ensures { IsBitboard result (λ s. list_any (λ v. spec.has (meant v) s) values.now) }
+    ensures { IsBitboard result (λ s. list_any (λ v. spec.has (as_value v) s) values.now) }
 {
     let mut mask = 0;
     for value in values {
@@ -51,7 +51,7 @@ pub fn union(values: &[Value]) -> u64
 
 /// The squares that are in each of some sets.
 pub fn intersection(values: &[Value]) -> u64
-    ensures { IsBitboard result (λ s. list_all (λ v. spec.has (meant v) s) values.now) }
+    ensures { IsBitboard result (λ s. list_all (λ v. spec.has (as_value v) s) values.now) }
 {
     let mut mask = u64::MAX;
     for value in values {
@@ -69,28 +69,28 @@ pub fn has_square(set: u64, square: Square) -> bool
 
 /// The squares of the first set whose men attack a square of the second.
 pub fn attacking(position: &Position, x: Value, y: Value) -> Value
-    ensures { meant result ≡ spec.related (attacks position.now.men) (meant x) (meant y) }
+    ensures { as_value result ≡ spec.related (attacks position.now.men) (as_value x) (as_value y) }
 {
     Value::Set(attackers_among(position, x.squares(), y.squares()))
 }
 
 /// The squares of the first set that a man on a square of the second attacks.
 pub fn attacked_by(position: &Position, x: Value, y: Value) -> Value
-    ensures { meant result ≡ spec.related (λ s t. attacks position.now.men t s) (meant x) (meant y) }
+    ensures { as_value result ≡ spec.related (λ s t. attacks position.now.men t s) (as_value x) (as_value y) }
 {
     Value::Set(x.squares() & attacked(position, y.squares()))
 }
 
 /// The squares strictly between a square of the one and a square of the other set, of one rank, file or diagonal.
 pub fn between(x: Value, y: Value) -> Value
-    ensures { meant result ≡ spec.between_of (meant x) (meant y) }
+    ensures { as_value result ≡ spec.between_of (as_value x) (as_value y) }
 {
     Value::Set(between_all(x.squares(), y.squares()))
 }
 
 /// The squares to which `k` steps in one of the directions lead from a square of the set, for some `k` from `m` to `n`.
 pub fn reached(directions: &[Compass], m: u32, n: u32, x: Value) -> Value
-    ensures { meant result ≡ spec.reached_of directions.now m n (meant x) }
+    ensures { as_value result ≡ spec.reached_of directions.now m n (as_value x) }
 {
     Value::Set(reached_from_all(directions, m, n, x.squares()))
 }

@@ -8,12 +8,12 @@ ghost use Rattle.cq_position.specs.Board.{man_at, stands};
 ghost use Rattle.cq_position.specs.Men.{man_number};
 ghost use Rattle.cq_symmetry.specs.Images.{is_in};
 ghost use Rattle.cql_syntax.specs.Meaning as meaning;
-ghost use Rattle.cql_values.specs.Asked.{AreTheMen};
-ghost use Rattle.cql_values.specs.Shown.{meant};
+ghost use Rattle.cql_values.specs.FilterValues.{AreMenOf};
+ghost use Rattle.cql_values.specs.ValueModel.{as_value};
 ghost use Rattle.cql_values.specs.Trees.{searched_tree};
 
 use crate::headers::year;
-use crate::numbers::counted;
+use crate::numbers::count_value;
 use crate::value::Value;
 use crate::walks::{children, depth, ply};
 use cq_common::NoMemory;
@@ -68,7 +68,7 @@ fn man_numbered(number: usize) -> Man
 
 /// The men of a set: bit k is man k.
 pub fn listed_men(alloc: Global, wanted: u16) -> Result<Vec<Man>, NoMemory>
-    ensures { IfOk result (λ listed. AreTheMen wanted listed.items) }
+    ensures { IfOk result (λ listed. AreMenOf wanted listed.items) }
 {
     let mut listed = Vec::new(alloc);
     for man in &Man::ALL {
@@ -89,7 +89,7 @@ fn list_if(listed: &mut Vec<Man>, there: bool, man: Man) -> Result<(), NoMemory>
 
 /// The squares of a designator on which one of its men stands, where its men are listed.
 pub fn standing_of(position: &Position, d: &Designator, listed: &[Man]) -> u64
-    requires { AreTheMen d.now.men listed.now }
+    requires { AreMenOf d.now.men listed.now }
     ensures { IsBitboard result (meaning.stands_on position.now.men (Some d.now)) }
 {
     d.part.squares & squares_of_all(position.men(), listed)
@@ -123,13 +123,13 @@ pub fn word_at(
 ) -> Result<Value, NoMemory>
     requires tree { IsTree game.now.nodes }
     requires node { n < length game.now.nodes }
-    ensures { IfOk result (λ v. meant v ≡ meaning.word_of (searched_tree game.now variations) word n) }
+    ensures { IfOk result (λ v. as_value v ≡ meaning.word_of (searched_tree game.now variations) word n) }
 {
     let position = game.position(n);
     Ok(match word {
         Plain::Check => Value::Truth(in_check(position, position.side())),
-        Plain::Mate => Value::Truth(mated(position)),
-        Plain::Stalemate => Value::Truth(stalemated(position)),
+        Plain::Mate => Value::Truth(is_mated(position)),
+        Plain::Stalemate => Value::Truth(is_stalemated(position)),
         Plain::Wtm => Value::Truth(is_white(position.side())),
         Plain::Btm => Value::Truth(!is_white(position.side())),
         Plain::Initial => Value::Truth(n == 0),
@@ -137,22 +137,22 @@ pub fn word_at(
         Plain::Mainline => Value::Truth(game.is_main(n)),
         Plain::Variation => Value::Truth(!game.is_main(n)),
         Plain::HasComment => Value::Truth(game.comments(n) != 0),
-        Plain::Ply => counted(ply(alloc, game, n)?),
-        Plain::MoveNumber => counted(position.number()),
-        Plain::Depth => counted(depth(alloc, game, n)?),
+        Plain::Ply => count_value(ply(alloc, game, n)?),
+        Plain::MoveNumber => count_value(position.number()),
+        Plain::Depth => count_value(depth(alloc, game, n)?),
         Plain::Year => Value::Number(year(game)),
     })
 }
 
 /// Whether the side to move is in check and has no legal move.
-pub fn mated(position: &Position) -> bool
+pub fn is_mated(position: &Position) -> bool
     ensures { result ≡ (meaning.is_check position.now && not (has_legal_move position.now)) }
 {
     in_check(position, position.side()) && is_mate(position)
 }
 
 /// Whether the side to move is not in check and has no legal move.
-pub fn stalemated(position: &Position) -> bool
+pub fn is_stalemated(position: &Position) -> bool
     ensures { result ≡ (not (meaning.is_check position.now) && not (has_legal_move position.now)) }
 {
     !in_check(position, position.side()) && is_stalemate(position)

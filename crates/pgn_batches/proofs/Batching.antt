@@ -1,9 +1,9 @@
 -- Batches of lists that grow.
 use Rattle.std.proofs.Common.{◌≡◌, ◌+◌, List, [], ◌∷◌, ◌++◌, Bool, true, false, refl, sym, ap, ◌∙◌, if◌then◌else◌}
 use Rattle.std.proofs.lemmas.List.{append-nil, append_assoc}
-use Rattle.pgn_batches.specs.declared.kept.KeptGame.{KeptGame}
+use Rattle.pgn_batches.specs.declared.kept_game.KeptGame.{KeptGame}
 use Rattle.pgn_batches.specs.Batching.{is_full, full_at, full_from, left_from, full_batches, left_over, flat}
-use Rattle.pgn_batches.specs.Kept.{KeptGames}
+use Rattle.pgn_batches.specs.KeptGames.{KeptGames}
 
 splits_if : (b : Bool) (x : KeptGames) (full1 full2 more1 more2 : List KeptGames) (left1 left2 : KeptGames) (after : KeptGames → List KeptGames)
     → more1 ≡ full1 ++ after left1 → more2 ≡ full2 ++ after left2

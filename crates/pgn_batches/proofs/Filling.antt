@@ -7,16 +7,16 @@ use Rattle.pgn_cut.specs.declared.cutter.Cutter.{Cutter}
 use Rattle.pgn_batches.specs.declared.batch.Batch.{Batch}
 use Rattle.pgn_batches.specs.declared.state.Batches.{Batches}
 use Rattle.pgn_batches.specs.Batching.{full_batches}
-use Rattle.pgn_batches.specs.Kept.{KeptGames}
+use Rattle.pgn_batches.specs.KeptGames.{KeptGames}
 use Rattle.pgn_batches.specs.Queues.{Fills, IsDone, IsNextBatch, GivesLast}
 use Rattle.pgn_batches.specs.Streams.{Stands}
-use Rattle.pgn_batches.specs.Filling.{most_read, Took, HasRead, HasReadLost, HasFilled, HasLost}
-use Rattle.pgn_batches.specs.Nexts.{Moves, GivesBatch, HasGivenAll, HasGivenFull, SaysNext}
+use Rattle.pgn_batches.specs.Filling.{most_read, IsPieceTaken, HasRead, HasReadLost, HasFilled, HasLost}
+use Rattle.pgn_batches.specs.NextBatch.{Moves, GivesBatch, HasGivenAll, HasGivenFull, IsNextResult}
 use Rattle.pgn_batches.specs.Whole.{closed_games, cut_games}
 use Rattle.pgn_batches.proofs.Batching.{full_grow}
 use Rattle.pgn_batches.proofs.Queues.{all_given, full_is_batch}
 use Rattle.pgn_batches.specs.declared.state.Window.{Window}
-use Rattle.pgn_batches.specs.Windows.{HasOpen, Shows}
+use Rattle.pgn_batches.specs.Windows.{HasOpen, IsWindowOf}
 
 -- the closed games of a prefix fill no more batches
 abbrev pub Grows : Type 0
@@ -119,7 +119,7 @@ nearer limit limit' t t' p false false same more reads some low = let s = some r
 
 pub took_none : {T E : Type 0} (r : Result T E) (was now : Batches) (piece : List ℕ) → was.taken ≤ was.limit → length piece ≡ 0
     → OnOk r ((front : List ℕ) (m : ℕ) → Stands was front m → Stands now front m) → OnOk r (now.ended ≡ true)
-    → now.limit ≡ was.limit → now.taken ≡ was.taken → OnOk r (Took was now piece)
+    → now.limit ≡ was.limit → now.taken ≡ was.taken → OnOk r (IsPieceTaken was now piece)
 took_none (Ok x) was now [] low none stands ended limit taken = record {
   stands = λ front m stood. subst (λ (f : List ℕ). Stands now f m) (sym (append-nil front)) (stands front m stood);
   at_end = λ over. refl;
@@ -133,7 +133,7 @@ took_none (Err e) was now piece low none stands ended limit taken = tt
 
 pub took_some : {T E : Type 0} (r : Result T E) (was now : Batches) (piece : List ℕ) → 0 < length piece → was.taken + length piece ≤ was.limit + 1
     → OnOk r ((front : List ℕ) (m : ℕ) → Stands was front m → length front + length piece ≤ was.limit + 1 → Stands now (front ++ piece) m) → now.ended ≡ false
-    → now.limit ≡ was.limit → OnOk r (now.taken ≡ was.taken + length piece) → OnOk r (Took was now piece)
+    → now.limit ≡ was.limit → OnOk r (now.taken ≡ was.taken + length piece) → OnOk r (IsPieceTaken was now piece)
 took_some (Ok x) was now piece some room stands reads limit taken = record {
   stands = λ front m stood. stands front m stood (let t = stood.taken in omega arith);
   at_end = λ over. absurd (grind arith);
@@ -158,7 +158,7 @@ stands_same mid now front m n same s open_ over = record {
   cutter = subst (λ (k : Cutter). CutterStands k front) (sym same.cutter) s.cutter;
   taken = same.taken ∙ s.taken;
   few = subst (λ (k : ℕ). length front ≤ k + 1) (sym same.limit) s.few;
-  window = subst (λ (w : Window). Shows w front) (sym same.window) s.window;
+  window = subst (λ (w : Window). IsWindowOf w front) (sym same.window) s.window;
   opens = subst (λ (w : Window). HasOpen w front) (sym same.window) s.opens;
   open_ = open_;
   at_end = over;
@@ -212,7 +212,7 @@ given_full was mid now left left_after batch rest so same gives first =
     moves_of was mid now left left_after (GivesBatch now batch) so same (λ front m s. full_by mid.ended mid now front m batch rest same s refl gives first)
 
 pub given_last : (r : Option Batch) (was mid now : Batches) (left left_after : Option (List ℕ)) → HasFilled was mid left left_after → IsSame mid now → mid.ended ≡ true
-    → ((games : KeptGames) (m : ℕ) → Fills mid.queue games m ⊎ IsDone mid.queue games m → GivesLast games m r now.queue) → SaysNext was now left left_after (Ok r)
+    → ((games : KeptGames) (m : ℕ) → Fills mid.queue games m ⊎ IsDone mid.queue games m → GivesLast games m r now.queue) → IsNextResult was now left left_after (Ok r)
 given_last None was mid now left left_after so same over gives =
     moves_of was mid now left left_after (HasGivenAll now) so same
     (λ front m s.

@@ -7,9 +7,9 @@ use Rattle.std.proofs.lemmas.Option.{slice_get_within, slice_get-get_or, get_or_
 use Rattle.std.proofs.Math.ListN.{get_or-append}
 use Rattle.std.proofs.Math.Seq.{take-append-add}
 use Rattle.pgn_cut.specs.Cut.{cut, closed}
-use Rattle.pgn_cut.specs.Spans.{AreInOrder, FinishesAt}
+use Rattle.pgn_cut.specs.Spans.{AreSpansInOrder, FinishesAt}
 use Rattle.pgn_cut.specs.declared.span.Span.{Span}
-use Rattle.pgn_batches.specs.Kept.{KeptGames, kept}
+use Rattle.pgn_batches.specs.KeptGames.{KeptGames, kept}
 use Rattle.pgn_batches.specs.Batching.{batches, full_batches, full_from, is_full, left_over, as_last, flat}
 use Rattle.pgn_batches.specs.Laws.{Laws}
 use Rattle.pgn_batches.specs.Whole.{closed_games, cut_games, whole}

@@ -7,10 +7,10 @@ use Rattle.std.proofs.Math.Seq.{take-append_seam}
 use Rattle.pgn_cut.specs.Cut.{cut, closed}
 use Rattle.pgn_cut.specs.Spans.{EndsBy}
 use Rattle.pgn_cut.specs.declared.span.Span.{Span}
-use Rattle.pgn_batches.specs.declared.kept.KeptGame.{KeptGame}
+use Rattle.pgn_batches.specs.declared.kept_game.KeptGame.{KeptGame}
 use Rattle.pgn_batches.specs.Batching.{flat, full_batches}
-use Rattle.pgn_batches.specs.Kept.{KeptGames}
-use Rattle.pgn_batches.specs.Kept.{most_kept, kept}
+use Rattle.pgn_batches.specs.KeptGames.{KeptGames}
+use Rattle.pgn_batches.specs.KeptGames.{most_kept, kept}
 use Rattle.pgn_batches.specs.Whole.{closed_games, whole}
 use Rattle.pgn_batches.proofs.Batching.{full_grow, flat_append}
 

@@ -9,11 +9,11 @@ use Rattle.std.proofs.Math.Seq.{take-append_seam}
 use Rattle.std.proofs.Math.ListN.{get_or-append}
 use Rattle.std.proofs.lemmas.List.{take-append-le}
 use Rattle.std.proofs.lemmas.Option.{slice_get_within, slice_get-get_or, get_or_from_slice_get}
-use Rattle.pgn_batches.specs.declared.kept.KeptGame.{KeptGame}
+use Rattle.pgn_batches.specs.declared.kept_game.KeptGame.{KeptGame}
 use Rattle.pgn_batches.specs.declared.batch.Batch.{Batch}
 use Rattle.pgn_batches.specs.declared.state.Queue.{Queue}
 use Rattle.pgn_batches.specs.Batching.{is_full, full_at, size_of, full_batches, left_over, full_from, left_from, flat, batches, as_last}
-use Rattle.pgn_batches.specs.Kept.{KeptGames}
+use Rattle.pgn_batches.specs.KeptGames.{KeptGames}
 use Rattle.pgn_batches.specs.Queues.{HasGames, AreBatches, Fills, IsNextBatch, IsDone, IsBatchAt}
 use Rattle.pgn_batches.proofs.Batching.{full_push, left_push, left_low, none_low, all_there, flat_append}
 

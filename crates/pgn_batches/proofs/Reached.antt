@@ -13,7 +13,7 @@ use Rattle.pgn_batches.specs.Laws.{Laws}
 use Rattle.pgn_batches.specs.Queues.{IsNextBatch, IsBatchAt}
 use Rattle.pgn_batches.specs.Streams.{Stands}
 use Rattle.pgn_batches.specs.Whole.{closed_games, cut_games}
-use Rattle.pgn_batches.specs.Nexts.{Moves, GivesBatch}
+use Rattle.pgn_batches.specs.NextBatch.{Moves, GivesBatch}
 use Rattle.pgn_batches.proofs.Filling.{consumes_none, consumes_on}
 use Rattle.pgn_batches.proofs.Given.{flat_next, full_first, full_low, full_rises, given, given_full, given_stays, within_first}
 

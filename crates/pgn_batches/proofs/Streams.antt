@@ -7,23 +7,23 @@ use Rattle.std.proofs.Math.Seq.{drop-append_seam}
 use Rattle.std.proofs.lemmas.List.Elements.{All-nil, All-cons, All-head, All-drop}
 use Rattle.pgn_cut.specs.Cut.{cut, closed}
 use Rattle.pgn_cut.specs.OpenGames.{AreOpenAt, IsOpenAt, later_games}
-use Rattle.pgn_cut.specs.Spans.{EndsBy, AreInOrder}
+use Rattle.pgn_cut.specs.Spans.{EndsBy, AreSpansInOrder}
 use Rattle.pgn_cut.specs.Streams.{Stands as CutterStands}
 use Rattle.pgn_cut.specs.declared.span.Span.{Span}
 use Rattle.pgn_cut.specs.declared.cutter.Cutter.{Cutter}
-use Rattle.pgn_batches.specs.Kept.{KeptGames, kept}
+use Rattle.pgn_batches.specs.KeptGames.{KeptGames, kept}
 use Rattle.pgn_batches.specs.Queues.{Fills}
 use Rattle.pgn_batches.specs.Streams.{Stands}
 use Rattle.pgn_batches.specs.Whole.{closed_games, cut_games}
-use Rattle.pgn_batches.specs.Windows.{BeginsThere, HasOpen, IsInside, Shows}
+use Rattle.pgn_batches.specs.Windows.{BeginsInWindow, HasOpen, IsInside, IsWindowOf}
 use Rattle.pgn_batches.specs.declared.state.Batches.{Batches}
 use Rattle.pgn_batches.specs.declared.state.Window.{Window}
 use Rattle.pgn_batches.proofs.KeptStay.{Grow, Within, Split, All_front, closed_within, all_stay}
 
 abbrev pub Order : Type 0
-Order = (archive : List ℕ) → AreInOrder 0 (length archive) (cut archive)
+Order = (archive : List ℕ) → AreSpansInOrder 0 (length archive) (cut archive)
 
-pub count_within : (a b : ℕ) (ss : List Span) → AreInOrder a b ss → a ≤ b → a + length ss ≤ b
+pub count_within : (a b : ℕ) (ss : List Span) → AreSpansInOrder a b ss → a ≤ b → a + length ss ≤ b
 count_within a b [] order low = omega arith
 count_within a b (s ∷ ss) order low =
     let r = count_within s.end b ss order.2 order.1.1 in let p = order.0 in let e = order.1.0 in omega arith
@@ -78,12 +78,12 @@ pub inside : Within → (w : Window) (front piece : List ℕ) (news last : List 
 inside within w front piece news last at opens here is = λ i d below.
     let later : later_games front piece ≡ news ++ last = ap (drop (length (closed front))) is ∙ drop-append_seam (closed front) (news ++ last) in
     let s = get_or news i d in
-    let begins = All_front (BeginsThere w (length front)) news last (subst (All (BeginsThere w (length front))) later (opens piece)) i d below in
+    let begins = All_front (BeginsInWindow w (length front)) news last (subst (All (BeginsInWindow w (length front))) later (opens piece)) i d below in
     let ends = middle (EndsBy (length (front ++ piece))) (cut (front ++ piece)) (closed front) news last is (within (front ++ piece)) i d below in
     let some = ends.0 in
     let most = ends.1 in
     let l = length-append front piece in
-    record { begins = subst (λ (k : ℕ). BeginsThere w k s) (sym here) begins; some = some; to = omega (arith, most, l, here) }
+    record { begins = subst (λ (k : ℕ). BeginsInWindow w k s) (sym here) begins; some = some; to = omega (arith, most, l, here) }
 
 -- ---- where the open game begins after a piece
 
@@ -110,11 +110,11 @@ at_place (Some p) front more [] from = All-nil (IsAtPlace (Some p) (length front
 at_place (Some p) front more (g ∷ games) from =
     All-cons (IsAtPlace (Some p) (length front)) g games (first_place p (length front) _ g.start from.0) (λ i d below. inr (from.1 i d below))
 
-goes_before : (was now : Window) (at size end p : ℕ) (s : Span) → s.start ≡ p → p < at → (p < at → now.from ≡ was.from) → BeginsThere was at s → BeginsThere now end s
+goes_before : (was now : Window) (at size end p : ℕ) (s : Span) → s.start ≡ p → p < at → (p < at → now.from ≡ was.from) → BeginsInWindow was at s → BeginsInWindow now end s
 goes_before was now at size end p s is low same (inl old) = inl (old ∙ sym (same low))
 goes_before was now at size end p s is low same (inr old) = absurd (omega (arith, old, is, low))
 
-goes_after : (now : Window) (at size end p : ℕ) (s : Span) → end ≡ at + size → s.start ≡ p → now.from ≡ min p (at + size) → (at + size < p) ⊎ (p ≤ at + size) → BeginsThere now end s
+goes_after : (now : Window) (at size end p : ℕ) (s : Span) → end ≡ at + size → s.start ≡ p → now.from ≡ min p (at + size) → (at + size < p) ⊎ (p ≤ at + size) → BeginsInWindow now end s
 goes_after now at size end p s long is from (inl beyond) = inr (omega (arith, long, is, beyond))
 goes_after now at size end p s long is from (inr within) = inl (let m : min p (at + size) ≡ p = grind (arith, within) in is ∙ sym (from ∙ m))
 
@@ -126,11 +126,11 @@ pub record MovesTo (was now : Window) (o : Option ℕ) (at size : ℕ) : Type 0 
   pub moved : at ≤ place → now.from ≡ min place (at + size)
 
 begins_by : (was now : Window) (o : Option ℕ) (at size end : ℕ) (s : Span) → (moves : MovesTo was now o at size) → end ≡ at + size → s.start ≡ moves.place
-    → BeginsThere was at s → (moves.place < at) ⊎ (at ≤ moves.place) → BeginsThere now end s
+    → BeginsInWindow was at s → (moves.place < at) ⊎ (at ≤ moves.place) → BeginsInWindow now end s
 begins_by was now o at size end s moves long is old (inl low) = goes_before was now at size end moves.place s is low moves.same old
 begins_by was now o at size end s moves long is old (inr high) = goes_after now at size end moves.place s long is (moves.moved high) (cases_lt (at + size) moves.place)
 
-begins : (was now : Window) (o : Option ℕ) (at size end : ℕ) (s : Span) → MovesTo was now o at size → end ≡ at + size → BeginsThere was at s → IsAtPlace o end s → BeginsThere now end s
+begins : (was now : Window) (o : Option ℕ) (at size end : ℕ) (s : Span) → MovesTo was now o at size → end ≡ at + size → BeginsInWindow was at s → IsAtPlace o end s → BeginsInWindow now end s
 begins was now None at size end s moves long old new = inr new
 begins was now (Some p) at size end s moves long old (inr new) = inr new
 begins was now (Some p) at size end s moves long old (inl new) = begins_by was now (Some p) at size end s moves long (new ∙ sym moves.is) old (cases_lt moves.place at)
@@ -139,11 +139,11 @@ pub opened : Grow → (was now : Window) (o : Option ℕ) (front piece : List �
     → MovesTo was now o at (length piece) → HasOpen now (front ++ piece)
 opened grow was now o front piece at here old open_ moves = λ more i d below.
     let l = length-append front piece in
-    let olds = later_on grow front piece more (BeginsThere was (length front)) (old (piece ++ more)) i d below in
+    let olds = later_on grow front piece more (BeginsInWindow was (length front)) (old (piece ++ more)) i d below in
     let news = at_place o (front ++ piece) more (later_games (front ++ piece) more) (open_ more) i d below in
     let s = get_or (later_games (front ++ piece) more) i d in
     begins was now o at (length piece) (length (front ++ piece)) s moves (l ∙ ap (λ (k : ℕ). k + length piece) (sym here))
-    (subst (λ (k : ℕ). BeginsThere was k s) (sym here) olds) news
+    (subst (λ (k : ℕ). BeginsInWindow was k s) (sym here) olds) news
 
 -- ---- what stands
 
@@ -156,7 +156,7 @@ pub record TookPiece (b now : Batches) (front piece : List ℕ) (news : List Spa
   pub cutter : CutterStands now.cutter (front ++ piece)
   pub taken : now.taken ≡ b.taken + length piece
   pub few : length (front ++ piece) ≤ now.limit + 1
-  pub shows : Shows now.window (front ++ piece)
+  pub shows : IsWindowOf now.window (front ++ piece)
   pub opens : HasOpen now.window (front ++ piece)
   pub open_ : b.ended ≡ false
   pub still : now.ended ≡ false
@@ -184,7 +184,7 @@ none_ends : (ss : List Span) → All (EndsBy 0) ss → ss ≡ []
 none_ends [] all = refl
 none_ends (s ∷ ss) all = let h = All-head (EndsBy 0) s ss all in let p = h.0 in let q = h.1 in absurd (omega arith)
 
-pub starts : Within → Split → (b : Batches) → CutterStands b.cutter [] → b.taken ≡ 0 → Shows b.window [] → Fills b.queue [] 0 → b.ended ≡ false → Stands b [] 0
+pub starts : Within → Split → (b : Batches) → CutterStands b.cutter [] → b.taken ≡ 0 → IsWindowOf b.window [] → Fills b.queue [] 0 → b.ended ≡ false → Stands b [] 0
 starts within whole_ b cutter taken window fills reads =
     let none = none_ends (closed []) (closed_within within whole_ []) in
     record {
@@ -214,7 +214,7 @@ comes_to_end b now front m news was is same reads over fills =
       cutter = subst (λ (k : Cutter). CutterStands k front) (sym same.cutter) was.cutter;
       taken = same.taken ∙ was.taken;
       few = subst (λ (n : ℕ). length front ≤ n + 1) (sym same.limit) was.few;
-      window = subst (λ (w : Window). Shows w front) (sym same.window) was.window;
+      window = subst (λ (w : Window). IsWindowOf w front) (sym same.window) was.window;
       opens = subst (λ (w : Window). HasOpen w front) (sym same.window) was.opens;
       open_ = λ o. absurd (grind arith);
       at_end = λ e. inl (subst (λ (gs : KeptGames). Fills now.queue gs m) (sym games) (fills (closed_games front) m (was.open_ reads)));

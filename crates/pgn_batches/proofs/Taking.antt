@@ -10,10 +10,10 @@ use Rattle.pgn_cut.specs.Cut.{cut, closed}
 use Rattle.pgn_batches.specs.Games.{games_of, number_of}
 use Rattle.pgn_batches.specs.Batching.{batches, full_batches, full_from, is_full, left_over, as_last, flat}
 use Rattle.pgn_batches.specs.Filling.{most_read}
-use Rattle.pgn_batches.specs.Kept.{KeptGames, kept}
+use Rattle.pgn_batches.specs.KeptGames.{KeptGames, kept}
 use Rattle.pgn_batches.specs.Laws.{Laws}
-use Rattle.pgn_batches.specs.Nexts.{Moves, GivesBatch, HasGivenAll, HasGivenFull, SaysNext}
-use Rattle.pgn_batches.specs.Rounds.{AreFirst, Gives, Reads, ReadsAll, SaysRounds, TakesAll, TakesWhole}
+use Rattle.pgn_batches.specs.NextBatch.{Moves, GivesBatch, HasGivenAll, HasGivenFull, IsNextResult}
+use Rattle.pgn_batches.specs.Visits.{AreLeadingGames, Gives, Reads, ReadsAll, IsVisitResult, TakesAll, TakesWhole}
 use Rattle.pgn_batches.specs.Streams.{Stands}
 use Rattle.pgn_batches.specs.Whole.{closed_games, cut_games, whole}
 use Rattle.pgn_batches.specs.declared.batch.Batch.{Batch}
@@ -84,9 +84,9 @@ no_rounds laws limit b left Taken stands same reads taken = record {
 -- ---- which games are given
 
 abbrev IsPart : Place → List ℕ → KeptGames → Type 0
-IsPart place front games = AreFirst games (whole front) ⊎ (ReadsAll place.limit place.left place.now front × AreFirst games (cut_games front))
+IsPart place front games = AreLeadingGames games (whole front) ⊎ (ReadsAll place.limit place.left place.now front × AreLeadingGames games (cut_games front))
 
-flat_first : (bs : List KeptGames) (m : ℕ) → AreFirst (flat (take m bs)) (flat bs)
+flat_first : (bs : List KeptGames) (m : ℕ) → AreLeadingGames (flat (take m bs)) (flat bs)
 flat_first bs m = (
   flat (drop m bs),
   sym (ap flat (take-append-drop m bs)) ∙ flat_map-append (λ (x : KeptGames). x) (take m bs) (drop m bs),
@@ -95,15 +95,15 @@ flat_first bs m = (
 part_by : Laws → (place : Place) (front : List ℕ) (m : ℕ) → Reached place front m → (place.b.ended ≡ true) ⊎ (place.b.ended ≡ false) → IsPart place front (given front m)
 part_by laws place front m r (inl over) = inr (
   record { takes = r.takes; within = r.within over; at_end = r.at_end over },
-  subst (AreFirst (given front m)) (all_batches laws (cut_games front)) (flat_first (batches (cut_games front)) m),
+  subst (AreLeadingGames (given front m)) (all_batches laws (cut_games front)) (flat_first (batches (cut_games front)) m),
 )
 part_by laws place front m r (inr reads) = inl
-    (subst (λ gs. AreFirst gs (whole front)) (ap flat (sym (given_full laws front m (r.open_ reads)))) (flat_first (full_batches (closed_games front)) m))
+    (subst (λ gs. AreLeadingGames gs (whole front)) (ap flat (sym (given_full laws front m (r.open_ reads)))) (flat_first (full_batches (closed_games front)) m))
 
 part : Laws → (place : Place) (front : List ℕ) (m : ℕ) → Reached place front m → IsPart place front (given front m)
 part laws place front m r = part_by laws place front m r (cases_Bool place.b.ended)
 
-needed_games : Laws → (front : List ℕ) (m : ℕ) → Needed front m → AreFirst (whole (take (length front - most_read) front)) (given front m)
+needed_games : Laws → (front : List ℕ) (m : ℕ) → Needed front m → AreLeadingGames (whole (take (length front - most_read) front)) (given front m)
 needed_games laws front m needed = given_begins laws front (length front - most_read) m needed
 
 -- ---- how a call for the next batch ends the rounds
@@ -231,8 +231,8 @@ goes_on place Taken New count batch turn taken =
 
 -- what a refused call for the next batch comes to
 pub refused : Laws → {X : Type 0} (place : Place) (now : Batches) (after : Option (List ℕ)) (Taken : KeptGames → Type 0) (Stopped : KeptGames → KeptGames → X → Type 0) (count : ℕ)
-    (refusal : Refusal BatchFault) → Rounds place Taken count → SaysNext place.b now place.now after (Err refusal)
-    → SaysRounds place.limit place.left after Taken Stopped (Err refusal)
+    (refusal : Refusal BatchFault) → Rounds place Taken count → IsNextResult place.b now place.now after (Err refusal)
+    → IsVisitResult place.limit place.left after Taken Stopped (Err refusal)
 refused laws place now after Taken Stopped count (Fault ReadFault) so moves =
     let given_ = called laws place now after Taken count (HasGivenFull place.b (λ n. n ≤ place.b.limit)) so moves in
     subst (λ k. TakesWhole place.limit place.left after (λ n. n ≤ k) Taken) so.reached.limit_

@@ -6,9 +6,9 @@ use Rattle.std.proofs.Math.Seq.{drop-append_seam}
 use Rattle.std.proofs.lemmas.List.Elements.{All-cons, All-drop, All-head, All-nil}
 use Rattle.pgn_cut.specs.Spans.{EndsBy}
 use Rattle.pgn_cut.specs.declared.span.Span.{Span}
-use Rattle.pgn_batches.specs.Kept.{KeptGames, kept, most_kept}
-use Rattle.pgn_batches.specs.Windows.{IsInside, Shows}
-use Rattle.pgn_batches.specs.declared.kept.KeptGame.{KeptGame}
+use Rattle.pgn_batches.specs.KeptGames.{KeptGames, kept, most_kept}
+use Rattle.pgn_batches.specs.Windows.{IsInside, IsWindowOf}
+use Rattle.pgn_batches.specs.declared.kept_game.KeptGame.{KeptGame}
 use Rattle.pgn_batches.specs.declared.state.Window.{Window}
 
 -- ---- lists
@@ -131,7 +131,7 @@ begun from at start last archive piece long inside (inl is) some few within =
 begun from at start last archive piece long inside (inr after) some few within = from_piece most_kept from at start last archive piece long inside after some within
 
 -- what the code takes of a game is what is kept of it
-pub cut_out : (w : Window) (at : ℕ) (piece archive : List ℕ) (s : Span) (last : ℕ) → Shows w archive → length archive ≡ at → IsInside w at (length piece) s → last ≡ min s.end (s.start + most_kept)
+pub cut_out : (w : Window) (at : ℕ) (piece archive : List ℕ) (s : Span) (last : ℕ) → IsWindowOf w archive → length archive ≡ at → IsInside w at (length piece) s → last ≡ min s.end (s.start + most_kept)
     → part_of w.bytes.items w.from s.start last ++ part_of piece at s.start last ≡ take most_kept (slice_range (archive ++ piece) s.start s.end)
 cut_out w at piece archive s last shows long inside is =
     let a = inside.some in
@@ -166,7 +166,7 @@ grows most from archive piece n inside is =
     ∙ sym (take_append most (drop from archive) piece) ∙ ap (take most) (sym (drop-append-le from archive piece inside))
 
 pub grown : (was now : Window) (piece : List ℕ) (n : ℕ) → now.from ≡ was.from → now.bytes.items ≡ was.bytes.items ++ take (min (length piece) n) piece
-    → n ≡ most_kept - length was.bytes.items → (archive : List ℕ) → Shows was archive → Shows now (archive ++ piece)
+    → n ≡ most_kept - length was.bytes.items → (archive : List ℕ) → IsWindowOf was archive → IsWindowOf now (archive ++ piece)
 grown was now piece n from more room archive shows =
     let l = length-append archive piece in
     let w = shows.within in
@@ -183,7 +183,7 @@ take_none (suc n) = refl
 
 -- the window begins anew after so many bytes of the piece
 pub anew : (mid : Window) (at passed : ℕ) (archive piece : List ℕ) → length archive ≡ at → passed ≤ length piece → mid.from ≡ at + passed → mid.bytes.items ≡ []
-    → Shows mid (archive ++ take passed piece)
+    → IsWindowOf mid (archive ++ take passed piece)
 anew mid at passed archive piece long few from none =
     let l = length-append archive (take passed piece) in
     let k = length-take passed piece in

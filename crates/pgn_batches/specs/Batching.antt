@@ -2,7 +2,7 @@
 use Rattle.std.specs.Prelude.{ℕ, Bool, ◌||◌, List, [], ◌∷◌, ◌++◌, length, sum_by, nat_le, if◌then◌else◌}
 use Rattle.std.specs.List.{flat_map}
 use Rattle.pgn_batches.specs.Limits.{longest}
-use Rattle.pgn_batches.specs.Kept.{KeptGames}
+use Rattle.pgn_batches.specs.KeptGames.{KeptGames}
 
 -- how many bytes are kept of some games
 abbrev pub size_of : KeptGames → ℕ

@@ -13,7 +13,7 @@ abbrev pub most_read : ℕ
 most_read = 65536
 
 -- a piece was taken, an empty one at the end
-pub record Took (was now : Batches) (piece : List ℕ) : Type 0 where
+pub record IsPieceTaken (was now : Batches) (piece : List ℕ) : Type 0 where
   pub stands : (front : List ℕ) (m : ℕ) → Stands was front m → Stands now (front ++ piece) m
   pub at_end : now.ended ≡ true → length piece ≡ 0
   pub some : now.ended ≡ false → 0 < length piece

@@ -1,10 +1,10 @@
 -- What taking the batches of an archive rests on: the laws of cuts and of batches.
 use Rattle.std.specs.Prelude.{◌≡◌, ℕ, List, ◌++◌, length}
 use Rattle.pgn_cut.specs.Cut.{cut, closed}
-use Rattle.pgn_cut.specs.Spans.{AreInOrder, FinishesAt}
+use Rattle.pgn_cut.specs.Spans.{AreSpansInOrder, FinishesAt}
 use Rattle.pgn_cut.specs.declared.span.Span.{Span}
 use Rattle.pgn_batches.specs.Batching.{flat, full_batches, left_over}
-use Rattle.pgn_batches.specs.Kept.{KeptGames}
+use Rattle.pgn_batches.specs.KeptGames.{KeptGames}
 use Rattle.pgn_batches.specs.Whole.{closed_games}
 
 pub record Laws : Type 0 where
@@ -12,4 +12,4 @@ pub record Laws : Type 0 where
   pub all : (games : KeptGames) → flat (full_batches games) ++ left_over games ≡ games
   pub closed_ : (front more : List ℕ) → (rest : KeptGames) × (closed_games (front ++ more) ≡ closed_games front ++ rest)
   pub cuts : (front : List ℕ) → (last : List Span) × (cut front ≡ closed front ++ last) × FinishesAt (length front) last
-  pub order : (archive : List ℕ) → AreInOrder 0 (length archive) (cut archive)
+  pub order : (archive : List ℕ) → AreSpansInOrder 0 (length archive) (cut archive)

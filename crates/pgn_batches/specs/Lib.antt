@@ -1,12 +1,12 @@
 pub mod Limits
-pub mod Kept
+pub mod KeptGames
 pub mod Batching
 pub mod Whole
 pub mod Windows
 pub mod Queues
 pub mod Streams
 pub mod Filling
-pub mod Nexts
+pub mod NextBatch
 pub mod Games
 pub mod Laws
-pub mod Rounds
+pub mod Visits

@@ -3,7 +3,7 @@ use Rattle.std.specs.Prelude.{◌≡◌, ℕ, ◌+◌, List, [], ◌∷◌, ◌+
 use Rattle.pgn_batches.specs.declared.batch.Batch.{Batch}
 use Rattle.pgn_batches.specs.declared.state.Queue.{Queue}
 use Rattle.pgn_batches.specs.Batching.{size_of, full_batches, left_over, flat, batches}
-use Rattle.pgn_batches.specs.Kept.{KeptGames}
+use Rattle.pgn_batches.specs.KeptGames.{KeptGames}
 
 -- a batch has these games, the first of them with this number
 pub record HasGames (number : ℕ) (games : KeptGames) (batch : Batch) : Type 0 where

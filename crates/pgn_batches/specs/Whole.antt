@@ -3,7 +3,7 @@ use Rattle.std.specs.Prelude.{ℕ, List, length, map, take}
 use Rattle.pgn_cut.specs.Cut.{cut, closed}
 use Rattle.pgn_cut.specs.declared.span.Span.{Span}
 use Rattle.pgn_batches.specs.Batching.{flat, full_batches}
-use Rattle.pgn_batches.specs.Kept.{KeptGames, kept}
+use Rattle.pgn_batches.specs.KeptGames.{KeptGames, kept}
 
 abbrev pub cut_games : List ℕ → KeptGames
 cut_games archive = map (kept archive) (cut archive)

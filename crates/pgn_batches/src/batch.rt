@@ -1,7 +1,7 @@
 //! A batch of games.
 ghost use Rattle.std.specs.Prelude.{◌+◌, ◌<◌, ◌^◌, length, All};
 
-use crate::kept::KeptGame;
+use crate::kept_game::KeptGame;
 use cq_common::Shared;
 
 /// Games that follow one another in an archive, and the number of the first of them there, from 0.

@@ -1,9 +1,9 @@
 //! Cutting the games of an archive out of its pieces.
 ghost use Rattle.std.specs.Prelude.{◌≡◌, ◌+◌, ◌++◌, [], ◌<◌, ◌≤◌, ◌^◌, ℕ, List, length, map, OnOk, OnErr, All, true, false};
-ghost use Rattle.pgn_batches.specs.Kept.{KeptGames, kept};
+ghost use Rattle.pgn_batches.specs.KeptGames.{KeptGames, kept};
 ghost use Rattle.pgn_batches.specs.Queues.{Fills};
 ghost use Rattle.pgn_batches.specs.Streams.{Stands};
-ghost use Rattle.pgn_batches.specs.Windows.{IsInside, Shows};
+ghost use Rattle.pgn_batches.specs.Windows.{IsInside, IsWindowOf};
 
 use crate::state::{Batches, Queue, Window};
 use cq_common::NoMemory;
@@ -22,8 +22,8 @@ fn keep_all(
     requires fills { (games : KeptGames) × (m : ℕ) × Fills queue.old games m × (length games + length spans.now < 2 ^ 61) }
     requires size { at + length piece.now < 2 ^ 62 }
     requires inside { All (IsInside window.now at (length piece.now)) spans.now }
-    requires archive { (archive : List ℕ) × Shows window.now archive × (length archive ≡ at) }
-    ensures { OnOk result ((archive : List ℕ) → Shows window.now archive → length archive ≡ at
+    requires archive { (archive : List ℕ) × IsWindowOf window.now archive × (length archive ≡ at) }
+    ensures { OnOk result ((archive : List ℕ) → IsWindowOf window.now archive → length archive ≡ at
         → (games : KeptGames) (m : ℕ) → Fills queue.old games m
         → Fills queue.new (games ++ map (kept (archive ++ piece.now)) spans.now) m) }
 {

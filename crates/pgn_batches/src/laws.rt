@@ -1,7 +1,7 @@
 //! Laws of batches, for proofs in other crates.
 ghost use Rattle.std.specs.Prelude.{◌≡◌, ◌++◌, ℕ, List};
 ghost use Rattle.pgn_batches.specs.Batching.{flat, full_batches, left_over};
-ghost use Rattle.pgn_batches.specs.Kept.{KeptGames};
+ghost use Rattle.pgn_batches.specs.KeptGames.{KeptGames};
 ghost use Rattle.pgn_batches.specs.Laws.{Laws};
 ghost use Rattle.pgn_batches.specs.Whole.{closed_games, whole};
 

@@ -3,16 +3,16 @@
 
 mod batch;
 mod cutting;
-mod kept;
+mod kept_game;
 pub mod laws;
-mod making;
+mod batch_access;
 mod queue;
 mod reading;
-mod rounds;
+mod visits;
 mod state;
 mod window;
 
 pub use batch::Batch;
-pub use kept::KeptGame;
-pub use rounds::{Ended, Taker, take_batches};
+pub use kept_game::KeptGame;
+pub use visits::{VisitEnd, BatchVisitor, visit_batches};
 pub use state::{BatchFault, Batches};

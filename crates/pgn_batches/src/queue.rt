@@ -1,11 +1,11 @@
 //! Batches that wait, and the games of the one that is not full yet.
 ghost use Rattle.std.specs.Prelude.{◌≡◌, ◌+◌, ◌++◌, ◌⊎◌, ◌∷◌, [], ◌<◌, ◌^◌, ℕ, length, OnOk, None, IfSome, true};
 ghost use Rattle.pgn_batches.specs.Batching.{full_at};
-ghost use Rattle.pgn_batches.specs.Kept.{KeptGames};
+ghost use Rattle.pgn_batches.specs.KeptGames.{KeptGames};
 ghost use Rattle.pgn_batches.specs.Queues.{Fills, IsNextBatch, IsDone, GivesLast};
 
 use crate::batch::Batch;
-use crate::kept::{KeptGame, LONGEST};
+use crate::kept_game::{KeptGame, LONGEST};
 use crate::state::Queue;
 use cq_common::NoMemory;
 use std::alloc::Global;

@@ -3,8 +3,8 @@ ghost use Rattle.std.specs.Prelude.{◌≡◌, ◌+◌, [], ◌<◌, ◌≤◌, 
 ghost use Rattle.std.specs.Io.KnownBytes.{Consumes, IsAtEnd};
 ghost use Rattle.cq_outside.specs.Faults.{HasRefusalCause};
 ghost use Rattle.pgn_batches.specs.Streams.{Stands};
-ghost use Rattle.pgn_batches.specs.Filling.{HasRead, HasReadLost, HasFilled, HasLost, Took, OnFault, OnMemory};
-ghost use Rattle.pgn_batches.specs.Nexts.{SaysNext, HasBatchCause};
+ghost use Rattle.pgn_batches.specs.Filling.{HasRead, HasReadLost, HasFilled, HasLost, IsPieceTaken, OnFault, OnMemory};
+ghost use Rattle.pgn_batches.specs.NextBatch.{IsNextResult, HasBatchCause};
 
 use crate::batch::Batch;
 use crate::laws::batches_stay;
@@ -71,7 +71,7 @@ impl Batches {
         requires reads { self.old.ended ≡ false }
         requires low { self.old.taken ≤ self.old.limit }
         requires room { self.old.taken + length piece.now ≤ self.old.limit + 1 }
-        ensures took { OnOk result (Took self.old self.new piece.now) }
+        ensures took { OnOk result (IsPieceTaken self.old self.new piece.now) }
         ensures limit { self.new.limit ≡ self.old.limit }
         ensures lost { OnErr result (self.new.ended ≡ false) }
     {
@@ -120,7 +120,7 @@ impl Batches {
     pub fn next<S: Source>(&mut self, source: &mut S) -> Result<Option<Batch>, Refusal<BatchFault>>
         requires stands { (front : List ℕ) × (m : ℕ) × Stands self.old front m }
         requires at_end { self.old.ended ≡ true → IsAtEnd (S.left source.old) }
-        ensures says { SaysNext self.old self.new (S.left source.old) (S.left source.new) result }
+        ensures says { IsNextResult self.old self.new (S.left source.old) (S.left source.new) result }
         ensures cause { HasBatchCause (S.faults source.old) (S.faults source.new) result }
         ensures next { S.follows source.old source.new }
     {

@@ -2,7 +2,7 @@
 ghost use Rattle.std.specs.Prelude.{◌+◌, ◌<◌, ◌≤◌, ◌^◌, length, All};
 
 use crate::batch::Batch;
-use crate::kept::KeptGame;
+use crate::kept_game::KeptGame;
 use cq_common::Shared;
 use pgn_cut::Cutter;
 use std::alloc::Global;

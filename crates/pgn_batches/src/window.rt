@@ -1,9 +1,9 @@
 //! The bytes of the open game.
 ghost use Rattle.std.specs.Prelude.{◌≡◌, ◌+◌, ◌-◌, ◌++◌, [], ◌<◌, ◌≤◌, ◌^◌, List, ℕ, length, min, slice_range, IfOk, OnOk};
-ghost use Rattle.pgn_batches.specs.Kept.{kept};
-ghost use Rattle.pgn_batches.specs.Windows.{IsInside, Shows};
+ghost use Rattle.pgn_batches.specs.KeptGames.{kept};
+ghost use Rattle.pgn_batches.specs.Windows.{IsInside, IsWindowOf};
 
-use crate::kept::{KeptGame, LONGEST};
+use crate::kept_game::{KeptGame, LONGEST};
 use crate::state::Window;
 use cq_common::{Bytes, NoMemory};
 use pgn_cut::Span;
@@ -14,7 +14,7 @@ pub(crate) const MOST_KEPT: u64 = LONGEST + 1;
 
 impl Window {
     pub(crate) fn new(alloc: Global) -> Window
-        ensures shows { Shows result [] }
+        ensures shows { IsWindowOf result [] }
         ensures from { result.from ≡ 0 }
     {
         Window {
@@ -24,7 +24,7 @@ impl Window {
     }
 
     /// What is kept of a game that begins with the window or in the piece after its bytes, which stands at the place `at`.
-    #[tactic(auto, unfolding(crate::specs::Kept::most_kept))]
+    #[tactic(auto, unfolding(crate::specs::KeptGames::most_kept))]
     pub(crate) fn game(
         &self,
         alloc: Global,
@@ -34,7 +34,7 @@ impl Window {
     ) -> Result<KeptGame, NoMemory>
         requires size { at + length piece.now < 2 ^ 62 }
         requires inside { IsInside self.now at (length piece.now) span }
-        ensures { IfOk result (λ game. (archive : List ℕ) → Shows self.now archive → length archive ≡ at
+        ensures { IfOk result (λ game. (archive : List ℕ) → IsWindowOf self.now archive → length archive ≡ at
             → game ≡ kept (archive ++ piece.now) span) }
     {
         let end = span.end.min(span.start + MOST_KEPT);
@@ -51,8 +51,8 @@ impl Window {
     /// A piece at the place `at` follows, and the open game begins at `place`: there in the piece, or with the window.
     pub(crate) fn go_on(&mut self, at: u64, piece: &[u8], place: u64) -> Result<(), NoMemory>
         requires size { at + length piece.now < 2 ^ 62 }
-        ensures shows { OnOk result ((archive : List ℕ) → Shows self.old archive → length archive ≡ at
-            → Shows self.new (archive ++ piece.now)) }
+        ensures shows { OnOk result ((archive : List ℕ) → IsWindowOf self.old archive → length archive ≡ at
+            → IsWindowOf self.new (archive ++ piece.now)) }
         ensures same { place < at → self.new.from ≡ self.old.from }
         ensures moved { at ≤ place → self.new.from ≡ min place (at + length piece.now) }
     {
@@ -66,9 +66,9 @@ impl Window {
     }
 
     /// More bytes of the open game.
-    #[tactic(auto, unfolding(crate::specs::Kept::most_kept))]
+    #[tactic(auto, unfolding(crate::specs::KeptGames::most_kept))]
     fn grow(&mut self, piece: &[u8]) -> Result<(), NoMemory>
-        ensures shows { OnOk result ((archive : List ℕ) → Shows self.old archive → Shows self.new (archive ++ piece.now)) }
+        ensures shows { OnOk result ((archive : List ℕ) → IsWindowOf self.old archive → IsWindowOf self.new (archive ++ piece.now)) }
         ensures from { self.new.from ≡ self.old.from }
     {
         let room = MOST_KEPT as usize - self.bytes.len();

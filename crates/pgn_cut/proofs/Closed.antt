@@ -10,7 +10,7 @@ use Rattle.std.proofs.lemmas.Bool.Decides.{nat_tests}
 use Rattle.std.proofs.lemmas.List.{append_assoc, length-append, length-take-le, take_all, drop_all, get_or_push, drop-append-le, length-drop, append-nil}
 use Rattle.pgn_lexer.specs.Grammar.{IsLexeme, IsLongest}
 use Rattle.pgn_lexer.specs.Lexemes.{Lexeme, end, lexeme, lexemes, lexemes_from, first_at}
-use Rattle.pgn_lexer.specs.Local.{IsUnsettled, is_left_open, Settles, Grows}
+use Rattle.pgn_lexer.specs.Locality.{IsUnsettled, is_left_open, Settles, Grows}
 use Rattle.pgn_lexer.specs.Bytes.{continues_symbol}
 use Rattle.cq_common.specs.Text.{is_white}
 use Rattle.pgn_lexer.specs.Readings.{reading, symbol, single}

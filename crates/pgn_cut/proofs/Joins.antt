@@ -5,9 +5,9 @@ use Rattle.std.specs.List.{AllByRecursion, list_all, starts_with}
 use Rattle.std.proofs.lemmas.List.{drop-drop}
 use Rattle.std.proofs.lemmas.List.Elements.{All-from_recursion}
 use Rattle.pgn_lexer.specs.Lexemes.{Lexeme, end, lexemes, tokens_among, first_at}
-use Rattle.pgn_lexer.specs.Local.{IsUncrossed, within, StandsIn}
+use Rattle.pgn_lexer.specs.Locality.{IsUncrossed, within, StandsIn}
 use Rattle.pgn_cut.specs.Cut.{is_passed_over, ends_before, ends_after, span_to, cut_from, cut, byte_order_mark, text_start, archive_lexemes}
-use Rattle.pgn_cut.specs.Joined.{HasItsTokens, game_bytes}
+use Rattle.pgn_cut.specs.GameTokens.{HasItsTokens, game_bytes}
 use Rattle.pgn_cut.specs.declared.span.Span.{Span}
 
 -- what the laws of lexemes say

@@ -15,5 +15,5 @@ pub mod Seams
 pub mod SeamsOfCut
 pub mod Streams
 pub mod WordRuns
-pub mod Settled
+pub mod SettledLexemes
 pub mod PairRuns

@@ -9,11 +9,11 @@ use Rattle.pgn_lexer.specs.Readings.{reading, single}
 use Rattle.pgn_lexer.specs.declared.token.LexemeKind.TheVariants.{Token}
 use Rattle.pgn_lexer.specs.declared.token.TokenKind.TheVariants.{BadByte}
 use Rattle.pgn_cut.specs.Cut.{cut_from, cut, closed, text_start}
-use Rattle.pgn_cut.specs.Progress.{progress_of, Shows}
+use Rattle.pgn_cut.specs.Progress.{progress_of, IsViewOf}
 use Rattle.pgn_cut.specs.States.{IsOpen, begun, is_in_mark, EndsBefore, IsOneLexeme}
 use Rattle.pgn_cut.specs.Streams.{IsInMark, IsInText, IsEnded, StandsWith}
 use Rattle.pgn_cut.specs.declared.game.OpenGame.{OpenGame}
-use Rattle.pgn_cut.specs.declared.game.Look.{Look}
+use Rattle.pgn_cut.specs.declared.game.LexemeView.{LexemeView}
 use Rattle.pgn_cut.specs.declared.cutter.Cutter.{Cutter}
 use Rattle.pgn_cut.specs.declared.state.State.{State}
 use Rattle.pgn_cut.specs.declared.state.State.TheVariants.{AtStart, OneOfMark, TwoOfMark, Between, InComment, InLine, InText, InSymbol, InNumber, InSuffix, InNull}
@@ -110,7 +110,7 @@ unfoldable pub bad_lexeme : (at : ℕ) (first : Bool) (b : ℕ) → bad first b 
 unfolding bad
 bad_lexeme at first b one = record { at = at; first = first; text = b ∷ []; kind = one.read }
 
-bad_shows : (at : ℕ) (first : Bool) (b : ℕ) (one : bad first b) → Shows (record { at = at; end = at + 1; first = first; kind = Token BadByte; marker = false }) (bad_lexeme at first b one)
+bad_shows : (at : ℕ) (first : Bool) (b : ℕ) (one : bad first b) → IsViewOf (record { at = at; end = at + 1; first = first; kind = Token BadByte; marker = false }) (bad_lexeme at first b one)
 unfolding bad bad_lexeme
 bad_shows at first b one = record { at = refl; ends = refl; first = refl; alike = one.alike; marker = one.marked }
 
@@ -124,8 +124,8 @@ unfolding bad bad_lexeme
 bad_next at first b one rest line = one.next at rest tt ∙ ap (λ f. (record { at = at; first = first; text = b ∷ []; kind = one.read }) ∷ lexemes (at + 1) f rest) line
 
 -- what `with` says of a game
-abbrev pub Gains : OpenGame → Look → OpenGame → Type 0
-Gains was look now = (game : List Lexeme) (l : Lexeme) → Shows look l → was ≡ progress_of game → now ≡ progress_of (game ++ l ∷ [])
+abbrev pub Gains : OpenGame → LexemeView → OpenGame → Type 0
+Gains was look now = (game : List Lexeme) (l : Lexeme) → IsViewOf look l → was ≡ progress_of game → now ≡ progress_of (game ++ l ∷ [])
 
 -- one byte of a mark was fed
 pub one_ends : StandAlone → (was game : OpenGame) → was ≡ progress_of [] → game.depth ≤ 2 → Gains was (record { at = 0; end = 1; first = true; kind = Token BadByte; marker = false }) game

@@ -4,17 +4,17 @@ use Rattle.std.specs.Prelude.{◌&&◌, ◌==◌}
 use Rattle.std.specs.Option.{option_to_list}
 use Rattle.pgn_lexer.specs.Lexemes.{Lexeme, end}
 use Rattle.pgn_cut.specs.Cut.{marks, opens, ends_before, ends_after, span_to, cut_from}
-use Rattle.pgn_cut.specs.Progress.{span_from, progress_of, IsStepOfCut, Shows}
+use Rattle.pgn_cut.specs.Progress.{span_from, progress_of, IsStepOfCut, IsViewOf}
 use Rattle.pgn_cut.specs.declared.span.Span.{Span}
 use Rattle.pgn_cut.specs.declared.game.OpenGame.{OpenGame}
-use Rattle.pgn_cut.specs.declared.game.Look.{Look}
+use Rattle.pgn_cut.specs.declared.game.LexemeView.{LexemeView}
 use Rattle.pgn_cut.proofs.Pushes.{span_is}
 
 -- the tests of a look are those of its lexeme
-pub before_shown : (look : Look) (l : Lexeme) → Shows look l → (m : Bool) → (opens look.kind && look.first && m) ≡ (opens l.kind && l.first && m)
+pub before_shown : (look : LexemeView) (l : Lexeme) → IsViewOf look l → (m : Bool) → (opens look.kind && look.first && m) ≡ (opens l.kind && l.first && m)
 before_shown look l shows m = ap₂ (λ o f. o && f && m) shows.alike.opens_ shows.first
 
-pub after_shown : (look : Look) (l : Lexeme) → Shows look l → (t : Bool) → (look.marker && t) ≡ (marks l.kind l.text && t)
+pub after_shown : (look : LexemeView) (l : Lexeme) → IsViewOf look l → (t : Bool) → (look.marker && t) ≡ (marks l.kind l.text && t)
 after_shown look l shows t = ap (λ m. m && t) shows.marker
 
 module _ (game : List Lexeme) (l : Lexeme) (was : OpenGame) (is : was ≡ progress_of game) where

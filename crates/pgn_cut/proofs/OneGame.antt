@@ -6,14 +6,14 @@ use Rattle.std.proofs.lemmas.Bool.{and_parts}
 use Rattle.std.proofs.lemmas.Bool.Decides.{nat_tests}
 use Rattle.std.proofs.lemmas.List.Elements.{All-from_recursion, All-contains, filter-append}
 use Rattle.pgn_lexer.specs.Lexemes.{Lexeme, end, lexemes, token_of, token_if, tokens_among, tokens_of}
-use Rattle.pgn_lexer.specs.Local.{AreInOrder as InOrder, StandsIn, within}
+use Rattle.pgn_lexer.specs.Locality.{AreLexemesInOrder as InOrder, StandsIn, within}
 use Rattle.pgn_lexer.specs.Texts.{IsSpelled, token_text}
 use Rattle.pgn_lexer.specs.declared.token.LexemeKind.{LexemeKind}
 use Rattle.pgn_lexer.specs.declared.token.LexemeKind.TheVariants.{EscapeLine, Token}
 use Rattle.pgn_lexer.specs.declared.token.TokenKind.TheVariants.{Open, Close, Text, Symbol, Period, Star, LeftParen, RightParen, Nag, Null, Comment, LineComment, BadByte, UnclosedComment, UnclosedText}
 use Rattle.pgn_lexer.specs.declared.token.Token.{Token as GameToken}
 use Rattle.pgn_cut.specs.Cut.{marks, nest, depth, opens, is_passed_over, ends_before, ends_after, span_to, cut_from, cut, text_start, archive_lexemes}
-use Rattle.pgn_cut.specs.Joined.{game_bytes}
+use Rattle.pgn_cut.specs.GameTokens.{game_bytes}
 use Rattle.pgn_cut.specs.OneGame.{IsGameOfCut, IsUncut, token_depth, IsEndedByMarker}
 use Rattle.pgn_cut.specs.declared.span.Span.{Span}
 use Rattle.pgn_cut.proofs.Joins.{StandApart, AreLocal, HasItsLexemes, joined, map_all, of_both, text_within}

@@ -7,12 +7,12 @@ use Rattle.std.proofs.lemmas.Bool.{cases_Bool, cases_lt}
 use Rattle.std.proofs.lemmas.List.{length-append, length-take-le, length-drop}
 use Rattle.std.proofs.lemmas.List.Elements.{All-from_recursion}
 use Rattle.pgn_lexer.specs.Lexemes.{Lexeme, end, lexeme, lexemes, first_at}
-use Rattle.pgn_lexer.specs.Local.{AreInOrder as InOrder, StandsIn, IsUnsettled}
+use Rattle.pgn_lexer.specs.Locality.{AreLexemesInOrder as InOrder, StandsIn, IsUnsettled}
 use Rattle.pgn_lexer.specs.Readings.{reading}
 use Rattle.pgn_cut.specs.Cut.{is_passed_over, opens, has_movetext, ends_before, ends_after, span_to, cut_from, cut, closed, text_start, byte_order_mark}
 use Rattle.pgn_cut.specs.OpenGames.{later_games, AreOpenAt, IsOpenAt, open_place}
 use Rattle.pgn_cut.specs.Progress.{begins_at, start_of, progress_of}
-use Rattle.pgn_cut.specs.Spans.{AreInOrder}
+use Rattle.pgn_cut.specs.Spans.{AreSpansInOrder}
 use Rattle.pgn_cut.specs.States.{IsOpen, is_marker_at_end, kind_at_end, EndsBefore, EndsAs}
 use Rattle.pgn_cut.specs.Streams.{IsInMark, IsInText, Stands}
 use Rattle.pgn_cut.specs.declared.cutter.Cutter.{Cutter}
@@ -25,7 +25,7 @@ use Rattle.pgn_cut.proofs.Marks.{StandAlone, cut_is, bad, bad_one, bad_two, bad_
 use Rattle.pgn_cut.proofs.Order.{StandInOrder, Begins, cut_in_order}
 
 -- games in order from a place on begin there or after it
-pub starts_from : (from to : ℕ) (games : List Span) → AreInOrder from to games → AllByRecursion (λ g. from ≤ g.start) games
+pub starts_from : (from to : ℕ) (games : List Span) → AreSpansInOrder from to games → AllByRecursion (λ g. from ≤ g.start) games
 starts_from from to [] order = tt
 starts_from from to (g ∷ games) order =
     let begins = order.0 in let some = order.1.0 in

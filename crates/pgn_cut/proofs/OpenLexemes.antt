@@ -14,15 +14,15 @@ use Rattle.pgn_lexer.specs.Bytes.{ends_line, continues_symbol}
 use Rattle.pgn_lexer.specs.Grammar.{IsBody, IsLexeme}
 use Rattle.pgn_lexer.specs.Lexemes.{lexemes, first_at}
 use Rattle.pgn_lexer.specs.Readings.{reading, nag, good_suffix, poor_suffix, null_move, single}
-use Rattle.pgn_lexer.specs.Local.{IsUnsettled, is_left_open}
-use Rattle.pgn_lexer.specs.Whole.{goes_on as goes_on_kind, IsEndedBy, IsReadWhole}
+use Rattle.pgn_lexer.specs.Locality.{IsUnsettled, is_left_open}
+use Rattle.pgn_lexer.specs.SingleLexeme.{goes_on as goes_on_kind, IsEndedBy, IsReadWhole}
 use Rattle.pgn_lexer.specs.declared.token.Reading.{Reading}
 use Rattle.pgn_lexer.specs.declared.token.LexemeKind.{LexemeKind}
 use Rattle.pgn_lexer.specs.declared.token.LexemeKind.TheVariants.{EscapeLine, Token}
 use Rattle.pgn_lexer.specs.declared.token.TokenKind.TheVariants.{Text, Symbol, Nag, Null, Comment, LineComment, BadByte, UnclosedComment, UnclosedText}
 use Rattle.pgn_cut.specs.Cut.{is_result, marks}
 use Rattle.pgn_cut.specs.States.{IsPartOfText, BeginResults, IsOpen, begins_further, results_from, results_after, are_spelled, begun, takes, finishes, after, kind_at_end, kind_with_last, is_marker_at_end, EndsBefore, AreAlike, IsOneLexeme, EndsAs}
-use Rattle.pgn_cut.specs.declared.state.Results.{Results}
+use Rattle.pgn_cut.specs.declared.state.ResultMarkers.{ResultMarkers}
 use Rattle.pgn_cut.specs.declared.state.State.{State}
 use Rattle.pgn_cut.specs.declared.state.State.TheVariants.{AtStart, OneOfMark, TwoOfMark, Between, InComment, InLine, InText, InSymbol, InNumber, InSuffix, InNull}
 use Rattle.pgn_cut.proofs.Closed.{LexemesFollow}
@@ -74,7 +74,7 @@ spelled_is : (w k d : Bool) (n : ℕ) → ((w && n == 3) || (k && n == 3) || (d 
 spelled_is true k d n = ap (λ t. t || (d && n == 7)) (or_absorbs k (n == 3))
 spelled_is false k d n = refl
 
-pub marker_is : (r : Results) (bytes : List ℕ) → BeginResults r bytes → are_spelled r (length bytes) ≡ is_result bytes
+pub marker_is : (r : ResultMarkers) (bytes : List ℕ) → BeginResults r bytes → are_spelled r (length bytes) ≡ is_result bytes
 marker_is r bytes (w, k, d) =
     sym (spelled_is r.white r.black r.draw (length bytes))
     ∙ ap₂ (λ x y. (x && length bytes == 3) || (y && length bytes == 3) || (r.draw && length bytes == 7)) w k
@@ -82,7 +82,7 @@ marker_is r bytes (w, k, d) =
     ∙ ap₂ (λ x y. x || y || (starts_with nat_eq (codes "1/2-1/2") bytes && length bytes == 7)) (sym (equal_is bytes (codes "1-0"))) (sym (equal_is bytes (codes "0-1")))
     ∙ ap (λ z. bytes_eq bytes (codes "1-0") || bytes_eq bytes (codes "0-1") || z) (sym (equal_is bytes (codes "1/2-1/2")))
 
-results_push : (r : Results) (bytes : List ℕ) (b : ℕ) → BeginResults r bytes → BeginResults (results_after r (length bytes) b) (bytes ++ b ∷ [])
+results_push : (r : ResultMarkers) (bytes : List ℕ) (b : ℕ) → BeginResults r bytes → BeginResults (results_after r (length bytes) b) (bytes ++ b ∷ [])
 results_push r bytes b (w, k, d) = (
   ap (λ t. t && begins_further (codes "1-0") (length bytes) b) w ∙ sym (begins_push bytes (codes "1-0") b),
   ap (λ t. t && begins_further (codes "0-1") (length bytes) b) k ∙ sym (begins_push bytes (codes "0-1") b),

@@ -4,9 +4,9 @@ use Rattle.std.specs.Prelude.{All, if◌then◌else◌}
 use Rattle.std.specs.List.{AllByRecursion, list_all}
 use Rattle.std.proofs.lemmas.List.Elements.{All-from_recursion}
 use Rattle.pgn_lexer.specs.Lexemes.{Lexeme, end, lexemes}
-use Rattle.pgn_lexer.specs.Local.{AreInOrder as InOrder, StandsIn}
+use Rattle.pgn_lexer.specs.Locality.{AreLexemesInOrder as InOrder, StandsIn}
 use Rattle.pgn_cut.specs.Cut.{is_passed_over, ends_before, ends_after, span_to, cut_from, cut, text_start, archive_lexemes}
-use Rattle.pgn_cut.specs.Spans.{EndsBy, AreInOrder}
+use Rattle.pgn_cut.specs.Spans.{EndsBy, AreSpansInOrder}
 use Rattle.pgn_cut.specs.declared.span.Span.{Span}
 use Rattle.pgn_cut.proofs.Joins.{StandApart, map_all, of_both, text_within}
 
@@ -26,12 +26,12 @@ begins_more from before (g ∷ gs) l begins past some = let lt = begins.1 in (be
 
 -- the span of such a game stands before what follows it
 span_first : (from before place to : ℕ) (game : List Lexeme) (rest : List Span) → Begins from before game → before ≤ place → place ≤ to
-    → AreInOrder place to rest → (game ≡ [] → AreInOrder from to rest) → AreInOrder from to (span_to place game ++ rest)
+    → AreSpansInOrder place to rest → (game ≡ [] → AreSpansInOrder from to rest) → AreSpansInOrder from to (span_to place game ++ rest)
 unfolding Begins
 span_first from before place to [] rest begins less most order empty = empty refl
 span_first from before place to (g ∷ gs) rest begins less most order empty = let lt = begins.1 in (begins.0, (omega arith, most), order)
 
-lower : (from less to : ℕ) (spans : List Span) → less ≤ from → AreInOrder from to spans → AreInOrder less to spans
+lower : (from less to : ℕ) (spans : List Span) → less ≤ from → AreSpansInOrder from to spans → AreSpansInOrder less to spans
 lower from less to [] le order = tt
 lower from less to (s ∷ ss) le order = let begins = order.0 in (omega arith, order.1, order.2)
 
@@ -40,33 +40,33 @@ unfolding Begins
 begins_by from before [] l begins past = omega arith
 begins_by from before (g ∷ gs) l begins past = let a = begins.0 in let b = begins.1 in omega arith
 
-last_span : (place from before : ℕ) (game : List Lexeme) → Begins from before game → before ≤ place → AreInOrder from place (span_to place game)
+last_span : (place from before : ℕ) (game : List Lexeme) → Begins from before game → before ≤ place → AreSpansInOrder from place (span_to place game)
 unfolding Begins
 last_span place from before [] begins most = tt
 last_span place from before (g ∷ gs) begins most = let lt = begins.1 in (begins.0, (omega arith, omega arith), tt)
 
 pub cut_in_order : (place from before : ℕ) (game rest : List Lexeme) → Begins from before game → before ≤ place → InOrder before rest → AllByRecursion (λ l. end l ≤ place) rest
-    → AreInOrder from place (cut_from place game rest)
+    → AreSpansInOrder from place (cut_from place game rest)
 unfolding cut_from Begins
 cut_in_order place from before game [] begins most order ends =
-    of_both (AreInOrder from place) (list_all (λ l. is_passed_over l.kind) game) [] (span_to place game) tt (last_span place from before game begins most)
+    of_both (AreSpansInOrder from place) (list_all (λ l. is_passed_over l.kind) game) [] (span_to place game) tt (last_span place from before game begins most)
 cut_in_order place from before game (l ∷ ls) begins most order ends =
     let past = order.0 in
     let some = order.1 in
     let last = ends.0 in
-    of_both (AreInOrder from place) (ends_before game l) (span_to l.at game ++ cut_from place (l ∷ []) ls)
+    of_both (AreSpansInOrder from place) (ends_before game l) (span_to l.at game ++ cut_from place (l ∷ []) ls)
     (if ends_after game l then span_to (end l) (game ++ l ∷ []) ++ cut_from place [] ls else cut_from place (game ++ l ∷ []) ls)
     (let after = cut_in_order place l.at (end l) (l ∷ []) ls (omega arith, omega arith) last order.2 ends.1 in
     span_first from before l.at place game (cut_from place (l ∷ []) ls) begins past (omega arith) after
     (λ _. lower l.at from place (cut_from place (l ∷ []) ls) (begins_by from before game l begins past) after))
-    (of_both (AreInOrder from place) (ends_after game l) (span_to (end l) (game ++ l ∷ []) ++ cut_from place [] ls) (cut_from place (game ++ l ∷ []) ls)
+    (of_both (AreSpansInOrder from place) (ends_after game l) (span_to (end l) (game ++ l ∷ []) ++ cut_from place [] ls) (cut_from place (game ++ l ∷ []) ls)
     (let after = cut_in_order place (end l) (end l) [] ls (omega arith) last order.2 ends.1 in
     span_first from (end l) (end l) place (game ++ l ∷ []) (cut_from place [] ls) (begins_more from before game l begins past some) (omega arith) last after
     (λ _. lower (end l) from place (cut_from place [] ls) (let by = begins_by from before game l begins past in omega arith) after))
     (cut_in_order place from (end l) (game ++ l ∷ []) ls (begins_more from before game l begins past some) last order.2 ends.1))
 
 -- the games of an archive
-pub games_in_order : StandInOrder → StandApart → (archive : List ℕ) → AreInOrder 0 (length archive) (cut archive)
+pub games_in_order : StandInOrder → StandApart → (archive : List ℕ) → AreSpansInOrder 0 (length archive) (cut archive)
 unfolding Begins
 games_in_order in_order apart archive =
     let start = text_start archive in
@@ -76,7 +76,7 @@ games_in_order in_order apart archive =
     cut_in_order (length archive) 0 start [] (archive_lexemes archive) (omega arith) inside (in_order start true text)
     (map_all (StandsIn start true text) (λ l. end l ≤ length archive) (λ l s. let most = s.to_end in omega arith) (archive_lexemes archive) (apart start true text))
 
-pub each_ends : (from to : ℕ) (spans : List Span) → AreInOrder from to spans → AllByRecursion (EndsBy to) spans
+pub each_ends : (from to : ℕ) (spans : List Span) → AreSpansInOrder from to spans → AllByRecursion (EndsBy to) spans
 each_ends from to [] order = tt
 each_ends from to (s ∷ ss) order = (order.1, each_ends s.end to ss order.2)
 

@@ -12,8 +12,8 @@ use Rattle.pgn_cut.specs.Cut.{marks, is_marker, nest, depth, opens_pair, opens, 
 use Rattle.pgn_cut.specs.Progress.{progress_of}
 use Rattle.pgn_cut.specs.States.{is_in_mark}
 use Rattle.pgn_cut.specs.Streams.{IsBetween, IsInText, Stands, StandsWith}
-use Rattle.pgn_cut.specs.WordRuns.{AreWords, passes_words}
-use Rattle.pgn_cut.specs.PairRuns.{IsFoundAs, IsPair, passes_pairs, IsQuietRun}
+use Rattle.pgn_cut.specs.Internal.WordRuns.{AreWords, passes_words}
+use Rattle.pgn_cut.specs.Internal.PairRuns.{IsSettledAs, IsPair, passes_pairs, IsQuietRun}
 use Rattle.pgn_cut.specs.declared.cutter.Cutter.{Cutter}
 use Rattle.pgn_cut.specs.declared.game.OpenGame.{OpenGame}
 use Rattle.pgn_cut.specs.declared.state.State.TheVariants.{Between}
@@ -237,8 +237,8 @@ column_after first bytes at n some fits =
 
 pub pair_front : (bytes : List ℕ) (name text closing : ℕ) → 0 < length bytes → get_or bytes 0 0 ≡ 91 → 0 < name → 0 < text → 0 < closing → 1 + name + text + closing ≤ length bytes
     → AreWords (take name (drop 1 bytes))
-    → IsFoundAs (Token Text) (get_or bytes (1 + name - 1) 0 == 10) (take text (drop (1 + name) bytes))
-    → IsFoundAs (Token Close) (get_or bytes (1 + name + text - 1) 0 == 10) (take closing (drop (1 + name + text) bytes))
+    → IsSettledAs (Token Text) (get_or bytes (1 + name - 1) 0 == 10) (take text (drop (1 + name) bytes))
+    → IsSettledAs (Token Close) (get_or bytes (1 + name + text - 1) 0 == 10) (take closing (drop (1 + name + text) bytes))
     → IsPair (take (1 + name + text + closing) bytes)
 pair_front bytes name text closing some is some_name some_text some_closing fits words value closes =
     let left = length-drop (1 + name + text) bytes in
@@ -259,7 +259,7 @@ pair_front bytes name text closing some is some_name some_text some_closing fits
           ∙ ap (λ l. 91 ∷ of_name ++ l) (take_sum text closing (drop (1 + name) bytes))
           ∙ ap (λ l. 91 ∷ of_name ++ (of_text ++ take closing l)) (drop-drop text (1 + name) bytes);
       words = words;
-      value = subst (λ f. IsFoundAs (Token Text) f of_text) (sym first_text) value;
-      closes = subst (λ f. IsFoundAs (Token Close) f (take closing (drop (1 + name + text) bytes))) (sym first_last) closes;
+      value = subst (λ f. IsSettledAs (Token Text) f of_text) (sym first_text) value;
+      closes = subst (λ f. IsSettledAs (Token Close) f (take closing (drop (1 + name + text) bytes))) (sym first_last) closes;
       some = omega (arith, size, some_closing);
     }

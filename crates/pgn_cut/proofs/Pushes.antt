@@ -7,9 +7,9 @@ use Rattle.std.proofs.lemmas.List.Sums.{fold_push}
 use Rattle.std.proofs.lemmas.List.Recursion.{and_push}
 use Rattle.pgn_lexer.specs.Lexemes.{Lexeme}
 use Rattle.pgn_cut.specs.Cut.{depth, nest, opens_pair, is_movetext, movetext_in, has_movetext, is_passed_over, span_to, cut_from}
-use Rattle.pgn_cut.specs.Progress.{start_of, span_from, in_pair, has_more, progress_of, Shows}
+use Rattle.pgn_cut.specs.Progress.{start_of, span_from, in_pair, has_more, progress_of, IsViewOf}
 use Rattle.pgn_cut.specs.declared.game.OpenGame.{OpenGame}
-use Rattle.pgn_cut.specs.declared.game.Look.{Look}
+use Rattle.pgn_cut.specs.declared.game.LexemeView.{LexemeView}
 
 or_assoc : (a b c : Bool) → (a || (b || c)) ≡ (a || b || c)
 or_assoc true b c = refl
@@ -58,7 +58,7 @@ progress_push game l was was_is now start_is depth_is pair_is movetext_is more_i
     λ i. record { start = start i; depth = nests i; in_pair = pairs i; has_movetext = movetext i; has_more = more i }
 
 -- the same by what a look shows of the lexeme
-pub shown_push : (game : List Lexeme) (l : Lexeme) (look : Look) → Shows look l → (was : OpenGame) → was ≡ progress_of game → (now : OpenGame)
+pub shown_push : (game : List Lexeme) (l : Lexeme) (look : LexemeView) → IsViewOf look l → (was : OpenGame) → was ≡ progress_of game → (now : OpenGame)
     → now.start ≡ Some (unwrap_or was.start (record { at = look.at; first = look.first })) → now.depth ≡ nest was.depth look.kind → now.in_pair ≡ opens_pair was.in_pair look.kind
     → now.has_movetext ≡ (was.has_movetext || (is_movetext look.kind && not was.in_pair)) → now.has_more ≡ (was.has_more || not (is_passed_over look.kind))
     → now ≡ progress_of (game ++ l ∷ [])

@@ -13,14 +13,14 @@ use Rattle.cq_common.specs.Text.{is_white}
 use Rattle.pgn_lexer.specs.Bytes.{ends_line}
 use Rattle.pgn_lexer.specs.Grammar.{IsLexeme}
 use Rattle.pgn_lexer.specs.Lexemes.{Lexeme, end, lexeme, lexemes, first_at, moved, token_if, token_of, tokens_among}
-use Rattle.pgn_lexer.specs.Local.{AreInOrder as InOrder, IsUncrossed, StandsIn, within}
+use Rattle.pgn_lexer.specs.Locality.{AreLexemesInOrder as InOrder, IsUncrossed, StandsIn, within}
 use Rattle.pgn_lexer.specs.Readings.{reading, single}
 use Rattle.pgn_lexer.specs.Texts.{IsSpelled}
 use Rattle.pgn_lexer.specs.declared.token.LexemeKind.{LexemeKind}
 use Rattle.pgn_lexer.specs.declared.token.LexemeKind.TheVariants.{EscapeLine, Token}
 use Rattle.pgn_lexer.specs.declared.token.TokenKind.TheVariants.{Open, Close, Text, Symbol, Period, Star, LeftParen, RightParen, Nag, Null, Comment, LineComment, BadByte, UnclosedComment, UnclosedText}
 use Rattle.pgn_cut.specs.Cut.{is_result, marks, opens, cut_from, cut, text_start, archive_lexemes}
-use Rattle.pgn_cut.specs.Joined.{game_bytes}
+use Rattle.pgn_cut.specs.GameTokens.{game_bytes}
 use Rattle.pgn_cut.specs.Seams.{moved_token, AreMovedGames, spaced_rest, IsSeam}
 use Rattle.pgn_cut.specs.Spans.{EndsBy}
 use Rattle.pgn_cut.specs.declared.span.Span.{Span}

@@ -8,7 +8,7 @@ use Rattle.pgn_lexer.specs.Bytes.{ends_line}
 use Rattle.pgn_lexer.specs.Lexemes.{Lexeme, lexemes, first_at}
 use Rattle.pgn_lexer.specs.declared.token.LexemeKind.{LexemeKind}
 use Rattle.pgn_cut.specs.Cut.{cut_from, cut, closed}
-use Rattle.pgn_cut.specs.Progress.{progress_of, IsStepOfCut, Shows}
+use Rattle.pgn_cut.specs.Progress.{progress_of, IsStepOfCut, IsViewOf}
 use Rattle.pgn_cut.specs.States.{IsOpen, takes, EndsBefore, IsOneLexeme}
 use Rattle.pgn_cut.specs.Streams.{IsSound, IsBetween, IsInText, IsEnded, IsReady, HasTaken}
 use Rattle.pgn_cut.specs.declared.span.Span.{Span}
@@ -110,17 +110,17 @@ module _ (closes : Closes) (c : Cutter) (fed : List ℕ) (b : ℕ) (games : List
   -- a lexeme ends with the byte
   pub meets : (kind : LexemeKind) (marker : Bool) → IsOneLexeme c.first (r.bytes ++ b ∷ []) kind marker Whenever → (now : Cutter) (closed_ : Option Span) → IsBetween now (c.place + 1) (b == 10)
       → now.game.depth ≤ c.game.depth + 1
-      → ((game : List Lexeme) (l : Lexeme) → Shows (record { at = c.at; end = c.place + 1; first = c.first; kind = kind; marker = marker }) l
+      → ((game : List Lexeme) (l : Lexeme) → IsViewOf (record { at = c.at; end = c.place + 1; first = c.first; kind = kind; marker = marker }) l
       → c.game ≡ progress_of game → IsStepOfCut now.game closed_ l game)
       → HasTaken now (fed ++ b ∷ []) (games ++ option_to_list closed_)
-  meets kind marker one now closed_ between deeper met =
+  meets kind marker one now closed_ between deeper after_lexeme =
       let bytes : List ℕ = r.bytes ++ b ∷ [] in
       let shallow = r.shallow in
       let at_is = between.at in
       let place_is = between.place_ in
       let place = place_push in
       let here = here_push in
-      let step = met r.kept (record { at = c.at; first = c.first; text = bytes; kind = one.read })
+      let step = after_lexeme r.kept (record { at = c.at; first = c.first; text = bytes; kind = one.read })
       (record { at = refl; ends = place_push ∙ sym here_push; first = refl; alike = one.alike; marker = one.marked }) r.game in
       let now_at : c.at + length bytes ≡ now.at = here_push ∙ sym place_push ∙ sym between.at in
       let now_first : first_at c.first bytes (length bytes) ≡ now.first = column_push c.first r.bytes b ∙ sym between.first in
@@ -138,13 +138,13 @@ module _ (closes : Closes) (c : Cutter) (fed : List ℕ) (b : ℕ) (games : List
 pub ends_here : (c : Cutter) (fed : List ℕ) (t : IsInText c fed) (kind : LexemeKind) (marker : Bool)
     → IsOneLexeme c.first t.bytes kind marker (EndsBefore c.state) → (now : Cutter) (closed_ : Option Span)
     → IsBetween now c.place c.column → now.game.depth ≤ c.game.depth + 1
-    → ((game : List Lexeme) (l : Lexeme) → Shows (record { at = c.at; end = c.place; first = c.first; kind = kind; marker = marker }) l
+    → ((game : List Lexeme) (l : Lexeme) → IsViewOf (record { at = c.at; end = c.place; first = c.first; kind = kind; marker = marker }) l
     → c.game ≡ progress_of game → IsStepOfCut now.game closed_ l game)
     → IsEnded now closed_ c.state fed
-ends_here c fed t kind marker one now closed_ between deeper met =
+ends_here c fed t kind marker one now closed_ between deeper after_lexeme =
     let sound = t.sound.0 in
     let place = t.place in
-    let step = met t.kept (record { at = c.at; first = c.first; text = t.bytes; kind = one.read })
+    let step = after_lexeme t.kept (record { at = c.at; first = c.first; text = t.bytes; kind = one.read })
     (record { at = refl; ends = t.place ∙ sym t.here; first = refl; alike = one.alike; marker = one.marked }) t.game in
     let now_at : c.at + length t.bytes ≡ now.at = t.here ∙ sym t.place ∙ sym between.at in
     let now_first : first_at c.first t.bytes (length t.bytes) ≡ now.first = sym t.column ∙ sym between.first in

@@ -16,12 +16,12 @@ use Rattle.pgn_cut.specs.Cut.{is_result, is_marker, nest, depth, opens_pair, ope
 use Rattle.pgn_cut.specs.Progress.{progress_of}
 use Rattle.pgn_cut.specs.States.{IsOpen, results_from, results_after, begun}
 use Rattle.pgn_cut.specs.Streams.{IsBetween, IsInText, StandsWith}
-use Rattle.pgn_cut.specs.WordRuns.{is_plain, ends_in_symbol, AreWords, passes_words}
-use Rattle.pgn_cut.specs.declared.words.TheConstants.{IS_PLAIN}
+use Rattle.pgn_cut.specs.Internal.WordRuns.{is_plain, ends_in_symbol, AreWords, passes_words}
+use Rattle.pgn_cut.specs.declared.word_runs.TheConstants.{IS_PLAIN}
 use Rattle.pgn_cut.specs.declared.cutter.Cutter.{Cutter}
 use Rattle.pgn_cut.specs.declared.game.OpenGame.{OpenGame}
 use Rattle.pgn_cut.specs.declared.game.Start.{Start}
-use Rattle.pgn_cut.specs.declared.state.Results.{Results}
+use Rattle.pgn_cut.specs.declared.state.ResultMarkers.{ResultMarkers}
 use Rattle.pgn_cut.specs.declared.state.State.{State}
 use Rattle.pgn_cut.specs.declared.state.State.TheVariants.{Between, InSymbol}
 use Rattle.pgn_cut.proofs.Marks.{StandAlone}
@@ -227,7 +227,7 @@ module _ (ends : LexemesEnd) (alone : StandAlone) (white : WhiteIsPassed) where
       }
 
   -- the symbol ends before a byte
-  symbol_ends : (at : ℕ) (first : Bool) (r : Results) (o : List ℕ) (b : ℕ) (bs : List ℕ) → IsOpen first (InSymbol r) o → AllByRecursion (λ c. is_plain c ≡ true) o → continues_symbol b ≡ false
+  symbol_ends : (at : ℕ) (first : Bool) (r : ResultMarkers) (o : List ℕ) (b : ℕ) (bs : List ℕ) → IsOpen first (InSymbol r) o → AllByRecursion (λ c. is_plain c ≡ true) o → continues_symbol b ≡ false
       → Reads (at + length o) (first_at first o (length o)) [] (b ∷ bs) → Reads at first o (b ∷ bs)
   symbol_ends at first r o b bs is plain stops rest =
       let one = (ends first (InSymbol r) o is (λ e. cc)).0 in
@@ -252,7 +252,7 @@ module _ (ends : LexemesEnd) (alone : StandAlone) (white : WhiteIsPassed) where
   ReadsBetween run = (at : ℕ) (first : Bool) → ends_in_symbol false run ≡ false → Reads at first [] run
 
   abbrev ReadsInside : List ℕ → Type 0
-  ReadsInside run = (at : ℕ) (first : Bool) (r : Results) (o : List ℕ) → IsOpen first (InSymbol r) o → AllByRecursion (λ b. is_plain b ≡ true) o
+  ReadsInside run = (at : ℕ) (first : Bool) (r : ResultMarkers) (o : List ℕ) → IsOpen first (InSymbol r) o → AllByRecursion (λ b. is_plain b ≡ true) o
       → ends_in_symbol true run ≡ false → Reads at first o run
 
   none_read : (at : ℕ) (first : Bool) → Reads at first [] []

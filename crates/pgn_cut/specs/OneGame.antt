@@ -6,7 +6,7 @@ use Rattle.pgn_lexer.specs.Texts.{token_text}
 use Rattle.pgn_lexer.specs.declared.token.LexemeKind.TheVariants.{Token}
 use Rattle.pgn_lexer.specs.declared.token.Token.{Token as GameToken}
 use Rattle.pgn_cut.specs.Cut.{marks, nest, ends_before, ends_after, cut}
-use Rattle.pgn_cut.specs.Joined.{game_bytes}
+use Rattle.pgn_cut.specs.GameTokens.{game_bytes}
 use Rattle.pgn_cut.specs.declared.span.Span.{Span}
 
 -- These bytes are one game of a cut: in some archive a game begins at the place `start`, in the first column or not, and

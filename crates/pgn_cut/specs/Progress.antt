@@ -8,7 +8,7 @@ use Rattle.pgn_cut.specs.declared.span.Span.{Span}
 use Rattle.pgn_cut.specs.declared.game.Start.{Start}
 use Rattle.pgn_cut.specs.States.{AreAlike}
 use Rattle.pgn_cut.specs.declared.game.OpenGame.{OpenGame}
-use Rattle.pgn_cut.specs.declared.game.Look.{Look}
+use Rattle.pgn_cut.specs.declared.game.LexemeView.{LexemeView}
 
 -- where a game begins
 abbrev pub start_of : List Lexeme → Option Start
@@ -38,7 +38,7 @@ progress_of game =
     record { start = start_of game; depth = depth game; in_pair = in_pair game; has_movetext = has_movetext game; has_more = has_more game }
 
 -- a look tells of a lexeme what a cut sees of it
-pub record Shows (look : Look) (l : Lexeme) : Type 0 where
+pub record IsViewOf (look : LexemeView) (l : Lexeme) : Type 0 where
   pub at : look.at ≡ l.at
   pub ends : look.end ≡ end l
   pub first : look.first ≡ l.first

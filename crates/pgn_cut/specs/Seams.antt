@@ -4,7 +4,7 @@ use Rattle.pgn_lexer.specs.Bytes.{space}
 use Rattle.pgn_lexer.specs.Lexemes.{tokens_of}
 use Rattle.pgn_lexer.specs.declared.token.Token.{Token}
 use Rattle.pgn_cut.specs.Cut.{cut}
-use Rattle.pgn_cut.specs.Joined.{game_bytes}
+use Rattle.pgn_cut.specs.GameTokens.{game_bytes}
 use Rattle.pgn_cut.specs.declared.span.Span.{Span}
 
 -- the same token, so many bytes further on

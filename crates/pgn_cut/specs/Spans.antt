@@ -7,9 +7,9 @@ abbrev pub EndsBy : ℕ → Span → Type 0
 EndsBy place s = (s.start < s.end) × (s.end ≤ place)
 
 -- spans stand in order from a place on: each ends by another place, and begins where the one before it ends or after that
-abbrev pub AreInOrder : ℕ → ℕ → List Span → Type 0
-AreInOrder from to [] = Unit {0}
-AreInOrder from to (s ∷ ss) = (from ≤ s.start) × EndsBy to s × AreInOrder s.end to ss
+abbrev pub AreSpansInOrder : ℕ → ℕ → List Span → Type 0
+AreSpansInOrder from to [] = Unit {0}
+AreSpansInOrder from to (s ∷ ss) = (from ≤ s.start) × EndsBy to s × AreSpansInOrder s.end to ss
 
 -- at most one span, which ends at a place
 abbrev pub FinishesAt : ℕ → List Span → Type 0

@@ -6,12 +6,12 @@ use Rattle.std.specs.Char.{is_ascii_digit, is_ascii_alphanumeric}
 use Rattle.pgn_lexer.specs.Bytes.{left_brace, right_brace, semicolon, percent_sign, quote, backslash, dollar_sign, exclamation_mark, question_mark, hyphen, ends_line, continues_symbol}
 use Rattle.pgn_lexer.specs.Grammar.{IsBody, IsLexeme}
 use Rattle.pgn_lexer.specs.Lexemes.{lexemes, first_at}
-use Rattle.pgn_lexer.specs.Local.{IsUnsettled}
+use Rattle.pgn_lexer.specs.Locality.{IsUnsettled}
 use Rattle.pgn_lexer.specs.declared.token.LexemeKind.{LexemeKind}
 use Rattle.pgn_lexer.specs.declared.token.LexemeKind.TheVariants.{EscapeLine, Token}
 use Rattle.pgn_lexer.specs.declared.token.TokenKind.TheVariants.{Text, Symbol, Null, Comment, LineComment, BadByte, UnclosedComment, UnclosedText}
 use Rattle.pgn_cut.specs.Cut.{marks, nest, opens_pair, is_movetext, is_passed_over, opens, first_of_mark, second_of_mark, third_of_mark}
-use Rattle.pgn_cut.specs.declared.state.Results.{Results}
+use Rattle.pgn_cut.specs.declared.state.ResultMarkers.{ResultMarkers}
 use Rattle.pgn_cut.specs.declared.state.State.{State}
 use Rattle.pgn_cut.specs.declared.state.State.TheVariants.{AtStart, OneOfMark, TwoOfMark, Between, InComment, InLine, InText, InSymbol, InNumber, InSuffix, InNull}
 
@@ -21,7 +21,7 @@ IsPartOfText false body = IsBody body
 IsPartOfText true body = (before : List ℕ) × (body ≡ before ++ backslash ∷ []) × IsBody before
 
 -- which results a symbol begins
-abbrev pub BeginResults : Results → List ℕ → Type 0
+abbrev pub BeginResults : ResultMarkers → List ℕ → Type 0
 BeginResults r bytes =
     (r.white ≡ starts_with nat_eq (codes "1-0") bytes) × (r.black ≡ starts_with nat_eq (codes "0-1") bytes)
     × (r.draw ≡ starts_with nat_eq (codes "1/2-1/2") bytes)
@@ -45,11 +45,11 @@ abbrev pub begins_further : List ℕ → ℕ → ℕ → Bool
 begins_further marker len b = nat_lt len (length marker) && b == slice_index marker len
 
 -- the markers that begin with a byte: 1, which is 49, or 0, which is 48
-abbrev pub results_from : ℕ → Results
+abbrev pub results_from : ℕ → ResultMarkers
 results_from b = record { white = b == 49; black = b == 48; draw = b == 49 }
 
 -- those of them that go on with a byte after `len` bytes
-abbrev pub results_after : Results → ℕ → ℕ → Results
+abbrev pub results_after : ResultMarkers → ℕ → ℕ → ResultMarkers
 results_after r len b = record {
   white = r.white && begins_further (codes "1-0") len b;
   black = r.black && begins_further (codes "0-1") len b;
@@ -57,7 +57,7 @@ results_after r len b = record {
 }
 
 -- whether one of them has `len` bytes
-abbrev pub are_spelled : Results → ℕ → Bool
+abbrev pub are_spelled : ResultMarkers → ℕ → Bool
 are_spelled r len = ((r.white || r.black) && len == 3) || (r.draw && len == 7)
 
 -- what a byte opens, if it isn't a lexeme by itself

@@ -8,22 +8,22 @@ ghost use Rattle.pgn_lexer.specs.declared.token.LexemeKind.TheVariants.{Token};
 ghost use Rattle.pgn_lexer.specs.declared.token.TokenKind.TheVariants.{BadByte};
 ghost use Rattle.pgn_cut.specs.Cut.{cut, closed};
 ghost use Rattle.pgn_cut.specs.OpenGames.{IsOpenAt, open_place};
-ghost use Rattle.pgn_cut.specs.Progress.{begins_at, progress_of, IsStepOfCut, Shows};
+ghost use Rattle.pgn_cut.specs.Progress.{begins_at, progress_of, IsStepOfCut, IsViewOf};
 ghost use Rattle.pgn_cut.specs.States.{takes, is_in_mark, Stays};
-ghost use Rattle.pgn_cut.specs.PairRuns.{IsQuietRun};
-ghost use Rattle.pgn_cut.specs.Settled.{IsFound};
+ghost use Rattle.pgn_cut.specs.Internal.PairRuns.{IsQuietRun};
+ghost use Rattle.pgn_cut.specs.Internal.SettledLexemes.{IsSettledLexeme};
 ghost use Rattle.pgn_cut.specs.Streams.{IsBetween, IsSound, IsInMark, IsInText, Stands, IsEnded, IsReady, HasTaken, StandsWith, HasGained};
 ghost use Rattle.pgn_cut.specs.declared.span.Span.{Span as ASpan};
-ghost use Rattle.pgn_cut.specs.declared.game.Look.{Look as ALook};
+ghost use Rattle.pgn_cut.specs.declared.game.LexemeView.{LexemeView as ALook};
 ghost use Rattle.pgn_cut.specs.declared.state.State.TheVariants.{Between};
 
-use crate::found::{Found, settled_lexeme};
-use crate::game::{Look, OpenGame};
+use crate::settled_lexeme::{SettledLexeme, settled_lexeme};
+use crate::game::{LexemeView, OpenGame};
 use crate::laws::open_lexemes_settle;
-use crate::pairs::pair_len;
+use crate::pair_runs::pair_len;
 use crate::span::Span;
 use crate::state::State;
-use crate::words::words_len;
+use crate::word_runs::words_len;
 use cq_common::{NoMemory, Shared, is_white};
 use pgn_lexer::{
     LexemeKind, TokenKind, lexemes_follow, lexemes_stand_apart, longest_reading,
@@ -45,11 +45,11 @@ pub struct Cutter {
 impl Shared for Cutter {}
 
 // A byte of a mark that turned out to be none.
-fn bad_byte(at: u64) -> Look
+fn bad_byte(at: u64) -> LexemeView
     requires { at < 2 ^ 62 }
     ensures { result ≡ record { at = at; end = at + 1; first = at == 0; kind = Token BadByte; marker = false } }
 {
-    Look {
+    LexemeView {
         at,
         end: at + 1,
         first: at == 0,
@@ -115,15 +115,15 @@ impl Cutter {
     }
 
     // The cutter after a lexeme from its place to another, and the game that it closes, where it closes one.
-    fn met(self, end: u64, column: bool, kind: LexemeKind, marker: bool) -> (Cutter, Option<Span>)
+    fn after_lexeme(self, end: u64, column: bool, kind: LexemeKind, marker: bool) -> (Cutter, Option<Span>)
         requires depth { self.game.depth < 2 ^ 63 }
         ensures deeper { result.0.game.depth ≤ self.game.depth + 1 }
         ensures rest { IsBetween result.0 end column }
         ensures cuts { (game : List ALexeme) (l : ALexeme)
-            → Shows (record { at = self.at; end = end; first = self.first; kind = kind; marker = marker }) l
+            → IsViewOf (record { at = self.at; end = end; first = self.first; kind = kind; marker = marker }) l
             → self.game ≡ progress_of game → IsStepOfCut result.0.game result.1 l game }
     {
-        let look = Look {
+        let look = LexemeView {
             at: self.at,
             end,
             first: self.first,
@@ -136,7 +136,7 @@ impl Cutter {
     }
 
     // The cutter after a part of a byte order mark whose rest doesn't come, so that its bytes are lexemes.
-    fn unmarked(self) -> Cutter
+    fn without_mark(self) -> Cutter
         requires { is_in_mark self.state ≡ true }
         ensures counts { (result.game.depth ≤ 2) × (result.at ≤ 2) × (result.place ≡ result.at) }
         ensures ends { (fed : List ℕ) → IsInMark self fed → IsEnded result None self.state fed }
@@ -163,12 +163,12 @@ impl Cutter {
     {
         open_lexemes_settle();
         match self.state {
-            State::AtStart | State::OneOfMark | State::TwoOfMark => (self.unmarked(), None),
+            State::AtStart | State::OneOfMark | State::TwoOfMark => (self.without_mark(), None),
             State::Between => (self, None),
             _ => {
                 let kind = self.state.kind_at_end();
                 let marker = self.state.is_marker_at_end(self.place - self.at);
-                self.met(self.place, self.column, kind, marker)
+                self.after_lexeme(self.place, self.column, kind, marker)
             }
         }
     }
@@ -225,7 +225,7 @@ impl Cutter {
             Some(state) => (self.with_open(state, column), None),
             None => {
                 let kind = longest_reading(b, &[], self.first).kind;
-                self.met(self.place + 1, column, kind, b == b'*')
+                self.after_lexeme(self.place + 1, column, kind, b == b'*')
             }
         }
     }
@@ -245,7 +245,7 @@ impl Cutter {
         let column = b == b'\n';
         if self.state.finishes(b) {
             let kind = self.state.kind_with_last();
-            return self.met(self.place + 1, column, kind, false);
+            return self.after_lexeme(self.place + 1, column, kind, false);
         }
         let state = self.state.after(self.place - self.at, b);
         (self.with_open(state, column), None)
@@ -325,17 +325,17 @@ impl Cutter {
     }
 
     // After a lexeme of so many bytes, where nothing follows it but white space. Answers the game that it closes, where it closes one.
-    fn pass_lexeme(&mut self, run: &[u8], found: Found) -> Option<Span>
+    fn pass_lexeme(&mut self, run: &[u8], found: SettledLexeme) -> Option<Span>
         requires state { self.old.state ≡ Between }
         requires some { 0 < length run.now }
         requires depth { self.old.game.depth < 2 ^ 63 }
         requires place { self.old.place + length run.now < 2 ^ 62 }
         requires fits { found.len ≤ length run.now }
-        requires found { IsFound self.old.first run.now found }
+        requires found { IsSettledLexeme self.old.first run.now found }
         ensures { (fed : List ℕ) → Stands self.old fed → StandsWith self.new (fed ++ run.now) (closed fed ++ option_to_list result) }
     {
         open_lexemes_settle();
-        let look = Look {
+        let look = LexemeView {
             at: self.at,
             end: self.place + found.len as u64,
             first: self.first,

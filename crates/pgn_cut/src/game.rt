@@ -3,9 +3,9 @@ ghost use Rattle.std.specs.Prelude.{◌≡◌, ◌+◌, ◌<◌, ◌≤◌, ◌^
 ghost use Rattle.std.specs.Option.{option_to_list};
 ghost use Rattle.pgn_lexer.specs.Lexemes.{Lexeme as ALexeme};
 ghost use Rattle.pgn_cut.specs.Cut.{is_result, marks, nest, opens_pair, is_movetext, is_passed_over, opens, cut_from};
-ghost use Rattle.pgn_cut.specs.PairRuns.{passes_pairs};
-ghost use Rattle.pgn_cut.specs.WordRuns.{passes_words};
-ghost use Rattle.pgn_cut.specs.Progress.{begins_at, progress_of, span_from, IsStepOfCut, Shows};
+ghost use Rattle.pgn_cut.specs.Internal.PairRuns.{passes_pairs};
+ghost use Rattle.pgn_cut.specs.Internal.WordRuns.{passes_words};
+ghost use Rattle.pgn_cut.specs.Progress.{begins_at, progress_of, span_from, IsStepOfCut, IsViewOf};
 
 use crate::span::Span;
 use pgn_lexer::{LexemeKind, TokenKind};
@@ -47,7 +47,7 @@ pub(crate) fn marks(kind: LexemeKind, text: &[u8]) -> bool
 
 /// What a cut looks at of a lexeme, whose places count from the archive's first byte.
 #[derive(Clone, Copy)]
-pub(crate) struct Look {
+pub(crate) struct LexemeView {
     pub(crate) at: u64,
     pub(crate) end: u64,
     pub(crate) first: bool,
@@ -161,9 +161,9 @@ impl OpenGame {
     }
 
     // One lexeme more.
-    fn add(&mut self, look: Look)
+    fn add(&mut self, look: LexemeView)
         requires depth { self.old.depth < 2 ^ 63 }
-        ensures value { (game : List ALexeme) (l : ALexeme) → Shows look l → self.old ≡ progress_of game →
+        ensures value { (game : List ALexeme) (l : ALexeme) → IsViewOf look l → self.old ≡ progress_of game →
             self.new ≡ progress_of (game ++ l ∷ []) }
         ensures deeper { self.new.depth ≤ self.old.depth + 1 }
     {
@@ -179,9 +179,9 @@ impl OpenGame {
     }
 
     /// The game with one more lexeme.
-    pub(crate) fn with(self, look: Look) -> OpenGame
+    pub(crate) fn with(self, look: LexemeView) -> OpenGame
         requires depth { self.depth < 2 ^ 63 }
-        ensures value { (game : List ALexeme) (l : ALexeme) → Shows look l → self ≡ progress_of game →
+        ensures value { (game : List ALexeme) (l : ALexeme) → IsViewOf look l → self ≡ progress_of game →
             result ≡ progress_of (game ++ l ∷ []) }
         ensures deeper { result.depth ≤ self.depth + 1 }
     {
@@ -220,24 +220,24 @@ impl OpenGame {
     }
 
     // Whether the game ends before a lexeme: a `[` in the first column, where it has movetext.
-    fn ends_before(self, look: Look) -> bool
+    fn ends_before(self, look: LexemeView) -> bool
         ensures { result ≡ (opens look.kind && look.first && self.has_movetext) }
     {
         opens(look.kind) && look.first && self.has_movetext
     }
 
     // Whether the game ends after a lexeme: a marker outside variations.
-    fn ends_after(self, look: Look) -> bool
+    fn ends_after(self, look: LexemeView) -> bool
         ensures { result ≡ (look.marker && self.depth == 0) }
     {
         self.depth == 0 && look.marker
     }
 
     /// Meets a lexeme, and answers the game that it closes, where it closes one.
-    pub(crate) fn meet(&mut self, look: Look) -> Option<Span>
+    pub(crate) fn meet(&mut self, look: LexemeView) -> Option<Span>
         requires depth { self.old.depth < 2 ^ 63 }
         ensures deeper { self.new.depth ≤ self.old.depth + 1 }
-        ensures cuts { (game : List ALexeme) (l : ALexeme) → Shows look l → self.old ≡ progress_of game →
+        ensures cuts { (game : List ALexeme) (l : ALexeme) → IsViewOf look l → self.old ≡ progress_of game →
             IsStepOfCut self.new result l game }
     {
         if self.ends_before(look) {

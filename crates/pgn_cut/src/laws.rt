@@ -4,17 +4,17 @@ ghost use Rattle.pgn_lexer.specs.Lexemes.{lexemes, tokens_of};
 ghost use Rattle.cq_common.specs.Text.{is_white};
 ghost use Rattle.pgn_lexer.specs.Bytes.{ends_line, star};
 ghost use Rattle.pgn_lexer.specs.Lexemes.{Lexeme as ALexeme};
-ghost use Rattle.pgn_lexer.specs.Local.{IsUnsettled};
+ghost use Rattle.pgn_lexer.specs.Locality.{IsUnsettled};
 ghost use Rattle.pgn_lexer.specs.Readings.{reading};
 ghost use Rattle.pgn_cut.specs.Cut.{cut_from, cut, closed};
 ghost use Rattle.pgn_cut.specs.States.{IsOpen, takes, finishes, begun, kind_at_end, kind_with_last, is_marker_at_end, EndsBefore, IsOneLexeme, EndsAs};
 ghost use Rattle.pgn_cut.specs.declared.state.State.{State as AState};
 ghost use Rattle.pgn_cut.specs.declared.state.State.TheVariants.{Between};
-ghost use Rattle.pgn_cut.specs.Joined.{HasItsTokens};
+ghost use Rattle.pgn_cut.specs.GameTokens.{HasItsTokens};
 ghost use Rattle.pgn_cut.specs.OneGame.{IsGameOfCut, IsGameIn, IsUncut, IsEndedByMarker};
 ghost use Rattle.pgn_cut.specs.declared.span.Span.{Span as ASpan};
 ghost use Rattle.pgn_cut.specs.Seams.{IsSeam};
-ghost use Rattle.pgn_cut.specs.Spans.{EndsBy, AreInOrder, FinishesAt};
+ghost use Rattle.pgn_cut.specs.Spans.{EndsBy, AreSpansInOrder, FinishesAt};
 
 use pgn_lexer::{
     fronts_settle, lexemes_are_local, lexemes_are_spelled, lexemes_follow, lexemes_move,
@@ -24,7 +24,7 @@ use pgn_lexer::{
 
 /// The games of a cut stand in their archive in order, each with at least one byte, and don't overlap.
 pub fn games_stand_apart()
-    ensures order { (archive : List ℕ) → AreInOrder 0 (length archive) (cut archive) }
+    ensures order { (archive : List ℕ) → AreSpansInOrder 0 (length archive) (cut archive) }
     ensures each { (archive : List ℕ) → All (EndsBy (length archive)) (cut archive) }
 {
     lexemes_stand_apart();

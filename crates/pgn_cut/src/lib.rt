@@ -7,14 +7,14 @@
 #![tactic(auto)]
 
 mod cutter;
-mod found;
+mod settled_lexeme;
 mod game;
 mod laws;
-mod pairs;
+mod pair_runs;
 mod span;
 mod state;
-mod whole;
-mod words;
+mod whole_archive;
+mod word_runs;
 
 pub use cutter::Cutter;
 pub use laws::{
@@ -22,4 +22,4 @@ pub use laws::{
     open_lexemes_settle,
 };
 pub use span::Span;
-pub use whole::cut_whole;
+pub use whole_archive::cut_whole;

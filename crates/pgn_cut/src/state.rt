@@ -8,7 +8,7 @@ use pgn_lexer::{LexemeKind, TokenKind, continues_symbol, place_of, plain_len};
 
 /// Which markers of a result begin with the bytes of a symbol.
 #[derive(Clone, Copy)]
-pub(crate) struct Results {
+pub(crate) struct ResultMarkers {
     white: bool,
     black: bool,
     draw: bool,
@@ -26,7 +26,7 @@ pub(crate) enum State {
     InLine,
     /// Whether a backslash takes the next byte with it.
     InText(bool),
-    InSymbol(Results),
+    InSymbol(ResultMarkers),
     InNumber,
     InSuffix,
     InNull,
@@ -39,12 +39,12 @@ fn begins_further(marker: &[u8], len: u64, b: u8) -> bool
     len < marker.len() as u64 && b == marker[len as usize]
 }
 
-impl Results {
+impl ResultMarkers {
     // Those that begin with a byte.
-    fn from(b: u8) -> Results
+    fn from(b: u8) -> ResultMarkers
         ensures { result ≡ results_from b }
     {
-        Results {
+        ResultMarkers {
             white: b == b'1',
             black: b == b'0',
             draw: b == b'1',
@@ -52,10 +52,10 @@ impl Results {
     }
 
     // Those that go on with a byte after so many bytes.
-    fn after(self, len: u64, b: u8) -> Results
+    fn after(self, len: u64, b: u8) -> ResultMarkers
         ensures { result ≡ results_after self len b }
     {
-        Results {
+        ResultMarkers {
             white: self.white && begins_further(b"1-0", len, b),
             black: self.black && begins_further(b"0-1", len, b),
             draw: self.draw && begins_further(b"1/2-1/2", len, b),
@@ -77,7 +77,7 @@ impl State {
         ensures { result ≡ begun first b }
     {
         match b {
-            _ if b.is_ascii_alphanumeric() => Some(State::InSymbol(Results::from(b))),
+            _ if b.is_ascii_alphanumeric() => Some(State::InSymbol(ResultMarkers::from(b))),
             b'{' => Some(State::InComment),
             b';' => Some(State::InLine),
             b'%' if first => Some(State::InLine),

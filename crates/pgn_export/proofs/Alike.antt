@@ -3,7 +3,7 @@ use Rattle.std.proofs.Common.{◌≡◌, ◌⊎◌, ℕ, ◌+◌, ◌<◌, List,
 use Rattle.cq_position.specs.Board.{Board}
 use Rattle.cq_position.specs.Comments.{words, comment_of}
 use Rattle.pgn_reader.specs.Words.{Word, Sense, remarks, opens, closes, sense}
-use Rattle.pgn_reader.specs.Line.{Line, nothing, word, variation, text, Place, beginning, Told, variation_told, TellsWord, Tells}
+use Rattle.pgn_reader.specs.Line.{Line, nothing, word, variation, text, LinePlace, beginning, LineTail, tail_with_variation, ParsesWord, ParsesLine}
 
 -- two comments with the same words
 pub record SameRemark (v w : Word) : Type 0 where
@@ -53,19 +53,19 @@ pub alike_other : (v w : Word) (s : Sense) → sense w ≡ s → ((c : List ℕ)
 alike_other v w s is other a = ⊎_elim (λ same. same) (λ r. absurd (other r.other (sym is ∙ r.other_is))) a
 
 -- what a token tells, one that is like it tells too
-remark_same : (depth : ℕ) (a b : Place) (c d : List ℕ) (u t : Told) → comment_of (words c) ≡ comment_of (words d) → TellsWord depth a (remarks d) b u t → TellsWord depth a (remarks c) b u t
+remark_same : (depth : ℕ) (a b : LinePlace) (c d : List ℕ) (u t : LineTail) → comment_of (words c) ≡ comment_of (words d) → ParsesWord depth a (remarks d) b u t → ParsesWord depth a (remarks c) b u t
 remark_same depth a b c d u t same tells = (tells.0, tells.1 ∙ ap (λ cs. record u { comments = cs ++ u.comments }) (sym same))
 
-pub tells_alike : (depth : ℕ) (v w : Word) (a b : Place) (u t : Told) → Alike v w → TellsWord depth a (sense w) b u t → TellsWord depth a (sense v) b u t
-tells_alike depth v w a b u t (inl same) tells = subst (λ x. TellsWord depth a (sense x) b u t) (sym same) tells
+pub tells_alike : (depth : ℕ) (v w : Word) (a b : LinePlace) (u t : LineTail) → Alike v w → ParsesWord depth a (sense w) b u t → ParsesWord depth a (sense v) b u t
+tells_alike depth v w a b u t (inl same) tells = subst (λ x. ParsesWord depth a (sense x) b u t) (sym same) tells
 tells_alike depth v w a b u t (inr r) tells =
-    subst (λ s. TellsWord depth a s b u t) (sym r.one_is) (remark_same depth a b r.one r.other u t r.same (subst (λ s. TellsWord depth a s b u t) r.other_is tells))
+    subst (λ s. ParsesWord depth a s b u t) (sym r.one_is) (remark_same depth a b r.one r.other u t r.same (subst (λ s. ParsesWord depth a s b u t) r.other_is tells))
 
 -- so tokens that are like those of a line are those of a line that tells the same
-pub record LikeLine (depth : ℕ) (a : Place) (us : List Word) (t : Told) : Type 0 where
+pub record LikeLine (depth : ℕ) (a : LinePlace) (us : List Word) (t : LineTail) : Type 0 where
   pub line : Line
   pub is : us ≡ text line
-  pub tells : Tells depth a line t
+  pub tells : ParsesLine depth a line t
 
 not_remarks_opens : (c : List ℕ) → opens ≡ remarks c → ⊥
 not_remarks_opens c e = cc
@@ -74,9 +74,9 @@ not_remarks_closes : (c : List ℕ) → closes ≡ remarks c → ⊥
 not_remarks_closes c e = cc
 
 -- after a line's `)`
-shut : (depth : ℕ) (a : Place) (o opening closing : Word) (inner rest : Line) (p q : Board) (v u t : Told) (us left right : List Word)
+shut : (depth : ℕ) (a : LinePlace) (o opening closing : Word) (inner rest : Line) (p q : Board) (v u t : LineTail) (us left right : List Word)
     → a.before ≡ Some p → depth < 100 → sense opening ≡ opens → sense closing ≡ closes → o ≡ opening → us ≡ left ++ right → LikeLine (depth + 1) (beginning p) left v → v.end.before ≡ Some q
-    → ((vs : List Word) → AreAlike vs (text rest) → LikeLine depth a vs u) → t ≡ variation_told v u → AreAlike right (closing ∷ text rest) → LikeLine depth a (o ∷ us) t
+    → ((vs : List Word) → AreAlike vs (text rest) → LikeLine depth a vs u) → t ≡ tail_with_variation v u → AreAlike right (closing ∷ text rest) → LikeLine depth a (o ∷ us) t
 shut depth a o opening closing inner rest p q v u t us left [] before few opening_is closing_is same is i end on told alike = absurd alike
 shut depth a o opening closing inner rest p q v u t us left (c ∷ right) before few opening_is closing_is same is i end on told alike =
     let r = on right alike.1 in
@@ -87,7 +87,7 @@ shut depth a o opening closing inner rest p q v u t us left (c ∷ right) before
       tells = (p, before, few, ap sense same ∙ opening_is, ap sense closes_so ∙ closing_is, v, i.tells, q, end, u, r.tells, told);
     }
 
-pub like_line : (line : Line) (depth : ℕ) (a : Place) (us : List Word) (t : Told) → AreAlike us (text line) → Tells depth a line t → LikeLine depth a us t
+pub like_line : (line : Line) (depth : ℕ) (a : LinePlace) (us : List Word) (t : LineTail) → AreAlike us (text line) → ParsesLine depth a line t → LikeLine depth a us t
 like_line nothing depth a [] t alike tells = record { line = nothing; is = refl; tells = tells }
 like_line nothing depth a (u ∷ us) t alike tells = absurd alike
 like_line (word w rest) depth a [] t alike tells = absurd alike

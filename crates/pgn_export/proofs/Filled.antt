@@ -1,7 +1,7 @@
 -- Words in lines, written word by word.
 use Rattle.std.proofs.Common.{◌≡◌, ℕ, ◌+◌, Bool, true, false, cond, List, [], ◌∷◌, ◌++◌, length, refl, ap, ◌∙◌, arith, append_assoc, length-append}
 use Rattle.std.specs.Prelude.{nat_le}
-use Rattle.pgn_export.specs.Column.{gap, next_column}
+use Rattle.pgn_export.specs.Internal.Column.{gap, next_column}
 use Rattle.pgn_export.specs.Lines.{filled}
 
 -- what follows a line of so many bytes

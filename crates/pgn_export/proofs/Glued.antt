@@ -4,17 +4,17 @@ use Rattle.std.specs.Prelude.{nat_le, if◌then◌else◌}
 use Rattle.cq_common.specs.Text.{is_white}
 use Rattle.pgn_lexer.specs.Bytes.{ends_line}
 use Rattle.pgn_lexer.specs.Lexemes.{first_at}
-use Rattle.pgn_lexer.specs.Whole.{IsEndedBy}
+use Rattle.pgn_lexer.specs.SingleLexeme.{IsEndedBy}
 use Rattle.pgn_lexer.specs.declared.token.LexemeKind.TheVariants.{Token}
 use Rattle.pgn_lexer.specs.declared.token.TokenKind.{TokenKind}
 use Rattle.pgn_lexer.specs.declared.token.TokenKind.TheVariants.{LeftParen, RightParen}
 use Rattle.pgn_reader.specs.Words.{Word}
-use Rattle.pgn_export.specs.Column.{gap, next_column}
+use Rattle.pgn_export.specs.Internal.Column.{gap, next_column}
 use Rattle.pgn_export.specs.Lines.{lines}
-use Rattle.pgn_export.specs.Words.{closed}
+use Rattle.pgn_export.specs.Words.{with_suffix}
 use Rattle.pgn_export.proofs.Alike.{AreAlike, alike_same, alike_append}
 use Rattle.pgn_export.proofs.Filled.{following, filled_following}
-use Rattle.pgn_export.proofs.Told.{told, told_white, told_one, IsOne, IsApart, apart_white, apart_mark}
+use Rattle.pgn_export.proofs.ReadTokens.{told, told_white, told_one, IsOne, IsApart, apart_white, apart_mark}
 use Rattle.pgn_export.proofs.Tokens.{one_left, one_right}
 
 -- words with one byte of white space between two
@@ -125,7 +125,7 @@ pub record Ended (c : ℕ) (ws : List (List ℕ)) (text : List ℕ) : Type 0 whe
   pub is : text ≡ inner ++ c ∷ []
   pub glued : Glued ws inner
 
-pub ended : (c : ℕ) (w : List ℕ) (ws : List (List ℕ)) (text : List ℕ) → Glued (closed (c ∷ []) (w ∷ ws)) text → Ended c (w ∷ ws) text
+pub ended : (c : ℕ) (w : List ℕ) (ws : List (List ℕ)) (text : List ℕ) → Glued (with_suffix (c ∷ []) (w ∷ ws)) text → Ended c (w ∷ ws) text
 ended c w [] text glued = record { inner = w; is = glued; glued = refl }
 ended c w (v ∷ []) text (b, rest, is, white, glued) =
     record { inner = w ++ (b ∷ v); is = is ∙ ap (λ l. w ++ (b ∷ l)) glued ∙ sym (append_assoc w (b ∷ v) (c ∷ [])); glued = (b, v, refl, white, refl) }
@@ -158,7 +158,7 @@ tell_opened w ws ss t first text more glued apart =
 
 -- a token of one byte after the last word
 pub tell_closed : (kind : TokenKind) (c : ℕ) (w : List ℕ) (ws : List (List ℕ)) (ss : List Word) → IsOne kind c [] → ((more : List ℕ) → IsApart (c ∷ more)) → Tell (w ∷ ws) ss
-    → Tell (closed (c ∷ []) (w ∷ ws)) (ss ++ (record { kind = kind; text = c ∷ [] }) ∷ [])
+    → Tell (with_suffix (c ∷ []) (w ∷ ws)) (ss ++ (record { kind = kind; text = c ∷ [] }) ∷ [])
 tell_closed kind c w ws ss one stops t first text more glued apart =
     let e = ended c w ws text glued in
     let r = t first e.inner (c ∷ more) e.glued (stops more) in
@@ -183,7 +183,7 @@ period_apart more = apart_mark 46 more refl refl refl
 
 -- words in parentheses
 pub tell_parens : (w : List ℕ) (ws : List (List ℕ)) (ss : List Word) → Tell (w ∷ ws) ss
-    → Tell (closed (41 ∷ []) ((40 ∷ w) ∷ ws)) (((record { kind = LeftParen; text = 40 ∷ [] }) ∷ ss) ++ (record { kind = RightParen; text = 41 ∷ [] }) ∷ [])
+    → Tell (with_suffix (41 ∷ []) ((40 ∷ w) ∷ ws)) (((record { kind = LeftParen; text = 40 ∷ [] }) ∷ ss) ++ (record { kind = RightParen; text = 41 ∷ [] }) ∷ [])
 tell_parens w ws ss t = tell_closed RightParen 41 (40 ∷ w) ws ((record { kind = LeftParen; text = 40 ∷ [] }) ∷ ss) one_right right_apart (tell_opened w ws ss t)
 
 -- lines are words with white space between two, and a last LF

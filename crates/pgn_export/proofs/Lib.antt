@@ -3,7 +3,7 @@ pub mod Pages
 pub mod Places
 pub mod Walk
 pub mod Puts
-pub mod Told
+pub mod ReadTokens
 pub mod Tokens
 pub mod Alike
 pub mod Glued

@@ -18,7 +18,7 @@ use Rattle.std.proofs.Math.Seq.{get_or-append_seam}
 use Rattle.cq_position.specs.Games.{Game, tag_at, tag_value, with_tag, HaveDistinctNames}
 use Rattle.pgn_reader.specs.Tags.{with_pair, tags_of}
 use Rattle.pgn_tree.specs.Results.{result_text}
-use Rattle.pgn_export.specs.Normal.{IsNormal, roster_names}
+use Rattle.pgn_export.specs.NormalGames.{IsNormal, roster_names}
 use Rattle.pgn_export.specs.TagLines.{roster, is_in_roster, roster_tag, put, sorted, other_tags, written_tags}
 use Rattle.pgn_export.proofs.Pairs.{pair_of, value_back}
 use Rattle.pgn_export.proofs.Remarks.{all_each}

@@ -4,10 +4,10 @@ use Rattle.std.specs.Prelude.{◌==◌, nat_le, slice_set, codes}
 use Rattle.std.proofs.lemmas.Bool.{leb-true, leb-false}
 use Rattle.std.proofs.lemmas.List.Sums.{fold-append}
 use Rattle.std.proofs.Math.Seq.{set-append_seam}
-use Rattle.pgn_export.specs.Column.{gap, next_column}
+use Rattle.pgn_export.specs.Internal.Column.{gap, next_column}
 use Rattle.pgn_export.specs.Lines.{lines}
-use Rattle.pgn_export.specs.Page.{Page, after_lines, with_word, with_words, with_longer_word}
-use Rattle.pgn_export.specs.Words.{closed, opened}
+use Rattle.pgn_export.specs.Internal.Page.{Page, after_lines, with_word, with_words, with_longer_word}
+use Rattle.pgn_export.specs.Words.{with_suffix, with_prefix}
 use Rattle.pgn_export.proofs.Filled.{following, filled_following}
 
 abbrev page_of : List ℕ → ℕ → ℕ → Page
@@ -61,18 +61,18 @@ unfolding with_word with_longer_word
 longer_word p w more = two_parts p.text w more p.column _ _ _ refl refl refl
 
 -- the last word of some becomes longer
-pub last_longer : (mark : List ℕ) (p : Page) (w : List ℕ) (ws : List (List ℕ)) → with_longer_word (with_words p (w ∷ ws)) mark ≡ with_words p (closed mark (w ∷ ws))
+pub last_longer : (mark : List ℕ) (p : Page) (w : List ℕ) (ws : List (List ℕ)) → with_longer_word (with_words p (w ∷ ws)) mark ≡ with_words p (with_suffix mark (w ∷ ws))
 last_longer mark p w [] = longer_word p w mark
 last_longer mark p w (v ∷ vs) = last_longer mark (with_word p w) v vs
 
 -- a comment, written word by word
 pub comment_written : (old mid words new : Page) (rest ws : List (List ℕ)) (open_ w shut : List ℕ) → ws ≡ w ∷ rest → mid ≡ with_word old (open_ ++ (w ++ []))
-    → words ≡ with_words mid rest → new ≡ with_longer_word words shut → new ≡ with_words old (closed shut (opened open_ ws))
+    → words ≡ with_words mid rest → new ≡ with_longer_word words shut → new ≡ with_words old (with_suffix shut (with_prefix open_ ws))
 comment_written old mid words new rest ws open_ w shut is one more last =
     last
     ∙ ap (λ p. with_longer_word p shut) (more ∙ ap (λ p. with_words p rest) (one ∙ ap (λ x. with_word old (open_ ++ x)) (append-nil w)))
     ∙ last_longer shut old (open_ ++ w) rest
-    ∙ ap (λ l. with_words old (closed shut (opened open_ l))) (sym is)
+    ∙ ap (λ l. with_words old (with_suffix shut (with_prefix open_ l))) (sym is)
 
 -- what is written with the last LF
 written : (p : Page) (ws : List (List ℕ)) → (with_words p ws).text ++ 10 ∷ [] ≡ p.text ++ following p.column ws

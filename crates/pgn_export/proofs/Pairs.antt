@@ -6,16 +6,16 @@ use Rattle.std.proofs.Math.Seq.{take-append_seam}
 use Rattle.std.proofs.lemmas.Bool.{or_parts, eqb-false}
 use Rattle.pgn_lexer.specs.Grammar.{Lacks, IsBody}
 use Rattle.pgn_lexer.specs.Lexemes.{first_at}
-use Rattle.pgn_lexer.specs.Whole.{IsEndedBy}
+use Rattle.pgn_lexer.specs.SingleLexeme.{IsEndedBy}
 use Rattle.pgn_lexer.specs.declared.token.LexemeKind.TheVariants.{Token}
 use Rattle.pgn_lexer.specs.declared.token.TokenKind.TheVariants.{Open, Close, Text, Symbol}
 use Rattle.pgn_lexer.proofs.Bodies.{plain_body}
 use Rattle.pgn_reader.specs.Games.{AreHeading, heading_text}
 use Rattle.pgn_reader.specs.Tags.{Pair, pair_text, unescaped, value_of}
 use Rattle.pgn_reader.specs.Words.{Word}
-use Rattle.pgn_export.specs.Normal.{IsWritable}
+use Rattle.pgn_export.specs.NormalGames.{IsWritable}
 use Rattle.pgn_export.specs.TagLines.{escaped, tag_line}
-use Rattle.pgn_export.proofs.Told.{told, told_one, told_white}
+use Rattle.pgn_export.proofs.ReadTokens.{told, told_one, told_white}
 use Rattle.pgn_export.proofs.Tokens.{one_open, one_close, one_symbol, one_text}
 
 -- a value is escaped as a string holds it

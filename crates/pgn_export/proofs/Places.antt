@@ -10,7 +10,7 @@ use Rattle.cq_position.specs.Games.{Node, no_node, node_at, is_number, is_child_
 use Rattle.cq_position.specs.Continuations.{none, played, continuations}
 use Rattle.cq_position.proofs.Nested.{IsElsewhere, by_parent, passed_over, taken, nothing_left}
 use Rattle.cq_position.proofs.Trees.{tree_first}
-use Rattle.pgn_export.specs.Places.{played_of, children_from, after_node, instead_of}
+use Rattle.pgn_export.specs.Internal.NodeWords.{played_of, children_from, after_node, instead_of}
 
 -- the search passes over numbers that fail the test
 skip_by : (t : Bool) (a : ℕ) (r : Option ℕ) → t ≡ false → cond t (Some a) r ≡ r

@@ -9,7 +9,7 @@ use Rattle.std.proofs.lemmas.List.Concat.{flat_map-append}
 use Rattle.std.specs.Ordering.{nat_cmp, match_ordering}
 use Rattle.std.specs.declared.cmp.Ordering.{Ordering}
 use Rattle.std.specs.declared.cmp.Ordering.TheVariants.{Less, Equal, Greater}
-use Rattle.pgn_export.specs.Plain.{plain}
+use Rattle.pgn_export.specs.Internal.PlainTags.{plain}
 use Rattle.cq_position.specs.Games.{Game}
 use Rattle.pgn_export.specs.TagLines.{is_in_roster, put, tag_line, written_tags}
 

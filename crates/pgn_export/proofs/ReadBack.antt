@@ -12,7 +12,7 @@ use Rattle.cq_position.specs.Position.{IsPosition}
 use Rattle.cq_position.proofs.Following.{follows_of}
 use Rattle.cq_position.proofs.Preorder.{nodes_back}
 use Rattle.pgn_reader.specs.Games.{heading_text, root, MarksEnd, SpellsAny, Spells}
-use Rattle.pgn_reader.specs.Line.{text, beginning, Told, Tells}
+use Rattle.pgn_reader.specs.Line.{text, beginning, LineTail, ParsesLine}
 use Rattle.pgn_reader.specs.declared.fault.GameFault.{GameFault}
 use Rattle.pgn_reader.specs.Tags.{tags_of, start_of}
 use Rattle.pgn_reader.specs.Verdict.{IsVerdict}
@@ -21,7 +21,7 @@ use Rattle.pgn_export.specs.Export.{export_text}
 use Rattle.pgn_export.specs.Lines.{lines}
 use Rattle.pgn_export.specs.Movetext.{line_words, played_in, movetext}
 use Rattle.pgn_tree.specs.Results.{result_text}
-use Rattle.pgn_export.specs.Normal.{levels, IsNormal, IsThisGame, IsReadAs}
+use Rattle.pgn_export.specs.NormalGames.{levels, IsNormal, IsSameGame, IsReadAs}
 use Rattle.pgn_export.specs.TagLines.{tag_line, written_tags}
 use Rattle.pgn_export.specs.Words.{comment_words}
 use Rattle.pgn_export.proofs.Alike.{AreAlike, parts_of, alike_other, like_line}
@@ -31,7 +31,7 @@ use Rattle.pgn_export.proofs.Ordered.{written_as_they_are, tags_back}
 use Rattle.pgn_export.proofs.Pairs.{pair_of, are_heading, tags_told}
 use Rattle.pgn_export.proofs.Remarks.{all_each, remark_word, comments_said}
 use Rattle.pgn_export.proofs.Said.{line_said, marker_token, marker_said, marker_sense, lines_read}
-use Rattle.pgn_export.proofs.Told.{told, told_white, words_told}
+use Rattle.pgn_export.proofs.ReadTokens.{told, told_white, words_told}
 use Rattle.pgn_export.proofs.Written.{onto, text_onto, line_of, HasKeptNotes, AreKept, lined, end_of, comments_tell, line_tells}
 
 -- the glyphs and comments of a node are as a game keeps them
@@ -117,9 +117,9 @@ spelled_by tags result r ns tree distinct position annotated normal first =
     let line = line_of r.position true c in
     let whole = onto (map remark_word r.comments) line in
     let end = end_of (beginning r.position) c in
-    let t : Told = record (lined none c end) { comments = r.comments } in
-    let tells : Tells 0 (beginning r.position) whole t =
-    subst (λ cs. Tells 0 (beginning r.position) whole (record (lined none c end) { comments = cs })) (append-nil r.comments)
+    let t : LineTail = record (lined none c end) { comments = r.comments } in
+    let tells : ParsesLine 0 (beginning r.position) whole t =
+    subst (λ cs. ParsesLine 0 (beginning r.position) whole (record (lined none c end) { comments = cs })) (append-nil r.comments)
     (comments_tell 0 (beginning r.position) r.comments line (lined none c end) annotated.0.comments
     (line_tells c r.position true 0 (beginning r.position) refl position follows kept (at_first (levels c) 100 normal.few_levels))) in
     let said : Said (movetext g) (text whole ++ marker_token result ∷ []) =
@@ -175,7 +175,7 @@ too_long : (limit n : ℕ) → limit < n → n ≤ limit → ⊥
 too_long limit n long short = omega (arith, long, short)
 
 read_back : (g : Game) (start : ℕ) (first : Bool) (text : List ℕ) (answer : Result Game (Refusal GameFault)) → Spells (words_of start first text) g → length text ≤ 2 ^ 24
-    → IsVerdict start first text answer → IsThisGame g answer
+    → IsVerdict start first text answer → IsSameGame g answer
 read_back g start first text (Ok h) spells short verdict = sym (verdict.1.alone g spells)
 read_back g start first text (Err NoMemory) spells short verdict = tt
 read_back g start first text (Err (Fault fault)) spells short verdict =

@@ -16,9 +16,9 @@ use Rattle.pgn_lexer.specs.declared.token.LexemeKind.TheVariants.{Token}
 use Rattle.pgn_lexer.specs.declared.token.TokenKind.TheVariants.{Comment}
 use Rattle.pgn_reader.specs.Words.{Word, remarks, sense, body_of}
 use Rattle.pgn_tree.specs.Words.{without_braces}
-use Rattle.pgn_export.specs.Words.{opened, closed, comment_words}
+use Rattle.pgn_export.specs.Words.{with_prefix, with_suffix, comment_words}
 use Rattle.pgn_export.proofs.Glued.{Glued, Tell, Said, said_none, said_some, said_more, begun, ended}
-use Rattle.pgn_export.proofs.Told.{told, told_one}
+use Rattle.pgn_export.proofs.ReadTokens.{told, told_one}
 use Rattle.pgn_export.proofs.Tokens.{one_comment}
 
 -- element by element
@@ -148,7 +148,7 @@ remark_sense body lacks =
 
 -- a comment's words, however they stand in lines, tell a comment with the same words
 tell_words : (c w : List ℕ) (ws : List (List ℕ)) → words c ≡ w ∷ ws → AllByRecursion IsWord (w ∷ ws) → Lacks 125 c
-    → Tell (closed (125 ∷ []) ((123 ∷ w) ∷ ws)) (remark_word c ∷ [])
+    → Tell (with_suffix (125 ∷ []) ((123 ∷ w) ∷ ws)) (remark_word c ∷ [])
 tell_words c w ws is each lacks first text more glued apart =
     let e = ended 125 (123 ∷ w) ws text glued in
     let b = begun 123 w ws e.inner e.glued in
@@ -171,14 +171,14 @@ tell_words c w ws is each lacks first text more glued apart =
       );
     }
 
-said_closed : (w : List ℕ) (ws : List (List ℕ)) (vs : List Word) → Tell (closed (125 ∷ []) ((123 ∷ w) ∷ ws)) vs → Said (closed (125 ∷ []) ((123 ∷ w) ∷ ws)) vs
+said_closed : (w : List ℕ) (ws : List (List ℕ)) (vs : List Word) → Tell (with_suffix (125 ∷ []) ((123 ∷ w) ∷ ws)) vs → Said (with_suffix (125 ∷ []) ((123 ∷ w) ∷ ws)) vs
 said_closed w [] vs t = said_some ((123 ∷ w) ++ 125 ∷ []) [] vs t
-said_closed w (v ∷ ws) vs t = said_some (123 ∷ w) (closed (125 ∷ []) (v ∷ ws)) vs t
+said_closed w (v ∷ ws) vs t = said_some (123 ∷ w) (with_suffix (125 ∷ []) (v ∷ ws)) vs t
 
 comment_said : (c : List ℕ) → IsComment c → Said (comment_words c) (remark_word c ∷ [])
 comment_said c kept =
     let h = words_found c (words c) refl kept in
-    subst (λ l. Said (closed (125 ∷ []) (opened (123 ∷ []) l)) (remark_word c ∷ [])) (sym h.is)
+    subst (λ l. Said (with_suffix (125 ∷ []) (with_prefix (123 ∷ []) l)) (remark_word c ∷ [])) (sym h.is)
     (said_closed h.first h.more (remark_word c ∷ []) (tell_words c h.first h.more h.is h.each (all_each (λ b. b ≢ 125) c kept.no_brace)))
 
 pub comments_said : (cs : List (List ℕ)) → AllByRecursion IsComment cs → Said (flat_map comment_words cs) (map remark_word cs)

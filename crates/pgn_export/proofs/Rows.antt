@@ -18,7 +18,7 @@ use Rattle.pgn_reader.specs.Words.{result_of_text}
 use Rattle.pgn_export.specs.Export.{export_text}
 use Rattle.pgn_export.specs.Lines.{filled}
 use Rattle.pgn_export.specs.Movetext.{line_words, played_in}
-use Rattle.pgn_export.specs.Normal.{levels, IsWritable, IsNormal}
+use Rattle.pgn_export.specs.NormalGames.{levels, IsWritable, IsNormal}
 use Rattle.pgn_export.specs.TagLines.{roster, roster_tag, other_tags, tag_line}
 
 -- tests of bytes, one by one

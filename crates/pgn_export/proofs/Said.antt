@@ -19,12 +19,12 @@ use Rattle.pgn_reader.specs.Words.{Word, ends, sense, sense_of_symbol, result_of
 use Rattle.pgn_export.specs.Lines.{lines}
 use Rattle.pgn_export.specs.Movetext.{number_words, nag_word, move_words, is_due, line_words, variation_words}
 use Rattle.pgn_tree.specs.Results.{result_text}
-use Rattle.pgn_export.specs.Words.{closed, in_parens, comment_words}
+use Rattle.pgn_export.specs.Words.{with_suffix, in_parens, comment_words}
 use Rattle.pgn_export.proofs.Alike.{AreAlike}
 use Rattle.pgn_export.proofs.Glued.{Tell, Said, said_none, said_some, said_more, tell_of, tell_one, tell_closed, tell_parens, period_apart, lines_glued}
 use Rattle.pgn_export.proofs.Remarks.{remark_word, comments_said}
 use Rattle.pgn_export.proofs.Symbols.{IsSymbolText, number_digits, number_value, number_symbol, move_is_symbol, null_is_dashes}
-use Rattle.pgn_export.proofs.Told.{told, told_nothing, told_white, apart_white}
+use Rattle.pgn_export.proofs.ReadTokens.{told, told_nothing, told_white, apart_white}
 use Rattle.pgn_export.proofs.Tokens.{one_symbol, one_period, one_star, one_null, one_nag}
 use Rattle.pgn_export.proofs.Written.{token_of, number_tokens, glyph_token, move_token, move_tokens, text_onto, line_of, variations_of, text_variations, HasKeptNotes, AreKept, stays_position}
 
@@ -85,9 +85,9 @@ move_some p due m more =
 abbrev in_brackets : List Word → List Word
 in_brackets ws = (token_of LeftParen (codes "(") ∷ ws) ++ token_of RightParen (codes ")") ∷ []
 
-closed_said : (w : List ℕ) (ws : List (List ℕ)) (vs : List Word) → Tell (closed (41 ∷ []) (w ∷ ws)) vs → Said (closed (41 ∷ []) (w ∷ ws)) vs
+closed_said : (w : List ℕ) (ws : List (List ℕ)) (vs : List Word) → Tell (with_suffix (41 ∷ []) (w ∷ ws)) vs → Said (with_suffix (41 ∷ []) (w ∷ ws)) vs
 closed_said w [] vs t = said_some (w ++ 41 ∷ []) [] vs t
-closed_said w (v ∷ ws) vs t = said_some w (closed (41 ∷ []) (v ∷ ws)) vs t
+closed_said w (v ∷ ws) vs t = said_some w (with_suffix (41 ∷ []) (v ∷ ws)) vs t
 
 parens_said : (ws : List (List ℕ)) (vs : List Word) → 0 < length ws → Said ws vs → Said (in_parens ws) (in_brackets vs)
 parens_said [] vs some s = absurd (omega (arith, some))

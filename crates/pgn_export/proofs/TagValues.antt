@@ -16,7 +16,7 @@ use Rattle.std.proofs.lemmas.Map.Text.{is_eq-slice_cmp}
 use Rattle.std.proofs.lemmas.Slice.Eq.{bytes_eq-Decides}
 use Rattle.cq_position.specs.Games.{Game, tag_value, HaveDistinctNames}
 use Rattle.pgn_tree.specs.Results.{result_text}
-use Rattle.pgn_export.specs.Normal.{roster_names}
+use Rattle.pgn_export.specs.NormalGames.{roster_names}
 use Rattle.pgn_export.specs.TagLines.{roster, is_in_roster, roster_tag, put, sorted, other_tags, written_tags}
 use Rattle.pgn_export.specs.TagValues.{written_value, AreExportTags}
 use Rattle.pgn_export.proofs.Ordered.{Tag, before, AreSorted, same_name, absent}

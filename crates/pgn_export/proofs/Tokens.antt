@@ -8,7 +8,7 @@ use Rattle.pgn_lexer.specs.Grammar.{Lacks, IsBody}
 use Rattle.pgn_lexer.specs.declared.token.LexemeKind.TheVariants.{Token}
 use Rattle.pgn_lexer.specs.declared.token.TokenKind.TheVariants.{Open, Close, Text, Symbol, Period, Star, LeftParen, RightParen, Nag, Null, Comment}
 use Rattle.pgn_lexer.proofs.Ended.{alone}
-use Rattle.pgn_export.proofs.Told.{IsOne}
+use Rattle.pgn_export.proofs.ReadTokens.{IsOne}
 
 pub one_open : IsOne Open 91 []
 one_open = record { whole = λ first. alone first (Token Open) 91 [] refl (λ bad. cc); still = refl }

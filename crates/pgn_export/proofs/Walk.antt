@@ -9,14 +9,14 @@ use Rattle.cq_position.specs.Board.{Board}
 use Rattle.cq_position.specs.Games.{Node, node_at, first_child, next_sibling, IsTree}
 use Rattle.cq_position.specs.Continuations.{none}
 use Rattle.cq_position.proofs.Trees.{tree_first}
-use Rattle.pgn_export.specs.Page.{Page, with_word, with_words, with_longer_word}
-use Rattle.pgn_export.specs.Words.{opened, closed, in_parens}
+use Rattle.pgn_export.specs.Internal.Page.{Page, with_word, with_words, with_longer_word}
+use Rattle.pgn_export.specs.Words.{with_prefix, with_suffix, in_parens}
 use Rattle.pgn_export.specs.Movetext.{number_words, move_words, is_any, is_played, is_due, line_words, variation_words}
-use Rattle.pgn_export.specs.Places.{played_of, after_node, instead_of}
+use Rattle.pgn_export.specs.Internal.NodeWords.{played_of, after_node, instead_of}
 use Rattle.pgn_export.proofs.Pages.{last_longer}
 use Rattle.pgn_export.proofs.Places.{no_child, has_child, no_sibling, has_sibling}
 
-no_mark : (ws : List (List ℕ)) → opened [] ws ≡ ws
+no_mark : (ws : List (List ℕ)) → with_prefix [] ws ≡ ws
 no_mark [] = refl
 no_mark (w ∷ ws) = refl
 
@@ -30,15 +30,15 @@ number_starts : (side : Side) (n : ℕ) (more : List (List ℕ)) → Starts (num
 number_starts White n more = record { first = _; others = more; is = refl }
 number_starts Black n more = record { first = _; others = more; is = refl }
 
-opened_starts : (mark : List ℕ) (ws more : List (List ℕ)) → Starts ws → opened mark (ws ++ more) ≡ opened mark ws ++ more
+opened_starts : (mark : List ℕ) (ws more : List (List ℕ)) → Starts ws → with_prefix mark (ws ++ more) ≡ with_prefix mark ws ++ more
 opened_starts mark [] more s = absurd (let e : 0 ≡ suc (length s.others) = ap length s.is in omega (arith, e))
 opened_starts mark (w ∷ ws) more s = refl
 
-opened_some : (mark : List ℕ) (ws : List (List ℕ)) → Starts ws → Starts (opened mark ws)
+opened_some : (mark : List ℕ) (ws : List (List ℕ)) → Starts ws → Starts (with_prefix mark ws)
 opened_some mark [] s = absurd (let e : 0 ≡ suc (length s.others) = ap length s.is in omega (arith, e))
 opened_some mark (w ∷ ws) s = record { first = mark ++ w; others = ws; is = refl }
 
-longer_starts : (mark : List ℕ) (p : Page) (ws : List (List ℕ)) → Starts ws → with_longer_word (with_words p ws) mark ≡ with_words p (closed mark ws)
+longer_starts : (mark : List ℕ) (p : Page) (ws : List (List ℕ)) → Starts ws → with_longer_word (with_words p ws) mark ≡ with_words p (with_suffix mark ws)
 longer_starts mark p [] s = absurd (let e : 0 ≡ suc (length s.others) = ap length s.is in omega (arith, e))
 longer_starts mark p (w ∷ ws) s = last_longer mark p w ws
 
@@ -79,7 +79,7 @@ module _ (nodes : List Node) (tree : IsTree nodes) where
   -- one move of the line, with the variations that replace it
   pub line_step : (whole before mid new : Page) (due next_due : Bool) (at c : ℕ) → at < length nodes → first_child nodes at ≡ Some c
       → with_words before (line_words (node_at nodes at).position due (after_node nodes at)) ≡ whole
-      → ((m : Move) → (node_at nodes c).led_by ≡ Some m → mid ≡ with_words before (opened [] (move_words (node_at nodes at).position due (played_of (node_at nodes c) m))))
+      → ((m : Move) → (node_at nodes c).led_by ≡ Some m → mid ≡ with_words before (with_prefix [] (move_words (node_at nodes at).position due (played_of (node_at nodes c) m))))
       → new ≡ with_words mid (variation_words (node_at nodes at).position (instead_of nodes at c))
       → next_due ≡ (is_any (node_at nodes c).nags || is_any (node_at nodes c).comments || is_some (next_sibling nodes c))
       → with_words new (line_words (node_at nodes c).position next_due (after_node nodes c)) ≡ whole
@@ -108,7 +108,7 @@ module _ (nodes : List Node) (tree : IsTree nodes) where
   -- one variation
   pub variation_step : (whole before mid inner new : Page) (due : Bool) (parent at s : ℕ) → at < length nodes → (node_at nodes at).parent ≡ Some parent → next_sibling nodes at ≡ Some s
       → with_words before (variation_words (node_at nodes parent).position (instead_of nodes parent at)) ≡ whole
-      → ((m : Move) → (node_at nodes s).led_by ≡ Some m → mid ≡ with_words before (opened (codes "(") (move_words (node_at nodes parent).position true (played_of (node_at nodes s) m))))
+      → ((m : Move) → (node_at nodes s).led_by ≡ Some m → mid ≡ with_words before (with_prefix (codes "(") (move_words (node_at nodes parent).position true (played_of (node_at nodes s) m))))
       → due ≡ (is_any (node_at nodes s).nags || is_any (node_at nodes s).comments)
       → inner ≡ with_words mid (line_words (node_at nodes s).position due (after_node nodes s))
       → new ≡ with_longer_word inner (codes ")")
@@ -124,12 +124,12 @@ module _ (nodes : List Node) (tree : IsTree nodes) where
       let lw = line_words (node_at nodes s).position due (after_node nodes s) in
       let vs = variation_words p (instead_of nodes parent s) in
       let due_is : due ≡ is_due m none = two ∙ or_false (is_any (node_at nodes s).nags || is_any (node_at nodes s).comments) in
-      let inside : inner ≡ with_words before (opened (codes "(") (mw ++ lw)) =
-      three ∙ ap (λ x. with_words x lw) (one l.0 l.1) ∙ then before (opened (codes "(") mw) lw
+      let inside : inner ≡ with_words before (with_prefix (codes "(") (mw ++ lw)) =
+      three ∙ ap (λ x. with_words x lw) (one l.0 l.1) ∙ then before (with_prefix (codes "(") mw) lw
       ∙ ap (with_words before) (sym (opened_starts (codes "(") mw lw starts)) in
       let shut : new ≡ with_words before (in_parens (mw ++ lw)) =
       four ∙ ap (λ x. with_longer_word x (codes ")")) inside
-      ∙ longer_starts (codes ")") before (opened (codes "(") (mw ++ lw)) (opened_some (codes "(") (mw ++ lw) (starts_more mw lw starts)) in
+      ∙ longer_starts (codes ")") before (with_prefix (codes "(") (mw ++ lw)) (opened_some (codes "(") (mw ++ lw) (starts_more mw lw starts)) in
       ap (λ x. with_words x vs) shut
       ∙ then before (in_parens (mw ++ lw)) vs
       ∙ ap (λ d. with_words before (in_parens (mw ++ line_words (node_at nodes s).position d (after_node nodes s)) ++ vs)) due_is

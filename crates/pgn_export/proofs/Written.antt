@@ -17,11 +17,11 @@ use Rattle.cq_san.proofs.Means.{written_read}
 use Rattle.pgn_lexer.specs.declared.token.TokenKind.{TokenKind}
 use Rattle.pgn_lexer.specs.declared.token.TokenKind.TheVariants.{Symbol, Period, LeftParen, RightParen, Nag, Null}
 use Rattle.pgn_reader.specs.declared.fault.Reason.TheVariants.{NagRange}
-use Rattle.pgn_reader.specs.Line.{Line, nothing, word, variation, text, Place, beginning, led_to, moved, Told, glyph_told, remark_told, move_told, TellsWord, Tells}
+use Rattle.pgn_reader.specs.Line.{Line, nothing, word, variation, text, LinePlace, beginning, led_to, moved, LineTail, tail_with_glyph, tail_with_comment, tail_with_move, ParsesWord, ParsesLine}
 use Rattle.pgn_reader.specs.Words.{Word, plays, annotates, opens, closes, means_nothing, out_of_place, sense, sense_of_glyph, sense_of_symbol}
 use Rattle.pgn_reader.proofs.Moves.{led_by_null, led_by_other}
 use Rattle.pgn_export.specs.Movetext.{is_due}
-use Rattle.pgn_export.specs.Normal.{levels, levels_beside}
+use Rattle.pgn_export.specs.NormalGames.{levels, levels_beside}
 use Rattle.cq_position.specs.Games.{IsComment}
 use Rattle.pgn_export.proofs.Remarks.{all_each, remark_word, remark_sense}
 use Rattle.pgn_export.proofs.Symbols.{digits_mean_nothing, number_digits, move_is_symbol}
@@ -89,26 +89,26 @@ AreKept none = Unit {0}
 AreKept (played m next others) = HasKeptNotes m.nags m.comments × AreKept next × AreKept others
 
 -- what a line tells of which no glyph and no comment waits
-abbrev pub lined : (variations rest : Continuations) → Place → Told
+abbrev pub lined : (variations rest : Continuations) → LinePlace → LineTail
 lined variations rest end = record { nags = []; comments = []; variations = variations; rest = rest; end = end }
 
 -- the place at its end
-unfoldable pub end_of : Place → Continuations → Place
+unfoldable pub end_of : LinePlace → Continuations → LinePlace
 end_of a none = a
 end_of a (played m next others) = end_of (moved a m.move) next
 
-record HasMove (a : Place) : Type 0 where
+record HasMove (a : LinePlace) : Type 0 where
   before : Board
   is : a.before ≡ Some before
 
-end_has : (c : Continuations) (a : Place) → HasMove a → HasMove (end_of a c)
+end_has : (c : Continuations) (a : LinePlace) → HasMove a → HasMove (end_of a c)
 unfolding end_of
 end_has none a has = has
 end_has (played m next others) a has = end_has next (moved a m.move) (record { before = a.reached; is = refl })
 
 -- tokens that mean nothing
-skips : (depth : ℕ) (a : Place) (w : Word) (line : Line) (t : Told) → sense w ≡ means_nothing → Tells depth a line t → Tells depth a (word w line) t
-skips depth a w line t nothing_meant tells = (a, t, subst (λ s. TellsWord depth a s a t t) (sym nothing_meant) (refl, refl), tells)
+skips : (depth : ℕ) (a : LinePlace) (w : Word) (line : Line) (t : LineTail) → sense w ≡ means_nothing → ParsesLine depth a line t → ParsesLine depth a (word w line) t
+skips depth a w line t nothing_meant tells = (a, t, subst (λ s. ParsesWord depth a s a t t) (sym nothing_meant) (refl, refl), tells)
 
 period_sense : sense (period) ≡ means_nothing
 unfolding sense
@@ -121,7 +121,7 @@ symbol_sense text = refl
 number_sense : (n : ℕ) → n < 4294967296 → sense (token_of Symbol (decimal n)) ≡ means_nothing
 number_sense n small = symbol_sense (decimal n) ∙ digits_mean_nothing (decimal n) (number_digits n small).test
 
-number_tells : (depth : ℕ) (a : Place) (side : Side) (due : Bool) (n : ℕ) (line : Line) (t : Told) → n < 4294967296 → Tells depth a line t → Tells depth a (onto (number_tokens side due n) line) t
+number_tells : (depth : ℕ) (a : LinePlace) (side : Side) (due : Bool) (n : ℕ) (line : Line) (t : LineTail) → n < 4294967296 → ParsesLine depth a line t → ParsesLine depth a (onto (number_tokens side due n) line) t
 number_tells depth a White due n line t small tells = skips depth a (token_of Symbol (decimal n)) (word period line) t (number_sense n small) (skips depth a period line t period_sense tells)
 number_tells depth a Black true n line t small tells =
     skips depth a (token_of Symbol (decimal n)) (word period (word period (word period line))) t (number_sense n small)
@@ -133,22 +133,22 @@ glyph_sense : (n : ℕ) → n < 256 → sense (glyph_token n) ≡ annotates n
 unfolding sense sense_of_glyph
 glyph_sense n small = ap (λ t. if t then annotates n else out_of_place NagRange) (lt-ltb n 256 small)
 
-glyphs_tell : (depth : ℕ) (a : Place) (ns : List ℕ) (line : Line) (t : Told) → AllByRecursion (λ n. n < 256) ns → Tells depth a line t
-    → Tells depth a (onto (map glyph_token ns) line) (record t { nags = ns ++ t.nags })
+glyphs_tell : (depth : ℕ) (a : LinePlace) (ns : List ℕ) (line : Line) (t : LineTail) → AllByRecursion (λ n. n < 256) ns → ParsesLine depth a line t
+    → ParsesLine depth a (onto (map glyph_token ns) line) (record t { nags = ns ++ t.nags })
 glyphs_tell depth a [] line t all tells = tells
 glyphs_tell depth a (n ∷ ns) line t all tells =
     let u = record t { nags = ns ++ t.nags } in
-    (a, u, subst (λ s. TellsWord depth a s a u (glyph_told n u)) (sym (glyph_sense n all.0)) (refl, refl), glyphs_tell depth a ns line t all.1 tells)
+    (a, u, subst (λ s. ParsesWord depth a s a u (tail_with_glyph n u)) (sym (glyph_sense n all.0)) (refl, refl), glyphs_tell depth a ns line t all.1 tells)
 
-pub comments_tell : (depth : ℕ) (a : Place) (cs : List (List ℕ)) (line : Line) (t : Told) → AllByRecursion IsComment cs → Tells depth a line t
-    → Tells depth a (onto (map remark_word cs) line) (record t { comments = cs ++ t.comments })
+pub comments_tell : (depth : ℕ) (a : LinePlace) (cs : List (List ℕ)) (line : Line) (t : LineTail) → AllByRecursion IsComment cs → ParsesLine depth a line t
+    → ParsesLine depth a (onto (map remark_word cs) line) (record t { comments = cs ++ t.comments })
 comments_tell depth a [] line t all tells = tells
 comments_tell depth a (c ∷ cs) line t all tells =
     let u = record t { comments = cs ++ t.comments } in
-    let kept : record u { comments = c ∷ u.comments } ≡ remark_told c u = ap (λ l. record u { comments = l ++ u.comments }) (sym all.0.spaced) in (
+    let kept : record u { comments = c ∷ u.comments } ≡ tail_with_comment c u = ap (λ l. record u { comments = l ++ u.comments }) (sym all.0.spaced) in (
       a,
       u,
-      subst (λ s. TellsWord depth a s a u (record u { comments = c ∷ u.comments }))
+      subst (λ s. ParsesWord depth a s a u (record u { comments = c ∷ u.comments }))
           (sym (remark_sense c (all_each (λ b. b ≢ 125) c all.0.no_brace))) (refl, kept),
       comments_tell depth a cs line t all.1 tells,
     )
@@ -176,30 +176,30 @@ unfolding sense
 move_sense_by p m q true null kept leads = refl
 move_sense_by p m q false null kept leads = (move_is_symbol p m q kept leads null).plays_it
 
-move_tells : (depth : ℕ) (a : Place) (p : Board) (due : Bool) (m : Played) (line : Line) (next others : Continuations) (end : Place)
-    → a.reached ≡ p → IsPosition p → Leads p m.move m.position → HasKeptNotes m.nags m.comments → Tells depth (moved a m.move) line (lined others next end)
-    → Tells depth a (onto (move_tokens p due m) line) (lined none (played m next others) end)
+move_tells : (depth : ℕ) (a : LinePlace) (p : Board) (due : Bool) (m : Played) (line : Line) (next others : Continuations) (end : LinePlace)
+    → a.reached ≡ p → IsPosition p → Leads p m.move m.position → HasKeptNotes m.nags m.comments → ParsesLine depth (moved a m.move) line (lined others next end)
+    → ParsesLine depth a (onto (move_tokens p due m) line) (lined none (played m next others) end)
 move_tells depth a p due m line next others end at kept leads notes tells =
     let b = moved a m.move in
-    let u : Told = record { nags = m.nags; comments = m.comments; variations = others; rest = next; end = end } in
+    let u : LineTail = record { nags = m.nags; comments = m.comments; variations = others; rest = next; end = end } in
     let noted_line = onto (map glyph_token m.nags ++ map remark_word m.comments) line in
-    let after_it : Tells depth b noted_line u =
-    subst (λ l. Tells depth b l u) (sym (onto_append (map glyph_token m.nags) (map remark_word m.comments) line))
-    (subst (λ ns. Tells depth b (onto (map glyph_token m.nags) (onto (map remark_word m.comments) line)) (record u { nags = ns })) (append-nil m.nags)
+    let after_it : ParsesLine depth b noted_line u =
+    subst (λ l. ParsesLine depth b l u) (sym (onto_append (map glyph_token m.nags) (map remark_word m.comments) line))
+    (subst (λ ns. ParsesLine depth b (onto (map glyph_token m.nags) (onto (map remark_word m.comments) line)) (record u { nags = ns })) (append-nil m.nags)
     (glyphs_tell depth b m.nags (onto (map remark_word m.comments) line) (record u { nags = [] }) notes.nags
-    (subst (λ cs. Tells depth b (onto (map remark_word m.comments) line) (record u { nags = []; comments = cs })) (append-nil m.comments)
+    (subst (λ cs. ParsesLine depth b (onto (map remark_word m.comments) line) (record u { nags = []; comments = cs })) (append-nil m.comments)
     (comments_tell depth b m.comments line (lined others next end) notes.comments tells)))) in
     let to : b.reached ≡ m.position = ap (λ x. led_to x m.move) at ∙ led p m.move m.position leads in
     let read : san a.reached (san_text p m.move) ≡ Ok m.move = ap (λ x. san x (san_text p m.move)) at ∙ written_read p m.move m.position kept leads in
-    let tells_move : lined none (played m next others) end ≡ move_told m.move b.reached u = ap (λ q. move_told m.move q u) (sym to) in
-    let one : Tells depth a (word (move_token p m.move) noted_line) (lined none (played m next others) end) = (
+    let tells_move : lined none (played m next others) end ≡ tail_with_move m.move b.reached u = ap (λ q. tail_with_move m.move q u) (sym to) in
+    let one : ParsesLine depth a (word (move_token p m.move) noted_line) (lined none (played m next others) end) = (
       b,
       u,
-      subst (λ s. TellsWord depth a s b u (lined none (played m next others) end))
+      subst (λ s. ParsesWord depth a s b u (lined none (played m next others) end))
           (sym (move_sense_by p m.move m.position m.move.null refl kept leads)) (m.move, read, refl, tells_move),
       after_it,
     ) in
-    subst (λ l. Tells depth a l (lined none (played m next others) end))
+    subst (λ l. ParsesLine depth a l (lined none (played m next others) end))
     (sym (onto_append (number_tokens p.side due p.number) ((move_token p m.move ∷ []) ++ (map glyph_token m.nags ++ map remark_word m.comments)) line))
     (number_tells depth a p.side due p.number (word (move_token p m.move) noted_line) (lined none (played m next others) end) kept.fits one)
 
@@ -232,8 +232,8 @@ levels_later m next others = omega arith
 mutual
   unfolding line_of variations_of AreKept Follows end_of
 
-  pub line_tells : (c : Continuations) (p : Board) (due : Bool) (depth : ℕ) (a : Place) → a.reached ≡ p → IsPosition p → Follows p c → AreKept c → depth + levels c ≤ 100
-      → Tells depth a (line_of p due c) (lined none c (end_of a c))
+  pub line_tells : (c : Continuations) (p : Board) (due : Bool) (depth : ℕ) (a : LinePlace) → a.reached ≡ p → IsPosition p → Follows p c → AreKept c → depth + levels c ≤ 100
+      → ParsesLine depth a (line_of p due c) (lined none c (end_of a c))
   line_tells none p due depth a at kept follows notes few = refl
   line_tells (played m next others) p due depth a at kept follows notes few =
       let b = moved a m.move in
@@ -245,9 +245,9 @@ mutual
       (variations_tell others p (line_of m.position (is_due m others) next) depth b next end (ap (λ x. Some x) at) kept follows.2 notes.2 (omega (arith, few, beside_))
       (line_tells next m.position (is_due m others) depth b to (stays_position p m.move m.position kept follows.0) follows.1 notes.1 (omega (arith, few, below))))
 
-  pub variations_tell : (others : Continuations) (p : Board) (line : Line) (depth : ℕ) (a : Place) (next : Continuations) (end : Place)
+  pub variations_tell : (others : Continuations) (p : Board) (line : Line) (depth : ℕ) (a : LinePlace) (next : Continuations) (end : LinePlace)
       → a.before ≡ Some p → IsPosition p → Follows p others → AreKept others
-      → depth + levels_beside others ≤ 100 → Tells depth a line (lined none next end) → Tells depth a (variations_of p others line) (lined others next end)
+      → depth + levels_beside others ≤ 100 → ParsesLine depth a line (lined none next end) → ParsesLine depth a (variations_of p others line) (lined others next end)
   variations_tell none p line depth a next end before kept follows notes few tells = tells
   variations_tell (played m inner others) p line depth a next end before kept follows notes few tells =
       let start = beginning p in

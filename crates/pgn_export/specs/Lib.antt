@@ -1,12 +1,9 @@
 pub mod Words
 pub mod Lines
-pub mod Column
-pub mod Page
 pub mod Movetext
 pub mod TagLines
-pub mod Places
-pub mod Plain
 pub mod Export
-pub mod Normal
+pub mod NormalGames
 pub mod Rows
 pub mod TagValues
+pub mod Internal

@@ -4,7 +4,7 @@ use Rattle.std.specs.Option.{option_or, is_some}
 use Rattle.std.specs.Str.{bytes_eq}
 use Rattle.cq_position.specs.Games.{Game, tag_value}
 use Rattle.pgn_tree.specs.Results.{result_text}
-use Rattle.pgn_export.specs.Normal.{AreInOrder}
+use Rattle.pgn_export.specs.NormalGames.{AreInExportOrder}
 use Rattle.pgn_export.specs.TagLines.{roster, written_tags}
 
 -- The value with which a tag is written, if it is: the game's result, 1 for SetUp with FEN, or the game's value, or that which the roster
@@ -17,5 +17,5 @@ written_value g name =
 
 -- they stand in export order, and each name has that value
 pub record AreExportTags (g : Game) : Type 0 where
-  pub order : AreInOrder (written_tags g)
+  pub order : AreInExportOrder (written_tags g)
   pub values : (name : List ℕ) → tag_value name (written_tags g) ≡ written_value g name

@@ -1,7 +1,7 @@
 //! The export text of a game.
 ghost use Rattle.std.specs.Prelude.{◌≡◌, ℕ, Bool, IfOk};
 ghost use Rattle.pgn_export.specs.Export.{export_text};
-ghost use Rattle.pgn_export.specs.Normal.{IsNormal, IsReadAs};
+ghost use Rattle.pgn_export.specs.NormalGames.{IsNormal, IsReadAs};
 ghost use Rattle.pgn_reader.specs.Games.{Spells};
 ghost use Rattle.pgn_reader.specs.Words.{words_of};
 
@@ -25,7 +25,7 @@ const ROOM_FOR_MOVE: usize = 8;
 /// movetext stands in lines of at most 79 bytes, but that a longer word stands alone, with single spaces between words; an
 /// empty line ends it. Numeric annotation glyphs and comments follow their move, then the variations that replace it.
 ///
-/// The text of a normal game, as `specs/Normal` says which these are, spells the game, wherever it stands in an archive:
+/// The text of a normal game, as `specs/NormalGames` says which these are, spells the game, wherever it stands in an archive:
 /// `read_game` gives this game back.
 pub fn export(alloc: Global, game: &Game) -> Result<Bytes, NoMemory>
     ensures text { IfOk result (λ text. text ≡ export_text game.now) }

@@ -8,9 +8,9 @@ ghost use Rattle.cq_position.specs.Games.{node_at, first_child, next_sibling};
 ghost use Rattle.cq_position.specs.Legal.{Leads};
 ghost use Rattle.cq_san.specs.Writing.{san_text};
 ghost use Rattle.pgn_export.specs.Movetext as movetext;
-ghost use Rattle.pgn_export.specs.Page.{with_word, with_words};
-ghost use Rattle.pgn_export.specs.Places.{words_to, words_after, words_instead_of, has_notes};
-ghost use Rattle.pgn_export.specs.Words.{opened, closed, comment_words};
+ghost use Rattle.pgn_export.specs.Internal.Page.{with_word, with_words};
+ghost use Rattle.pgn_export.specs.Internal.NodeWords.{words_to, words_after, words_instead_of, has_notes};
+ghost use Rattle.pgn_export.specs.Words.{with_prefix, with_suffix, comment_words};
 
 use crate::page::Page;
 use cq_common::NoMemory;
@@ -115,7 +115,7 @@ fn write_move(
     requires node { k < length game.now.nodes }
     requires parent { (node_at game.now.nodes k).parent ≡ Some parent }
     ensures { OnOk result ((m : MoveValue) → (node_at game.now.nodes k).led_by ≡ Some m →
-        page.new ≡ with_words page.old (opened mark.now (words_to game.now.nodes due parent k m))) }
+        page.new ≡ with_words page.old (with_prefix mark.now (words_to game.now.nodes due parent k m))) }
 {
     prove!(game.is_tree());
     let Some(m) = game.move_to(k) else {
@@ -137,7 +137,7 @@ fn write_san(
 ) -> Result<(), NoMemory>
     requires { Leads position.now m after.now }
     ensures { OnOk result (page.new ≡ with_words page.old
-        (opened mark.now (movetext.number_words position.now.side due position.now.number ++ san_text position.now m ∷ []))) }
+        (with_prefix mark.now (movetext.number_words position.now.side due position.now.number ++ san_text position.now m ∷ []))) }
 {
     let san = san_text_to(position, m, after);
     let number = position.number();

@@ -1,6 +1,6 @@
 //! The text of a game as it is written.
 ghost use Rattle.std.specs.Prelude.{◌≡◌, ◌<◌, ◌++◌, length, OnOk, codes};
-ghost use Rattle.pgn_export.specs.Page.{after_lines, with_word, with_longer_word, with_last_in_new_line};
+ghost use Rattle.pgn_export.specs.Internal.Page.{after_lines, with_word, with_longer_word, with_last_in_new_line};
 
 use cq_common::NoMemory;
 use std::marker::Model;
@@ -20,7 +20,7 @@ pub(crate) struct Page {
 
 impl Model for Page {
     ghost use Rattle.std.specs.Prelude.{◌<◌, length};
-    ghost use Rattle.pgn_export.specs.Page.{Page};
+    ghost use Rattle.pgn_export.specs.Internal.Page.{Page};
 
     ghost Value = { Page };
 
@@ -50,7 +50,7 @@ impl Page {
     }
 
     /// Adds a word, after a space where its line has room for both, else in a new line.
-    #[tactic(auto, unfolding(crate::specs::Page::with_word))]
+    #[tactic(auto, unfolding(crate::specs::Internal::Page::with_word))]
     pub(crate) fn push(&mut self, word: &[u8]) -> Result<(), NoMemory>
         ensures { OnOk result (self.new ≡ with_word self.old word.now) }
     {
@@ -97,7 +97,7 @@ impl Page {
     }
 
     /// Adds bytes at the end of the last word.
-    #[tactic(auto, unfolding(crate::specs::Page::with_longer_word))]
+    #[tactic(auto, unfolding(crate::specs::Internal::Page::with_longer_word))]
     pub(crate) fn extend_last(&mut self, more: &[u8]) -> Result<(), NoMemory>
         ensures { OnOk result (self.new ≡ with_longer_word self.old more.now) }
     {

@@ -3,7 +3,7 @@ ghost use Rattle.std.specs.Prelude.{◌≡◌, ◌++◌, not, filter, map, OnOk,
 ghost use Rattle.std.specs.List.{flat_map};
 ghost use Rattle.std.specs.Option.{unwrap_or};
 ghost use Rattle.cq_position.specs.Games.{tag_value};
-ghost use Rattle.pgn_export.specs.Plain.{plain};
+ghost use Rattle.pgn_export.specs.Internal.PlainTags.{plain};
 ghost use Rattle.pgn_export.specs.TagLines as tag_lines;
 
 use cq_common::{Bytes, NoMemory};

@@ -7,7 +7,7 @@ use Rattle.std.specs.List.{flat_map, list_any}
 use Rattle.std.specs.Prelude.{chars, if◌then◌else◌}
 use Rattle.std.specs.Str.{is_utf8}
 use lib.Utf8.{encode, encodes}
-use Rattle.pgn_json.specs.Bytes.{byte_text}
+use Rattle.pgn_json.specs.Internal.Bytes.{byte_text}
 use Rattle.pgn_json.specs.Strings.{character_text, characters, escape, is_escaped}
 
 -- what is not ASCII needs no escape

@@ -6,15 +6,15 @@ use Rattle.std.proofs.lemmas.List.{take_more, take-map}
 use Rattle.std.proofs.lemmas.List.Sums.{count_by-le-length, sum_by-append}
 use Rattle.std.proofs.Math.Seq.{take-append_seam}
 use Rattle.std.proofs.lemmas.Option.{slice_get_within, get_or_from_slice_get}
-use Rattle.pgn_batches.specs.Kept.{KeptGames, kept, most_kept}
-use Rattle.pgn_batches.specs.declared.kept.KeptGame.{KeptGame}
+use Rattle.pgn_batches.specs.KeptGames.{KeptGames, kept, most_kept}
+use Rattle.pgn_batches.specs.declared.kept_game.KeptGame.{KeptGame}
 use Rattle.cq_position.specs.Games.{Game}
-use Rattle.pgn_cut.specs.Joined.{game_bytes}
+use Rattle.pgn_cut.specs.GameTokens.{game_bytes}
 use Rattle.pgn_cut.specs.declared.span.Span.{Span}
 use Rattle.cq_report.specs.Games.{fault_line}
 use Rattle.pgn_json.specs.Json.{json_text}
 use Rattle.pgn_json.specs.Lines.{AreEntries, Entry, fault_lines, fault_of, faulty, is_faulty, line_of, lines}
-use Rattle.pgn_json.specs.Texts.{AreKept, AreTextsOf}
+use Rattle.pgn_json.specs.Internal.Texts.{AreKept, AreTextsOf}
 use Rattle.pgn_json.specs.declared.texts.Texts.{Texts}
 use Rattle.pgn_reader.specs.Limits.{longest}
 use Rattle.pgn_reader.specs.Verdict.{IsRead}

@@ -18,7 +18,7 @@ use Rattle.pgn_json.specs.Grammar.{IsJson, IsReadAsValue}
 use Rattle.pgn_json.specs.Json.{game_text, is_marked, json_text, move_of, node_text, parent_of, tag_text, note_members as note_texts, fen_members as fen_texts, mark_members as mark_texts}
 use Rattle.pgn_tree.specs.Results.{result_text}
 use Rattle.pgn_json.specs.Moves.{uci_text}
-use Rattle.pgn_json.specs.Kept.{AreBytes, HasByteTexts, HasKeptNodes}
+use Rattle.pgn_json.specs.GameConditions.{AreBytes, HasByteTexts, HasValidNodes}
 use Rattle.pgn_json.specs.Strings.{characters, string_text}
 use Rattle.pgn_json.specs.Values.{array, array_member as array_member_text, member, plain}
 use Rattle.pgn_json.proofs.Left.{others, others_many, other_at}
@@ -79,7 +79,7 @@ marks_json If mark n =
     member_if If (is_marked mark n) (codes "marked", truth) (member (codes "marked") (codes "true"))
     (member_json If (codes "marked") truth (codes "true") refl (truth_json If))
 
-node_json : (If : Type 0) (mark : List ℕ) (nodes : List Node) (k : ℕ) → HasKeptNodes nodes → (If → All AreBytes (node_at nodes k).comments) → 0 < k
+node_json : (If : Type 0) (mark : List ℕ) (nodes : List Node) (k : ℕ) → HasValidNodes nodes → (If → All AreBytes (node_at nodes k).comments) → 0 < k
     → k < length nodes → Writes If (node_value mark nodes k) (node_text mark nodes k)
 unfolding node_value node_text
 node_json If mark nodes k kept are some_ low =
@@ -116,7 +116,7 @@ inner nodes =
     (omega (arith, at), omega (arith, at, low))))
 
 -- a game, whose texts are of bytes if it says so
-pub game_written : (mark : List ℕ) (ordinal byte : ℕ) (g : Game) → HasKeptNodes g.nodes → ordinal < 2 ^ 64 → byte < 2 ^ 64
+pub game_written : (mark : List ℕ) (ordinal byte : ℕ) (g : Game) → HasValidNodes g.nodes → ordinal < 2 ^ 64 → byte < 2 ^ 64
     → Writes (HasByteTexts g) (json_of mark ordinal byte g) (game_text mark ordinal byte g)
 unfolding json_of game_text
 game_written mark ordinal byte g kept low few =
@@ -163,21 +163,21 @@ game_written mark ordinal byte g kept low few =
       ),
     )
 
-game_json : (mark : List ℕ) (ordinal byte : ℕ) (g : Game) → HasKeptNodes g.nodes → HasByteTexts g → ordinal < 2 ^ 64 → byte < 2 ^ 64
+game_json : (mark : List ℕ) (ordinal byte : ℕ) (g : Game) → HasValidNodes g.nodes → HasByteTexts g → ordinal < 2 ^ 64 → byte < 2 ^ 64
     → IsJson (json_of mark ordinal byte g) (game_text mark ordinal byte g)
 game_json mark ordinal byte g kept texts low few =
     let written = game_written mark ordinal byte g kept low few in
     record { text = written.text; scalars = written.legal texts; encoded = written.encoded; spelled = written.spelled }
 
 -- it is read as the value of its game, and as no other
-pub game_read_as : (mark : List ℕ) (ordinal byte : ℕ) (g : Game) → HasKeptNodes g.nodes → HasByteTexts g → ordinal < 2 ^ 64 → byte < 2 ^ 64
+pub game_read_as : (mark : List ℕ) (ordinal byte : ℕ) (g : Game) → HasValidNodes g.nodes → HasByteTexts g → ordinal < 2 ^ 64 → byte < 2 ^ 64
     → IsReadAsValue (game_text mark ordinal byte g) (json_of mark ordinal byte g)
 game_read_as mark ordinal byte g kept texts low few =
     let json = game_json mark ordinal byte g kept texts low few in
     record { value = json; alone = λ w other. one_reading w (json_of mark ordinal byte g) (game_text mark ordinal byte g) other json }
 
 -- and is UTF-8
-pub line_utf8 : (mark : List ℕ) (ordinal byte : ℕ) (g : Game) → HasKeptNodes g.nodes → HasByteTexts g → ordinal < 2 ^ 64 → byte < 2 ^ 64
+pub line_utf8 : (mark : List ℕ) (ordinal byte : ℕ) (g : Game) → HasValidNodes g.nodes → HasByteTexts g → ordinal < 2 ^ 64 → byte < 2 ^ 64
     → IsUtf8 (json_text mark ordinal byte g)
 line_utf8 mark ordinal byte g kept texts low few =
     let written = game_written mark ordinal byte g kept low few in

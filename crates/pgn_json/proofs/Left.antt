@@ -5,7 +5,7 @@ use Rattle.std.proofs.lemmas.Grind.{get_or_after_one}
 use Rattle.std.proofs.lemmas.List.{length-drop}
 use Rattle.std.proofs.lemmas.List.FromFn.{length-range_with_len, get_or-range_with_len}
 use Rattle.cq_position.specs.Games.{Node, numbers}
-use Rattle.pgn_json.specs.Left.{comma_after, left}
+use Rattle.pgn_json.specs.Internal.Remaining.{comma_after, left}
 
 -- the nodes but the start
 abbrev pub others : List Node → List ℕ

@@ -18,7 +18,7 @@ pub mod Grown
 pub mod Numbers
 pub mod Opening
 pub mod Pages
-pub mod Parts
+pub mod BatchParts
 pub mod Placing
 pub mod Refusals
 pub mod Writings

@@ -10,8 +10,8 @@ use Rattle.cq_outside.specs.Flow.{Grew}
 use Rattle.cq_common.specs.declared.faults.Failed.{Failed}
 use Rattle.cq_common.specs.declared.faults.Refusal.{Refusal}
 use Rattle.cq_common.specs.declared.faults.Refusal.TheVariants.{Fault, NoMemory}
-use Rattle.pgn_json.specs.Pages.{Adds, FailsIn, WaitsOf, WritesText}
-use Rattle.pgn_json.specs.Texts.{all_lines}
+use Rattle.pgn_json.specs.Internal.Pages.{Adds, FailsIn, WaitsOf, WritesText}
+use Rattle.pgn_json.specs.Internal.Texts.{all_lines}
 use Rattle.pgn_json.specs.Writing.{SinkView}
 use Rattle.pgn_json.specs.declared.texts.Texts.{Texts}
 use Rattle.pgn_json.proofs.Grown.{grew_none, grew_on, rose_on}

@@ -5,13 +5,13 @@ use Rattle.std.proofs.lemmas.Bool.{cases_Bool}
 use Rattle.std.proofs.lemmas.List.{get_or-set_other, get_or-set_same, length-set}
 use Rattle.std.proofs.lemmas.List.Elements.{All-pop}
 use Rattle.std.proofs.lemmas.Option.{get_or_from_slice_get, slice_get-get_or, slice_get_within}
-use Rattle.pgn_batches.specs.declared.kept.KeptGame.{KeptGame}
-use Rattle.cq_workers.specs.Numbered.{IsNumbered, IsOfSome, made_at}
+use Rattle.pgn_batches.specs.declared.kept_game.KeptGame.{KeptGame}
+use Rattle.cq_workers.specs.NumberedOutputs.{IsNumbered, IsOfSome, made_at}
 use Rattle.cq_workers.proofs.Counting.{made_more}
-use Rattle.pgn_json.specs.Making.{AreGameTexts, ArePlaced, IsOfGame, IsPlaced, IsTextsAt, number_in}
-use Rattle.pgn_json.specs.Parts.{Part, size}
-use Rattle.pgn_json.specs.Texts.{AreTextsOf}
-use Rattle.pgn_json.specs.declared.making.GameTexts.{GameTexts}
+use Rattle.pgn_json.specs.Internal.PartTexts.{AreGameTexts, ArePlaced, IsOfGame, IsPlaced, IsTextsAt, number_in}
+use Rattle.pgn_json.specs.Internal.Parts.{Part, size}
+use Rattle.pgn_json.specs.Internal.Texts.{AreTextsOf}
+use Rattle.pgn_json.specs.declared.part_texts.GameTexts.{GameTexts}
 use Rattle.pgn_json.specs.declared.texts.Texts.{Texts}
 
 pub numbered : (part : Part) → IsNumbered (IsTextsAt part) number_in 0

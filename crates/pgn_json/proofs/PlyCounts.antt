@@ -6,7 +6,7 @@ use Rattle.std.proofs.Math.Seq.{get_or-append_seam}
 use Rattle.cq_position.specs.Games.{Node, node_at, up_from, way_up, IsTree}
 use Rattle.cq_position.specs.Search.{ply}
 use Rattle.cq_position.proofs.WaysUp.{way_on}
-use Rattle.pgn_json.specs.Left.{ArePlies}
+use Rattle.pgn_json.specs.Internal.Remaining.{ArePlies}
 
 up_short : (most : ℕ) (nodes : List Node) (n : Option ℕ) → length (up_from most nodes n) ≤ most
 up_short zero nodes n = omega arith

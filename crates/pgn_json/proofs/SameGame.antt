@@ -21,8 +21,8 @@ use Rattle.pgn_json.specs.Data.{Value, truth, array_of}
 use Rattle.pgn_json.specs.GameValue.{fen_members, json_of, mark_members, node_value, note_members, tag_value}
 use Rattle.pgn_json.specs.Json.{game_text, is_marked, json_text, move_of, parent_of}
 use Rattle.pgn_tree.specs.Results.{result_text}
-use Rattle.pgn_json.specs.Kept.{HasKeptNodes}
-use Rattle.pgn_json.specs.Same.{game_read, node_read, tag_read}
+use Rattle.pgn_json.specs.GameConditions.{HasValidNodes}
+use Rattle.pgn_json.specs.GameReading.{game_read, node_read, tag_read}
 use Rattle.pgn_json.proofs.GameJson.{game_written}
 use Rattle.pgn_json.proofs.Left.{others, others_many, other_at}
 use Rattle.pgn_json.proofs.OneValue.{one_spelled}
@@ -149,7 +149,7 @@ one_move p m n q r kept leads other same =
     ap move_or_null (sym (written_read p m q kept leads) ∙ ap (san p) same ∙ written_read p n r kept other)
 
 -- the first n nodes are at the same places
-same_places : (n : ℕ) (nodes nodes' : List Node) → HasKeptNodes nodes → HasKeptNodes nodes' → length nodes ≡ length nodes'
+same_places : (n : ℕ) (nodes nodes' : List Node) → HasValidNodes nodes → HasValidNodes nodes' → length nodes ≡ length nodes'
     → (node_at nodes 0).position ≡ (node_at nodes' 0).position → ((k : ℕ) → 0 < k → k < length nodes → SameTold nodes nodes' k)
     → (k : ℕ) → k < n → k < length nodes → IsSamePlace (node_at nodes k) (node_at nodes' k)
 same_places zero nodes nodes' kept kept' many start each k less low = absurd (omega (arith, less))
@@ -204,7 +204,7 @@ value_at value nodes k some_ low =
     let at : get_or (others nodes) (k - 1) 0 ≡ k = omega (arith, other_at nodes (k - 1) (omega (arith, some_, low)), some_) in
     get_or-map value (others nodes) (k - 1) 0 truth (omega (arith, others_many nodes, some_, low)) ∙ ap value at
 
-same_nodes : (mark mark' : List ℕ) (nodes nodes' : List Node) → HasKeptNodes nodes → HasKeptNodes nodes'
+same_nodes : (mark mark' : List ℕ) (nodes nodes' : List Node) → HasValidNodes nodes → HasValidNodes nodes'
     → fen_of (node_at nodes 0).position ≡ fen_of (node_at nodes' 0).position → SameNotes (node_at nodes 0) (node_at nodes' 0)
     → map (node_value mark nodes) (others nodes) ≡ map (node_value mark' nodes') (others nodes') → map node_read nodes ≡ map node_read nodes'
 same_nodes mark mark' nodes nodes' kept kept' fen notes same =
@@ -239,7 +239,7 @@ same_nodes mark mark' nodes nodes' kept kept' fen notes same =
 
 -- a game of which a line is written, and its place in an archive
 pub record IsPlaced (ordinal byte : ℕ) (g : Game) : Type 0 where
-  pub kept : HasKeptNodes g.nodes
+  pub kept : HasValidNodes g.nodes
   pub number : ordinal < 2 ^ 64
   pub begins : byte < 2 ^ 64
 

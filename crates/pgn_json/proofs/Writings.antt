@@ -5,22 +5,22 @@ use Rattle.std.proofs.lemmas.List.{length-take, length-take-le, take-append-drop
 use Rattle.pgn_batches.specs.Batching.{left_over}
 use Rattle.pgn_batches.specs.Filling.{most_read}
 use Rattle.pgn_batches.specs.Games.{games_of, number_of}
-use Rattle.pgn_batches.specs.Kept.{KeptGames, kept}
+use Rattle.pgn_batches.specs.KeptGames.{KeptGames, kept}
 use Rattle.pgn_batches.specs.Laws.{Laws}
-use Rattle.pgn_batches.specs.Rounds.{AreFirst, Gives, HasTurned, ReadsAll, TakesWhole}
+use Rattle.pgn_batches.specs.Visits.{AreLeadingGames, Gives, HasVisited, ReadsAll, TakesWhole}
 use Rattle.pgn_batches.specs.Whole.{closed_games, cut_games, whole, whole_spans}
 use Rattle.cq_outside.specs.Flow.{Grew}
 use Rattle.cq_report.specs.Games.{summary_line}
 use Rattle.pgn_cut.specs.Cut.{closed, cut}
 use Rattle.pgn_cut.specs.declared.span.Span.{Span}
 use Rattle.pgn_json.specs.Lines.{AreEntries, Entry, fault_lines, lines, summary}
-use Rattle.pgn_json.specs.Texts.{AnswersBatch, AnswersPart, AreKept, AreTextsOf, HasStopped, HasTaken, HasWritten, HasWrittenFront, IsCutShort, WritesSummary}
+use Rattle.pgn_json.specs.Internal.Texts.{AnswersBatch, AnswersPart, AreKept, AreTextsOf, HasStopped, HasTaken, HasWritten, HasWrittenFront, IsCutShort, WritesSummary}
 use Rattle.pgn_json.specs.Writing.{AreFirstGames, NoWriteFailed, OneWriteFailed, Pipe, ReadsGames, Says, SinkView, Sinks, Writes, WritesSome, WritesWhole}
 use Rattle.pgn_json.specs.declared.status.Status.{Status}
 use Rattle.pgn_json.specs.declared.status.Status.TheVariants.{Done, DoneWithRefusals, WordsRefused, OpenFault, ReadFault, WriteFault, NoMemory, ArchiveTooLong}
 use Rattle.pgn_json.specs.declared.texts.Texts.{Texts}
 use Rattle.pgn_json.proofs.Entries.{Decide, archive_of, faults_on, first_spans, kept_count, kept_on, lines_on, faulty_on}
-use Rattle.pgn_json.proofs.Parts.{UpToPart, next_part}
+use Rattle.pgn_json.proofs.BatchParts.{UpToPart, next_part}
 use Rattle.pgn_json.proofs.Grown.{grew_none, grew_on, rose_on, same_grew}
 
 -- ---- a batch
@@ -176,13 +176,13 @@ closed_are laws front gs rest split =
     sym (laws.all (closed_games front)) ∙ ap (λ l. l ++ left_over (closed_games front)) split ∙ append_assoc gs rest (left_over (closed_games front))
 
 first_by : Decide → Laws → (limit : ℕ) (was now : Pipe) (front : List ℕ) (gs : KeptGames) (es : List Entry)
-    → AreFirst gs (whole front) ⊎ (ReadsAll limit was.left now.left front × AreFirst gs (cut_games front)) → AreKept 1 gs es → AreFirstGames limit now front es
+    → AreLeadingGames gs (whole front) ⊎ (ReadsAll limit was.left now.left front × AreLeadingGames gs (cut_games front)) → AreKept 1 gs es → AreFirstGames limit now front es
 first_by decide laws limit was now front gs es (inl (rest, split)) are =
     inl (entries_of decide front (closed front) gs (rest ++ left_over (closed_games front)) es (closed_are laws front gs rest split) are)
 first_by decide laws limit was now front gs es (inr (all, (rest, split))) are = inr (all.within, all.at_end, entries_of decide front (cut front) gs rest es split are)
 
 -- so many games stand in the whole batches of all bytes but those of the last read
-needed_by : Laws → (early : List ℕ) (games : KeptGames) (es : List Entry) → AreFirst (whole early) games → AreKept 1 games es → length (whole_spans early) ≤ length es
+needed_by : Laws → (early : List ℕ) (games : KeptGames) (es : List Entry) → AreLeadingGames (whole early) games → AreKept 1 games es → length (whole_spans early) ≤ length es
 needed_by laws early games es (rest, split) are =
     let count = kept_count 1 games es are in
     let sizes : length games ≡ length (whole early ++ rest) = ap length split in
@@ -193,13 +193,13 @@ needed_by laws early games es (rest, split) are =
 -- ---- how the reading ends
 
 -- the first games of those that were given
-first_part : {A : Type 0} (front : List ℕ) (games batch : KeptGames) → AreFirst (games ++ batch) (whole front) ⊎ (A × AreFirst (games ++ batch) (cut_games front))
-    → AreFirst games (whole front) ⊎ (A × AreFirst games (cut_games front))
+first_part : {A : Type 0} (front : List ℕ) (games batch : KeptGames) → AreLeadingGames (games ++ batch) (whole front) ⊎ (A × AreLeadingGames (games ++ batch) (cut_games front))
+    → AreLeadingGames games (whole front) ⊎ (A × AreLeadingGames games (cut_games front))
 first_part front games batch (inl (rest, split)) = inl (batch ++ rest, split ∙ append_assoc games batch rest)
 first_part front games batch (inr (all, (rest, split))) = inr (all, (batch ++ rest, split ∙ append_assoc games batch rest))
 
 -- these and more games
-first_more : (games more all : KeptGames) → AreFirst all games → AreFirst all (games ++ more)
+first_more : (games more all : KeptGames) → AreLeadingGames all games → AreLeadingGames all (games ++ more)
 first_more games more all (rest, split) = (rest ++ more, ap (λ l. l ++ more) split ∙ append_assoc all rest more)
 
 -- the games of a batch up to some of them
@@ -213,7 +213,7 @@ stopped_some decide laws limit mark was now games batch gives cut_ =
     let front = gives.front in
     let given = (games ++ cut_.first) ++ cut_.part in
     let first = first_part front given cut_.rest
-    (subst (λ l. AreFirst l (whole front) ⊎ (ReadsAll limit was.left now.left front × AreFirst l (cut_games front)))
+    (subst (λ l. AreLeadingGames l (whole front) ⊎ (ReadsAll limit was.left now.left front × AreLeadingGames l (cut_games front)))
     (up_to games batch cut_.first cut_.part cut_.rest cut_.split) gives.first) in
     record {
       front = front;
@@ -386,6 +386,6 @@ starved decide laws limit mark was now count Others (games, gives, (others, take
 
 pub turned : {A : Type 0} (mark : List ℕ) (was now : Sinks) (count : ℕ) (games batch : KeptGames) (result : Option Status) → A
     → AnswersBatch mark was now count games batch result
-    → HasTurned (λ gs. A × HasTaken mark was now count gs) (λ gs next status. HasStopped mark was now gs next status) games batch result
+    → HasVisited (λ gs. A × HasTaken mark was now count gs) (λ gs next status. HasStopped mark was now gs next status) games batch result
 turned mark was now count games batch None given answers = (given, answers)
 turned mark was now count games batch (Some status) given answers = answers

@@ -4,7 +4,7 @@ use Rattle.std.specs.List.{flat_map}
 use Rattle.cq_position.specs.Games.{Game}
 use Rattle.cq_report.specs.Games.{fault_line, summary_line}
 use Rattle.pgn_cut.specs.Cut.{cut}
-use Rattle.pgn_cut.specs.Joined.{game_bytes}
+use Rattle.pgn_cut.specs.GameTokens.{game_bytes}
 use Rattle.pgn_cut.specs.declared.span.Span.{Span}
 use Rattle.pgn_json.specs.Json.{json_text}
 use Rattle.pgn_reader.specs.Verdict.{IsRead}

@@ -4,10 +4,10 @@ use Rattle.std.specs.List.{join_with_byte}
 use Rattle.std.specs.Option.{option_map}
 use Rattle.cq_outside.specs.Faults.{Rose}
 use Rattle.cq_outside.specs.Flow.{Grew}
-use Rattle.cq_outside.specs.Told.{Told, bytes_of}
+use Rattle.cq_outside.specs.DeskFiles.{DeskFiles, bytes_of}
 use Rattle.cq_position.specs.Comments.{words}
 use Rattle.pgn_tree.specs.Words.{space, without_braces}
-use Rattle.pgn_json.specs.Jobs.{asked}
+use Rattle.pgn_json.specs.Jobs.{job_of_words}
 use Rattle.pgn_json.specs.Status.{exit_code}
 use Rattle.pgn_json.specs.Writing.{Pipe, Says, SinkView}
 use Rattle.pgn_json.specs.declared.job.Job.{Job}
@@ -17,21 +17,21 @@ use Rattle.pgn_json.specs.declared.status.Status.TheVariants.{WordsRefused, Open
 -- What the program is lent, at one moment: what the desk tells of its files, how many could not be opened, its open file, and the sinks
 -- for the lines and for the report.
 pub record Lent : Type 0 where
-  pub told : Option Told
+  pub told : Option DeskFiles
   pub open_faults : ℕ
   pub pipe_ : Pipe
 
-abbrev pub lent : {D : Type 0} → (D → Option Told) → (D → ℕ) → Pipe → D → Lent
+abbrev pub lent : {D : Type 0} → (D → Option DeskFiles) → (D → ℕ) → Pipe → D → Lent
 lent told open_faults pipe_ desk = record { told = told desk; open_faults = open_faults desk; pipe_ = pipe_ }
 
 -- a desk on which one more name was opened
-abbrev pub with_open : List ℕ → Told → Told
+abbrev pub with_open : List ℕ → DeskFiles → DeskFiles
 with_open name told = record { files = told.files; opened = told.opened ++ name ∷ [] }
 
 -- As far as the desk tells, this name was opened, once, and no other was. The pipe before the file was read.
 pub record Opened (name : List ℕ) (was now : Lent) (file : Pipe) : Type 0 where
   pub told : now.told ≡ option_map (with_open name) was.told
-  pub bytes : (told : Told) → was.told ≡ Some told → file.left ≡ Some (bytes_of told.files name)
+  pub bytes : (told : DeskFiles) → was.told ≡ Some told → file.left ≡ Some (bytes_of told.files name)
   pub opens : now.open_faults ≡ was.open_faults
   pub reads : file.read_faults ≡ was.pipe_.read_faults
   pub sinks : file.sinks ≡ was.pipe_.sinks
@@ -63,7 +63,7 @@ RefusesWords WriteFault was now =
 RefusesWords _ was now = ⊥
 
 -- a pipe at a moment at which its sink for the report is this one, and what else the program is lent
-abbrev pub lent_with : Option Told → ℕ → Option (List ℕ) → ℕ → SinkView → SinkView → Lent
+abbrev pub lent_with : Option DeskFiles → ℕ → Option (List ℕ) → ℕ → SinkView → SinkView → Lent
 lent_with told open_faults left read_faults out err = record {
   told = told;
   open_faults = open_faults;
@@ -76,7 +76,7 @@ lent_with told open_faults left read_faults out err = record {
 
 -- words are refused, whatever else the program is lent
 abbrev pub RefusesAnyWords : Status → SinkView → SinkView → Type 0
-RefusesAnyWords status was now = (told : Option Told) (open_faults : ℕ) (left : Option (List ℕ)) (read_faults : ℕ) (out : SinkView)
+RefusesAnyWords status was now = (told : Option DeskFiles) (open_faults : ℕ) (left : Option (List ℕ)) (read_faults : ℕ) (out : SinkView)
     → RefusesWords status (lent_with told open_faults left read_faults out was) (lent_with told open_faults left read_faults out now)
 
 -- the comment that a node keeps of a text: its words with single spaces between them, in which a closing brace is a closing parenthesis
@@ -86,10 +86,10 @@ comment_of text = join_with_byte space (words (without_braces text))
 -- What `run` promises of its status: the words ask for the games of an archive, which is opened and read, or can't be opened; or they are
 -- refused; or no memory was found, and nothing changed.
 pub data Promise (given : List (List ℕ)) (status : Status) (was now : Lent) : Type 0 where
-  games_written : (job : Job) → asked given ≡ Some job → (file : Pipe) → Opened job.archive was now file
+  games_written : (job : Job) → job_of_words given ≡ Some job → (file : Pipe) → Opened job.archive was now file
       → Says status job.limit (comment_of job.mark) file now.pipe_ → Promise given status was now
-  archive_unopened : (job : Job) → asked given ≡ Some job → status ≡ OpenFault → FailsToOpen was now → Promise given status was now
-  words_refused : asked given ≡ None → RefusesWords status was now → Promise given status was now
+  archive_unopened : (job : Job) → job_of_words given ≡ Some job → status ≡ OpenFault → FailsToOpen was now → Promise given status was now
+  words_refused : job_of_words given ≡ None → RefusesWords status was now → Promise given status was now
   out_of_memory : status ≡ NoMemory → now ≡ was → Promise given status was now
 
 -- the exit status is that of the status by which these words were answered

@@ -4,7 +4,7 @@ ghost use Rattle.std.specs.List.{flat_map};
 ghost use Rattle.cq_position.specs.FenText.{fen_of};
 ghost use Rattle.cq_position.specs.Games.{node_at, numbers};
 ghost use Rattle.pgn_json.specs.Json as json;
-ghost use Rattle.pgn_json.specs.Left as left_of;
+ghost use Rattle.pgn_json.specs.Internal.Remaining as left_of;
 ghost use Rattle.pgn_json.specs.Strings.{string_text};
 ghost use Rattle.pgn_json.specs.Values.{array, member, next, plain, separated};
 ghost use Rattle.pgn_tree.specs.Results as markers;

@@ -5,8 +5,8 @@ ghost use Rattle.cq_position.specs.Games.{Game as PlainGame, node_at};
 ghost use Rattle.pgn_json.specs.GameValue.{json_of};
 ghost use Rattle.pgn_json.specs.Grammar.{IsReadAs, IsReadAsValue};
 ghost use Rattle.pgn_json.specs.Json.{game_text, json_text};
-ghost use Rattle.pgn_json.specs.Kept.{AreBytes, HasByteTexts, HasKeptNodes};
-ghost use Rattle.pgn_json.specs.Same.{game_read};
+ghost use Rattle.pgn_json.specs.GameConditions.{AreBytes, HasByteTexts, HasValidNodes};
+ghost use Rattle.pgn_json.specs.GameReading.{game_read};
 ghost use Rattle.pgn_json.specs.Strings.{characters, string_text};
 
 use pgn_tree::{Game, Tags};
@@ -18,9 +18,9 @@ pub fn strings_are_read_back()
 {}
 
 /// Always true: every `Game` has what the laws of lines ask of its nodes.
-pub fn games_are_kept(game: &Game) -> bool
+pub fn games_have_valid_nodes(game: &Game) -> bool
     ensures value { result ≡ true }
-    ensures kept { HasKeptNodes game.now.nodes }
+    ensures kept { HasValidNodes game.now.nodes }
 {
     prove!(game.is_tree());
     prove!(game.position(0).is_position());
@@ -42,13 +42,13 @@ pub fn texts_are_bytes(game: &Game) -> bool
 /// A line without its LF is JSON, of numbers and first bytes below 2^64: it is read as the value of its game, and as no other value of the
 /// kinds that `specs/Data` has.
 pub fn lines_are_json()
-    ensures { (mark : List ℕ) (number byte : ℕ) (g : PlainGame) → HasKeptNodes g.nodes → HasByteTexts g → number < 2 ^ 64 → byte < 2 ^ 64 →
+    ensures { (mark : List ℕ) (number byte : ℕ) (g : PlainGame) → HasValidNodes g.nodes → HasByteTexts g → number < 2 ^ 64 → byte < 2 ^ 64 →
         IsReadAsValue (game_text mark number byte g) (json_of mark number byte g) }
 {}
 
 /// A line is UTF-8, of numbers and first bytes below 2^64.
 pub fn lines_are_utf8()
-    ensures { (mark : List ℕ) (number byte : ℕ) (g : PlainGame) → HasKeptNodes g.nodes → HasByteTexts g → number < 2 ^ 64 → byte < 2 ^ 64 →
+    ensures { (mark : List ℕ) (number byte : ℕ) (g : PlainGame) → HasValidNodes g.nodes → HasByteTexts g → number < 2 ^ 64 → byte < 2 ^ 64 →
         IsUtf8 (json_text mark number byte g) }
 {}
 
@@ -56,7 +56,7 @@ pub fn lines_are_utf8()
 /// byte, the same result, and the same tags and nodes, but for the bytes that spell the characters of tags and comments.
 pub fn same_lines_have_the_same_game()
     ensures { (mark other_mark : List ℕ) (number other_number byte other_byte : ℕ) (g h : PlainGame) →
-        HasKeptNodes g.nodes → HasKeptNodes h.nodes →
+        HasValidNodes g.nodes → HasValidNodes h.nodes →
         number < 2 ^ 64 → other_number < 2 ^ 64 → byte < 2 ^ 64 → other_byte < 2 ^ 64 →
         json_text mark number byte g ≡ json_text other_mark other_number other_byte h →
         (number ≡ other_number) × (byte ≡ other_byte) × (game_read g ≡ game_read h) }

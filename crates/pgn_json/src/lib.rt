@@ -2,22 +2,22 @@
 //!
 //! `specs/Strings` defines how a text is written as a JSON string, `specs/Values` how objects and arrays are, and `specs/Json` the text of
 //! a game. `specs/Data` has JSON values, and `specs/Grammar` the texts that spell them. Laws say that a line is read as the value of its
-//! game (`specs/GameValue`), and that lines tell games apart but for the bytes of their texts (`specs/Same`). `specs/Promise` is the
+//! game (`specs/GameValue`), and that lines tell games apart but for the bytes of their texts (`specs/GameReading`). `specs/Promise` is the
 //! promise of the top call.
 #![tactic(auto)]
 
-mod answering;
+mod write_archive;
 mod game;
 mod job;
 mod laws;
 mod line;
-mod making;
+mod part_texts;
 mod node;
 mod notes;
 mod plies;
 mod status;
 mod strings;
-mod taking;
+mod game_writer;
 mod texts;
 mod top_call;
 mod words;
@@ -26,7 +26,7 @@ mod writing;
 pub use game::json_line;
 pub use job::{Job, WordsRefused};
 pub use laws::{
-    games_are_kept, lines_are_json, lines_are_utf8, same_lines_have_the_same_game,
+    games_have_valid_nodes, lines_are_json, lines_are_utf8, same_lines_have_the_same_game,
     strings_are_read_back, texts_are_bytes,
 };
 pub use status::Status;

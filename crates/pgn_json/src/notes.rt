@@ -4,7 +4,7 @@ ghost use Rattle.std.specs.List.{flat_map, list_any};
 ghost use Rattle.std.specs.Str.{bytes_eq};
 ghost use Rattle.cq_position.specs.Games.{node_at};
 ghost use Rattle.pgn_json.specs.Json as json;
-ghost use Rattle.pgn_json.specs.Left as left_of;
+ghost use Rattle.pgn_json.specs.Internal.Remaining as left_of;
 ghost use Rattle.pgn_json.specs.Strings.{string_text};
 ghost use Rattle.pgn_json.specs.Values.{array_member, next, separated};
 

@@ -1,7 +1,7 @@
 //! The ply of each node, in one pass.
 ghost use Rattle.std.specs.Prelude.{◌≡◌, ◌<◌, length, IfOk};
 ghost use Rattle.cq_position.specs.Search as search_of;
-ghost use Rattle.pgn_json.specs.Left.{ArePlies};
+ghost use Rattle.pgn_json.specs.Internal.Remaining.{ArePlies};
 
 use cq_common::NoMemory;
 use pgn_tree::Game;

@@ -3,7 +3,7 @@ ghost use Rattle.std.specs.Prelude.{◌≡◌, ◌<◌, ◌++◌, OnOk};
 ghost use Rattle.std.specs.Char.{digit_char};
 ghost use Rattle.std.specs.List.{flat_map, list_any};
 ghost use Rattle.std.specs.Prelude.{IsUtf8};
-ghost use Rattle.pgn_json.specs.Bytes.{byte_text};
+ghost use Rattle.pgn_json.specs.Internal.Bytes.{byte_text};
 ghost use Rattle.pgn_json.specs.Strings.{character_text, characters, escape, is_escaped, string_text};
 
 use cq_common::{Bytes, NoMemory};

@@ -1,8 +1,8 @@
 //! What is written of a game.
 ghost use Rattle.std.specs.Prelude.{◌≡◌, ◌+◌, ◌<◌, ◌∷◌, [], Some, length, slice_get, IfOk};
 ghost use Rattle.pgn_batches.specs.Games.{games_of, number_of};
-ghost use Rattle.pgn_batches.specs.declared.kept.KeptGame.{KeptGame as AGame};
-ghost use Rattle.pgn_json.specs.Texts.{AreTextsOf};
+ghost use Rattle.pgn_batches.specs.declared.kept_game.KeptGame.{KeptGame as AGame};
+ghost use Rattle.pgn_json.specs.Internal.Texts.{AreTextsOf};
 
 use cq_common::{Bytes, NoMemory, Refusal, Shared};
 use cq_report::fault_line;

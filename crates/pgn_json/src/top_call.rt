@@ -4,9 +4,9 @@ ghost use Rattle.std.specs.String.{string_bytes};
 ghost use Rattle.pgn_json.specs.Promise.{EndsRefused, EndsWithoutWords, EndsWords, Promise, RefusesAnyWords, lent};
 ghost use Rattle.pgn_json.specs.Writing.{pipe_of, view_of};
 
-use crate::answering::answer_all;
+use crate::write_archive::write_archive;
 use crate::status::Status;
-use crate::taking::GameWriter;
+use crate::game_writer::GameWriter;
 use crate::words::read_words;
 use cq_common::{NoMemory, OpenFault, Refusal};
 use cq_outside::{Desk, Sink, write_all_of};
@@ -68,7 +68,7 @@ pub fn run<R: Threads + Sync, D: Desk, O: Sink, E: Sink>(
                 workers: job.workers,
                 faulty: 0,
             };
-            answer_all(writer, job.limit, desk, out, err)
+            write_archive(writer, job.limit, desk, out, err)
         }
         Err(OpenFault::Failed) => Status::OpenFault,
         Err(OpenFault::NoMemory) => Status::NoMemory,

@@ -2,7 +2,7 @@
 ghost use Rattle.std.specs.Prelude.{◌≡◌, ◌≤◌, IfOk, IfSome, MatchResult, map, option_map};
 ghost use Rattle.std.specs.String.{string_bytes};
 ghost use Rattle.clap.specs.Words.{first_of, found_of, rows_of};
-ghost use Rattle.pgn_json.specs.Jobs.{Answers, HasMatches, IsInRange, IsRefused, archive_in, asked, job_in, mark_in, number_of, number_or};
+ghost use Rattle.pgn_json.specs.Jobs.{Answers, HasMatches, IsInRange, IsRefused, archive_in, job_of_words, job_in, mark_in, number_of, number_or};
 
 use crate::job::{BYTES_LIMIT, Job, WORKERS_LIMIT, WordsRefused};
 use crate::line::line;
@@ -89,7 +89,7 @@ fn job_in(alloc: Global, matches: &ArgMatches<'_>) -> Result<Job, Refusal<WordsR
 
 /// What the words after the program's name ask. They are refused exactly where `clap` refuses them for another cause than memory.
 pub fn read_words(alloc: Global, words: &[String]) -> Result<Job, Refusal<WordsRefused>>
-    ensures value { Answers (asked (map string_bytes words.now)) result }
+    ensures value { Answers (job_of_words (map string_bytes words.now)) result }
     ensures range { IfOk result IsInRange }
 {
     let matches = matched(alloc, words)?;

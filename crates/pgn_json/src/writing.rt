@@ -1,12 +1,12 @@
 //! Writing what there is of some games of a batch. Lines go to the sink by pages, so that a short game is no call of its own, and a long
 //! one is not copied.
 ghost use Rattle.std.specs.Prelude.{◌≡◌, ◌++◌, ◌≤◌, ◌^◌, [], ℕ, List, IfOk, OnOk};
-ghost use Rattle.pgn_json.specs.Pages.{Adds, WaitsOf, WritesText};
-ghost use Rattle.pgn_json.specs.Parts.{part_at};
-ghost use Rattle.pgn_json.specs.Texts.{AnswersPart, all_faults, all_faulty, all_lines};
+ghost use Rattle.pgn_json.specs.Internal.Pages.{Adds, WaitsOf, WritesText};
+ghost use Rattle.pgn_json.specs.Internal.Parts.{part_at};
+ghost use Rattle.pgn_json.specs.Internal.Texts.{AnswersPart, all_faults, all_faulty, all_lines};
 ghost use Rattle.pgn_json.specs.Writing.{SinkView, sinks_of, view_of};
 
-use crate::making::{TextMaker, part_texts};
+use crate::part_texts::{GameTextTask, part_texts};
 use crate::status::Status;
 use crate::texts::Texts;
 use cq_common::{Bytes, Failed, NoMemory, Refusal};
@@ -22,16 +22,16 @@ const PAGE: usize = 65_536;
 pub(crate) fn write_part<R: Threads + Sync, O: Sink, E: Sink>(
     rt: &R,
     alloc: Global,
-    maker: &TextMaker<'_>,
+    task: &GameTextTask<'_>,
     workers: u32,
     out: &mut O,
     err: &mut E,
 ) -> Result<u64, Status>
     requires { (1 ≤ workers) × (workers ≤ 64) }
-    ensures { AnswersPart (part_at maker.now.mark.now maker.now.batch.now maker.now.first)
+    ensures { AnswersPart (part_at task.now.mark.now task.now.batch.now task.now.first)
         (sinks_of O.taken O.faults E.taken E.faults out.old err.old) (sinks_of O.taken O.faults E.taken E.faults out.new err.new) result }
 {
-    let Ok(texts) = part_texts(rt, alloc, maker, workers) else {
+    let Ok(texts) = part_texts(rt, alloc, task, workers) else {
         return Err(Status::NoMemory);
     };
     let Ok((faults, faulty)) = joined_faults(alloc, &texts) else {

@@ -18,34 +18,34 @@ use Rattle.pgn_lexer.specs.declared.token.TokenKind.TheVariants.{Symbol, Star, N
 use Rattle.pgn_cut.specs.Cut.{is_result, marks, nest}
 use Rattle.pgn_cut.specs.OneGame.{token_depth, IsEndedByMarker}
 use Rattle.pgn_reader.specs.declared.fault.Reason.TheVariants.{NagRange}
-use Rattle.pgn_laws.specs.Marker.{nested, depth_after, EndsWithItsMarker}
+use Rattle.pgn_laws.specs.Marker.{next_depth, depth_after, EndsWithItsMarker}
 use Rattle.pgn_reader.specs.Words.{Word, annotates, ends, means_nothing, out_of_place, sense, sense_of, sense_of_symbol, sense_of_marker, sense_of_glyph, result_of_text, word_of, words_of}
 
 -- tokens nest alike for the reader and the cut
-symbol_nests : (d : ℕ) (digits : Bool) (text : List ℕ) (o : Option GameResult) → nested d (if digits then means_nothing else sense_of_marker text o) ≡ d
+symbol_nests : (d : ℕ) (digits : Bool) (text : List ℕ) (o : Option GameResult) → next_depth d (if digits then means_nothing else sense_of_marker text o) ≡ d
 symbol_nests d true text o = refl
 symbol_nests d false text None = refl
 symbol_nests d false text (Some r) = refl
 
-glyph_nests : (d n : ℕ) (fits : Bool) → nested d (if fits then annotates n else out_of_place NagRange) ≡ d
+glyph_nests : (d n : ℕ) (fits : Bool) → next_depth d (if fits then annotates n else out_of_place NagRange) ≡ d
 glyph_nests d n true = refl
 glyph_nests d n false = refl
 
-nests : (d : ℕ) (kind : TokenKind) (text : List ℕ) → nested d (sense_of kind text) ≡ nest d (Token kind)
+nests : (d : ℕ) (kind : TokenKind) (text : List ℕ) → next_depth d (sense_of kind text) ≡ nest d (Token kind)
 unfolding sense_of_symbol sense_of_glyph
 nests d Symbol text = symbol_nests d (list_all is_ascii_digit text) text (result_of_text text)
 nests d (Nag n) text = glyph_nests d n (nat_lt n 256)
 nests d _ text = refl
 
-word_nests : (start : ℕ) (bytes : List ℕ) (t : GameToken) (d : ℕ) → nested d (sense (word_of start bytes t)) ≡ nest d (Token t.kind)
+word_nests : (start : ℕ) (bytes : List ℕ) (t : GameToken) (d : ℕ) → next_depth d (sense (word_of start bytes t)) ≡ nest d (Token t.kind)
 unfolding sense
 word_nests start bytes t d = nests d t.kind (take t.len (drop (t.at - start) bytes))
 
 same_depth : (start : ℕ) (bytes : List ℕ) (ts : List GameToken) (d : ℕ)
-    → fold (λ d w. nested d (sense w)) d (map (word_of start bytes) ts) ≡ fold (λ d t. nest d (Token t.kind)) d ts
+    → fold (λ d w. next_depth d (sense w)) d (map (word_of start bytes) ts) ≡ fold (λ d t. nest d (Token t.kind)) d ts
 same_depth start bytes [] d = refl
 same_depth start bytes (t ∷ ts) d =
-    ap (λ x. fold (λ d w. nested d (sense w)) x (map (word_of start bytes) ts)) (word_nests start bytes t d)
+    ap (λ x. fold (λ d w. next_depth d (sense w)) x (map (word_of start bytes) ts)) (word_nests start bytes t d)
     ∙ same_depth start bytes ts (nest d (Token t.kind))
 
 -- and what marks a result for the reader does so for the cut: no symbol is a star

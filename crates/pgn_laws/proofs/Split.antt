@@ -5,16 +5,16 @@ use Rattle.cq_position.specs.Games.{Game}
 use Rattle.pgn_lexer.specs.Lexemes.{tokens_of}
 use Rattle.pgn_lexer.specs.declared.token.Token.{Token}
 use Rattle.pgn_cut.specs.Cut.{cut}
-use Rattle.pgn_cut.specs.Joined.{game_bytes}
+use Rattle.pgn_cut.specs.GameTokens.{game_bytes}
 use Rattle.pgn_cut.specs.Seams.{moved_token, spaced_rest, IsMovedGame, AreMovedGames, IsSeam}
-use Rattle.pgn_cut.specs.Spans.{AreInOrder}
+use Rattle.pgn_cut.specs.Spans.{AreSpansInOrder}
 use Rattle.pgn_cut.specs.declared.span.Span.{Span}
 use Rattle.pgn_reader.specs.declared.fault.GameFault.{GameFault}
-use Rattle.pgn_reader.specs.Elsewhere.{moved, AreSameTokens}
+use Rattle.pgn_reader.specs.MovedTokens.{moved, AreSameTokens}
 use Rattle.pgn_reader.specs.Verdict.{IsRead}
 use Rattle.pgn_reader.specs.Words.{Word, word_of, words_of}
 use Rattle.pgn_laws.specs.Split.{IsReadAlike, AreReadAlike}
-use Rattle.pgn_reader.proofs.Elsewhere.{decided}
+use Rattle.pgn_reader.proofs.MovedTokens.{decided}
 
 -- the bytes after the space are those of the archive
 past_first : {A : Type 0} (x : A) (xs : List A) (s : ℕ) → 0 < s → drop s (x ∷ xs) ≡ drop (s - 1) xs
@@ -64,7 +64,7 @@ alike archive place g m some behind_it moves outcome =
     (same_tokens n g.start g.first m.first (game_bytes (spaced_rest archive place) g) (game_bytes archive m) bytes
     (ap (λ s. tokens_of s m.first (game_bytes archive m)) (sym moves.starts) ∙ moves.tokens)) outcome)
 
-all_alike : (archive : List ℕ) (place from to : ℕ) (games others : List Span) → 0 < place → place ≤ from → AreInOrder from to others
+all_alike : (archive : List ℕ) (place from to : ℕ) (games others : List Span) → 0 < place → place ≤ from → AreSpansInOrder from to others
     → AreMovedGames (place - 1) (spaced_rest archive place) archive games others → AreReadAlike (place - 1) (spaced_rest archive place) archive games others
 all_alike archive place from to [] [] some le order all = tt
 all_alike archive place from to [] (m ∷ others) some le order all = absurd all
@@ -75,14 +75,14 @@ all_alike archive place from to (g ∷ games) (m ∷ others) some le order all =
     (alike archive place g m some here all.0, all_alike archive place m.end to games others some next order.2 all.1)
 
 -- the spans after one of those that stand in order
-behind_one : (from to : ℕ) (before : List Span) (game : Span) (after : List Span) → AreInOrder from to (before ++ game ∷ after)
-    → (0 < game.end) × AreInOrder game.end to after
+behind_one : (from to : ℕ) (before : List Span) (game : Span) (after : List Span) → AreSpansInOrder from to (before ++ game ∷ after)
+    → (0 < game.end) × AreSpansInOrder game.end to after
 behind_one from to [] game after order = (let e = order.1.0 in omega (arith, e), order.2)
 behind_one from to (s ∷ before) game after order = behind_one s.end to before game after order.2
 
-pub split_alike : (archive : List ℕ) (before : List Span) (game : Span) (after : List Span) → AreInOrder 0 (length archive) (cut archive)
+pub split_alike : (archive : List ℕ) (before : List Span) (game : Span) (after : List Span) → AreSpansInOrder 0 (length archive) (cut archive)
     → cut archive ≡ before ++ game ∷ after → IsSeam archive before game after
     → AreReadAlike (game.end - 1) (spaced_rest archive game.end) archive (cut (spaced_rest archive game.end)) after
 split_alike archive before game after order is seam =
-    let behind_it = behind_one 0 (length archive) before game after (subst (AreInOrder 0 (length archive)) is order) in
+    let behind_it = behind_one 0 (length archive) before game after (subst (AreSpansInOrder 0 (length archive)) is order) in
     all_alike archive game.end game.end (length archive) (cut (spaced_rest archive game.end)) after behind_it.0 (omega arith) behind_it.1 seam.rest

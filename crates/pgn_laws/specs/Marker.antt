@@ -4,13 +4,13 @@ use Rattle.cq_position.specs.declared.games.GameResult.{GameResult}
 use Rattle.pgn_reader.specs.Words.{Word, Sense, opens, closes, ends, sense}
 
 -- the depth of variations after one token more; a ) too many doesn't count
-abbrev pub nested : ℕ → Sense → ℕ
-nested depth opens = depth + 1
-nested depth closes = depth - 1
-nested depth _ = depth
+abbrev pub next_depth : ℕ → Sense → ℕ
+next_depth depth opens = depth + 1
+next_depth depth closes = depth - 1
+next_depth depth _ = depth
 
 abbrev pub depth_after : List Word → ℕ
-depth_after ts = fold (λ d w. nested d (sense w)) 0 ts
+depth_after ts = fold (λ d w. next_depth d (sense w)) 0 ts
 
 -- no token stands after the marker of a result outside variations
 abbrev pub EndsWithItsMarker : List Word → Type 0

@@ -1,10 +1,10 @@
 -- What the games of an archive are read as where it splits after one of them.
 use Rattle.std.specs.Prelude.{◌↔◌, ℕ, List, [], ◌∷◌, Result}
 use Rattle.cq_position.specs.Games.{Game}
-use Rattle.pgn_cut.specs.Joined.{game_bytes}
+use Rattle.pgn_cut.specs.GameTokens.{game_bytes}
 use Rattle.pgn_cut.specs.declared.span.Span.{Span}
 use Rattle.pgn_reader.specs.declared.fault.GameFault.{GameFault}
-use Rattle.pgn_reader.specs.Elsewhere.{moved}
+use Rattle.pgn_reader.specs.MovedTokens.{moved}
 use Rattle.pgn_reader.specs.Verdict.{IsRead}
 
 -- a game of one archive is read as one of another: as the same game, or the same reason at a byte so many further on

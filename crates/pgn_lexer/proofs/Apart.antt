@@ -5,20 +5,20 @@ use Rattle.cq_common.specs.Text.{is_white}
 use Rattle.pgn_lexer.specs.Bytes.{ends_line}
 use Rattle.pgn_lexer.specs.Readings.{reading}
 use Rattle.pgn_lexer.specs.Lexemes.{Lexeme, end, lexeme, lexemes, lexemes_from, first_at}
-use Rattle.pgn_lexer.specs.Local.{IsUncrossed, AreInOrder, StandsIn}
+use Rattle.pgn_lexer.specs.Locality.{IsUncrossed, AreLexemesInOrder, StandsIn}
 use Rattle.pgn_lexer.proofs.Lists.{map_all, both_all}
 use Rattle.pgn_lexer.proofs.Local.{text_len}
 use Rattle.pgn_lexer.proofs.Walk.{first_at-cons}
 use Rattle.pgn_lexer.proofs.Within.{of_both, reading_some, reading_within}
 
 -- each begins where the one before ends, or after that
-pub in_order : (bs : List ℕ) (inside at : ℕ) (first : Bool) (q : ℕ) → q ≤ at + inside → AreInOrder q (lexemes_from bs inside at first)
+pub in_order : (bs : List ℕ) (inside at : ℕ) (first : Bool) (q : ℕ) → q ≤ at + inside → AreLexemesInOrder q (lexemes_from bs inside at first)
 unfolding lexemes_from
 in_order [] inside at first q less = tt
 in_order (b ∷ bs) (suc inside) at first q less = in_order bs inside (at + 1) (ends_line b) q (omega arith)
 in_order (b ∷ bs) zero at first q less =
     let r = reading first b bs in
-    of_both (AreInOrder q) (is_white b) (lexemes_from bs 0 (at + 1) (ends_line b)) (lexeme at first b bs ∷ lexemes_from bs (r.len - 1) (at + 1) (ends_line b))
+    of_both (AreLexemesInOrder q) (is_white b) (lexemes_from bs 0 (at + 1) (ends_line b)) (lexeme at first b bs ∷ lexemes_from bs (r.len - 1) (at + 1) (ends_line b))
     (λ _. in_order bs 0 (at + 1) (ends_line b) q (omega arith))
     (λ _.
     let len = text_len at first b bs in
@@ -26,7 +26,7 @@ in_order (b ∷ bs) zero at first q less =
     (omega arith, omega arith, in_order bs (r.len - 1) (at + 1) (ends_line b) (end (lexeme at first b bs)) (omega arith)))
 
 -- lexemes in order begin after what they begin after, and so cross nothing before
-all_after : (q p : ℕ) (ls : List Lexeme) → AreInOrder q ls → p ≤ q → AllByRecursion (λ l. p ≤ l.at) ls
+all_after : (q p : ℕ) (ls : List Lexeme) → AreLexemesInOrder q ls → p ≤ q → AllByRecursion (λ l. p ≤ l.at) ls
 all_after q p [] order less = tt
 all_after q p (l ∷ ls) order less =
     let here = order.0 in
@@ -36,7 +36,7 @@ none_crosses : (p : ℕ) (ls : List Lexeme) → AllByRecursion (λ l. p ≤ l.at
 none_crosses p ls begin_after = map_all (λ l. p ≤ l.at) (λ l. (end l ≤ p) ⊎ (p ≤ l.at)) (λ l after. inr after) ls begin_after
 
 -- so none crosses an end of another
-ends_uncrossed : (q : ℕ) (ls : List Lexeme) → AreInOrder q ls → AllByRecursion (λ l. IsUncrossed l.at ls × IsUncrossed (end l) ls) ls
+ends_uncrossed : (q : ℕ) (ls : List Lexeme) → AreLexemesInOrder q ls → AllByRecursion (λ l. IsUncrossed l.at ls × IsUncrossed (end l) ls) ls
 ends_uncrossed q [] order = tt
 ends_uncrossed q (l ∷ ls) order =
     let begin_after = all_after (end l) (end l) ls order.2 (omega arith) in (

@@ -13,7 +13,7 @@ use Rattle.pgn_lexer.specs.Bytes.{ends_line, continues_symbol}
 use Rattle.pgn_lexer.specs.Grammar.{Lacks, IsBody, IsSuffix, IsLexeme}
 use Rattle.pgn_lexer.specs.Lexemes.{lexemes, first_at}
 use Rattle.pgn_lexer.specs.Readings.{reading, nag, null_move}
-use Rattle.pgn_lexer.specs.Whole.{goes_on, runs_on, IsEndedBy, IsReadWhole}
+use Rattle.pgn_lexer.specs.SingleLexeme.{goes_on, runs_on, IsEndedBy, IsReadWhole}
 use Rattle.pgn_lexer.specs.declared.token.Reading.{Reading}
 use Rattle.pgn_lexer.specs.declared.token.LexemeKind.{LexemeKind}
 use Rattle.pgn_lexer.specs.declared.token.LexemeKind.TheVariants.{EscapeLine, Token}

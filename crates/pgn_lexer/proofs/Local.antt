@@ -9,7 +9,7 @@ use Rattle.cq_common.specs.Text.{is_white}
 use Rattle.pgn_lexer.specs.Bytes.{ends_line}
 use Rattle.pgn_lexer.specs.Readings.{reading}
 use Rattle.pgn_lexer.specs.Lexemes.{Lexeme, end, lexeme, lexemes, lexemes_from, first_at}
-use Rattle.pgn_lexer.specs.Local.{IsUncrossed, within}
+use Rattle.pgn_lexer.specs.Locality.{IsUncrossed, within}
 use Rattle.pgn_lexer.proofs.Fronts.{reading_same}
 use Rattle.pgn_lexer.proofs.Lists.{filter_all, filter_none, filter_never, filter-filter, all_of_filter}
 use Rattle.pgn_lexer.proofs.Walk.{first_at-cons}

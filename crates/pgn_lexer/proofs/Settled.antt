@@ -14,7 +14,7 @@ use Rattle.pgn_lexer.specs.declared.token.LexemeKind.{LexemeKind}
 use Rattle.pgn_lexer.specs.declared.token.LexemeKind.TheVariants.{EscapeLine, Token}
 use Rattle.pgn_lexer.specs.declared.token.TokenKind.TheVariants.{Open, Close, Text, Symbol, Period, Star, LeftParen, RightParen, Nag, Null, Comment, LineComment, BadByte, UnclosedComment, UnclosedText}
 use Rattle.pgn_lexer.specs.Lexemes.{Lexeme, lexeme, lexemes_from, first_at}
-use Rattle.pgn_lexer.specs.Local.{is_left_open, IsUnsettled, Settles, Grows}
+use Rattle.pgn_lexer.specs.Locality.{is_left_open, IsUnsettled, Settles, Grows}
 use Rattle.pgn_lexer.proofs.Bodies.{IsUnfinished, plain_unfinished, escaped_unfinished}
 use Rattle.pgn_lexer.proofs.Fronts.{reading_same}
 use Rattle.pgn_lexer.proofs.Walk.{first_at-cons}

@@ -7,7 +7,7 @@ use Rattle.cq_common.specs.Text.{is_white}
 use Rattle.pgn_lexer.specs.Bytes.{ends_line}
 use Rattle.pgn_lexer.specs.Grammar.{IsLexeme}
 use Rattle.pgn_lexer.specs.Lexemes.{Lexeme, end, lexeme, lexemes, lexemes_from, token_if, tokens_among, tokens_of}
-use Rattle.pgn_lexer.specs.Local.{AreInOrder, StandsIn}
+use Rattle.pgn_lexer.specs.Locality.{AreLexemesInOrder, StandsIn}
 use Rattle.pgn_lexer.specs.Readings.{reading}
 use Rattle.pgn_lexer.specs.Texts.{IsSpelled, IsTokenOf, AreTokensInOrder}
 use Rattle.pgn_lexer.specs.declared.token.LexemeKind.{LexemeKind}
@@ -115,7 +115,7 @@ one_in_order : (from at len : ℕ) (kind : LexemeKind) (ts : List GameToken) →
 one_in_order from at len EscapeLine ts begins rest = lower (at + len) from ts (omega arith) rest
 one_in_order from at len (Token kind) ts begins rest = (begins, rest)
 
-tokens_ordered : (from : ℕ) (ls : List Lexeme) → AreInOrder from ls → AreTokensInOrder from (tokens_among ls)
+tokens_ordered : (from : ℕ) (ls : List Lexeme) → AreLexemesInOrder from ls → AreTokensInOrder from (tokens_among ls)
 tokens_ordered from [] order = tt
 tokens_ordered from (l ∷ ls) order = one_in_order from l.at (length l.text) l.kind (tokens_among ls) order.0 (tokens_ordered (end l) ls order.2)
 

@@ -1,8 +1,8 @@
 pub mod Bytes
 pub mod Grammar
 pub mod Lexemes
-pub mod Local
+pub mod Locality
 pub mod Readings
-pub mod Shown
+pub mod PlacedLexemes
 pub mod Texts
-pub mod Whole
+pub mod SingleLexeme

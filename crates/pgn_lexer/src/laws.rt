@@ -6,9 +6,9 @@ ghost use Rattle.pgn_lexer.specs.Bytes.{ends_line};
 ghost use Rattle.pgn_lexer.specs.Lexemes.{lexeme, lexemes, first_at, moved, tokens_of};
 ghost use Rattle.pgn_lexer.specs.Readings.{reading};
 ghost use Rattle.pgn_lexer.specs.Grammar.{IsLexeme, IsLongest};
-ghost use Rattle.pgn_lexer.specs.Local.{IsUncrossed, AreInOrder, within, StandsIn, Settles, Grows};
+ghost use Rattle.pgn_lexer.specs.Locality.{IsUncrossed, AreLexemesInOrder, within, StandsIn, Settles, Grows};
 ghost use Rattle.pgn_lexer.specs.Texts.{IsSpelled, IsTokenOf, AreTokensInOrder};
-ghost use Rattle.pgn_lexer.specs.Whole.{goes_on, runs_on, IsEndedBy, IsReadWhole};
+ghost use Rattle.pgn_lexer.specs.SingleLexeme.{goes_on, runs_on, IsEndedBy, IsReadWhole};
 ghost use Rattle.pgn_lexer.specs.declared.token.LexemeKind.{LexemeKind as AKind};
 ghost use Rattle.pgn_lexer.specs.declared.token.LexemeKind.TheVariants.{Token};
 ghost use Rattle.pgn_lexer.specs.declared.token.TokenKind.TheVariants.{BadByte};
@@ -21,7 +21,7 @@ pub fn readings_are_longest()
 
 /// Lexemes stand in their text in order, and don't overlap.
 pub fn lexemes_stand_apart()
-    ensures order { (start : ℕ) (first : Bool) (bytes : List ℕ) → AreInOrder start (lexemes start first bytes) }
+    ensures order { (start : ℕ) (first : Bool) (bytes : List ℕ) → AreLexemesInOrder start (lexemes start first bytes) }
     ensures each { (start : ℕ) (first : Bool) (bytes : List ℕ) →
         AllByRecursion (StandsIn start first bytes) (lexemes start first bytes) }
 {}

@@ -1,7 +1,7 @@
 //! The lexemes of a text, one after the other.
 ghost use Rattle.std.specs.Prelude.{◌≡◌, ◌+◌, ◌<◌, ◌≤◌, ℕ, [], ◌∷◌, take, drop, length, IfNone, IfSome};
 ghost use Rattle.pgn_lexer.specs.Lexemes.{first_at, lexemes_at};
-ghost use Rattle.pgn_lexer.specs.Shown.{shown};
+ghost use Rattle.pgn_lexer.specs.PlacedLexemes.{placed_lexeme};
 
 use crate::reading::longest_reading;
 use crate::token::LexemeKind;
@@ -36,7 +36,7 @@ pub fn next_lexeme(bytes: &[u8], at: usize, first: bool) -> Option<Lexeme<'_>>
     requires { at ≤ length bytes.now }
     ensures none { IfNone result ((start : ℕ) → lexemes_at start first bytes.now at ≡ []) }
     ensures next { IfSome result (λ l. (start : ℕ) →
-        lexemes_at start first bytes.now at ≡ shown start l ∷ lexemes_at start first bytes.now (l.at + length l.text.now)) }
+        lexemes_at start first bytes.now at ≡ placed_lexeme start l ∷ lexemes_at start first bytes.now (l.at + length l.text.now)) }
     ensures text { IfSome result (λ l. l.text.now ≡ take (length l.text.now) (drop l.at bytes.now)) }
     ensures within { IfSome result (λ l. (at ≤ l.at) × (0 < length l.text.now) × (l.at + length l.text.now ≤ length bytes.now)) }
 {

@@ -6,14 +6,14 @@ use Rattle.std.proofs.lemmas.List.{append-nil, length-append, length-take, lengt
 use Rattle.pgn_lexer.specs.Bytes.{space}
 use Rattle.pgn_lexer.specs.Lexemes.{tokens_of}
 use Rattle.pgn_cut.specs.Cut.{cut}
-use Rattle.pgn_cut.specs.Joined.{game_bytes}
+use Rattle.pgn_cut.specs.GameTokens.{game_bytes}
 use Rattle.pgn_cut.specs.Seams.{spaced_rest, moved_token, IsMovedGame, AreMovedGames, IsSeam}
-use Rattle.pgn_cut.specs.Spans.{AreInOrder}
+use Rattle.pgn_cut.specs.Spans.{AreSpansInOrder}
 use Rattle.pgn_cut.specs.declared.span.Span.{Span}
 use Rattle.pgn_pieces.specs.Apart.{IsCutInto, HasItsGames}
 use Rattle.pgn_pieces.specs.Pieces.{end_of, IsLongEnough, piece_to, piece_bytes, after, start, last_piece, AreFull, ArePieces}
 use Rattle.pgn_pieces.specs.declared.piece.Piece.{Piece}
-use Rattle.pgn_pieces.specs.declared.piece.Place.{Place}
+use Rattle.pgn_pieces.specs.declared.piece.PieceStart.{PieceStart}
 use Rattle.pgn_pieces.proofs.Fills.{end_append, long_end, next_from, full_end, order_after, end_not_before}
 use Rattle.pgn_pieces.proofs.Streams.{Order}
 
@@ -61,7 +61,7 @@ part_of_front front more from to low high =
     ∙ take-append-le (to - from) (drop from front) more (let len = length-drop from front in omega (arith, len, low, high))
 
 -- games of a text's front are moved alike
-moved_in_front : (n : ℕ) (front more there : List ℕ) (from to : ℕ) (games others : List Span) → to ≤ length front → AreInOrder from to games
+moved_in_front : (n : ℕ) (front more there : List ℕ) (from to : ℕ) (games others : List Span) → to ≤ length front → AreSpansInOrder from to games
     → AreMovedGames n (front ++ more) there games others → AreMovedGames n front there games others
 moved_in_front n front more there from to [] [] high order moved = tt
 moved_in_front n front more there from to [] (m ∷ others) high order moved = absurd moved
@@ -100,7 +100,7 @@ module _ (seams : Seams) (order : Order) (archive : List ℕ) where
       let whole : rest ≡ bytes ++ drop (last.end - g.end) (drop g.end archive) = ap (λ x. space ∷ x) (sym (take-append-drop (last.end - g.end) (drop g.end archive))) in
       subst (λ games. AreMovedGames n bytes archive games (fewer ++ last ∷ [])) (sym front)
       (moved_in_front n bytes (drop (last.end - g.end) (drop g.end archive)) archive 0 (length bytes) p.first (fewer ++ last ∷ []) (omega arith)
-      (subst (AreInOrder 0 (length bytes)) front (order bytes))
+      (subst (AreSpansInOrder 0 (length bytes)) front (order bytes))
       (subst (λ text. AreMovedGames n text archive p.first (fewer ++ last ∷ [])) whole p.front_moved))
 
   alone_by : (bytes : List ℕ) (from : ℕ) (games : List Span) → 0 < from → AreMovedGames (from - 1) (space ∷ bytes) archive (cut (space ∷ bytes)) games → IsCutInto archive bytes from games
@@ -140,13 +140,13 @@ module _ (seams : Seams) (order : Order) (archive : List ℕ) where
   AreApart ps = AllByRecursion (HasItsGames archive) ps
 
   -- the pieces after some games: the full ones, and then those that `later` gives of where they stop
-  full_apart : (least : ℕ) → 0 < least → (here : Place) (games : List Span) (ps : List Piece) (stop : Place) (before tail : List Span) (more : List Piece) → AreFull least here games ps stop
+  full_apart : (least : ℕ) → 0 < least → (here : PieceStart) (games : List Span) (ps : List Piece) (stop : PieceStart) (before tail : List Span) (more : List Piece) → AreFull least here games ps stop
       → cut archive ≡ before ++ (games ++ tail) → here.first ≡ length before + 1 → IsBehind before here.from
       → ((behind : List Span) → cut archive ≡ behind ++ tail → stop.first ≡ length behind + 1 → IsBehind behind stop.from → AreApart more)
       → AreApart (ps ++ more)
   unfolding AreFull
   full_apart least some here games [] stop before tail more full are first behind later =
-      later before (are ∙ ap (λ g. before ++ (g ++ tail)) full.0) (ap (λ (p : Place). p.first) (sym full.1) ∙ first) (subst (λ (p : Place). IsBehind before p.from) full.1 behind)
+      later before (are ∙ ap (λ g. before ++ (g ++ tail)) full.0) (ap (λ (p : PieceStart). p.first) (sym full.1) ∙ first) (subst (λ (p : PieceStart). IsBehind before p.from) full.1 behind)
   full_apart least some here games (p ∷ ps) stop before tail more full are first behind later =
       let mine : List Span = full.0 in
       let others : List Span = full.1 in
@@ -180,7 +180,7 @@ module _ (seams : Seams) (order : Order) (archive : List ℕ) where
             later,
       )
 
-  last_apart : (stop : Place) (behind rest : List Span) → cut archive ≡ behind ++ rest → stop.first ≡ length behind + 1 → IsBehind behind stop.from
+  last_apart : (stop : PieceStart) (behind rest : List Span) → cut archive ≡ behind ++ rest → stop.first ≡ length behind + 1 → IsBehind behind stop.from
       → (stop.from < length archive) ⊎ (length archive ≤ stop.from) → AreApart (last_piece stop (length archive) (length rest))
   last_apart stop behind rest are first is_behind (inl some) = rw (lt-ltb stop.from (length archive) some) (
     record {
@@ -201,8 +201,8 @@ module _ (seams : Seams) (order : Order) (archive : List ℕ) where
   some_least least pieces are =
       let f = are.fill in
       let ends : end_of 0 f.taken ≡ are.stop.from = full_end least start f.taken are.full are.stop f.full in
-      let later : AreInOrder (end_of 0 f.taken) (length archive) f.rest = order_after 0 (length archive) f.taken f.rest (subst (AreInOrder 0 (length archive)) f.are (order archive)) in
-      let low = end_not_before are.stop.from (length archive) f.rest (subst (λ k. AreInOrder k (length archive) f.rest) ends later) in
+      let later : AreSpansInOrder (end_of 0 f.taken) (length archive) f.rest = order_after 0 (length archive) f.taken f.rest (subst (AreSpansInOrder 0 (length archive)) f.are (order archive)) in
+      let low = end_not_before are.stop.from (length archive) f.rest (subst (λ k. AreSpansInOrder k (length archive) f.rest) ends later) in
       let short = f.short in
       omega (arith, low, short)
 

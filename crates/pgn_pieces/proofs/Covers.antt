@@ -8,7 +8,7 @@ use Rattle.pgn_cut.specs.Cut.{cut}
 use Rattle.pgn_cut.specs.declared.span.Span.{Span}
 use Rattle.pgn_pieces.specs.Pieces.{piece_bytes, last_piece, after, start, AreFull, ArePieces}
 use Rattle.pgn_pieces.specs.declared.piece.Piece.{Piece}
-use Rattle.pgn_pieces.specs.declared.piece.Place.{Place}
+use Rattle.pgn_pieces.specs.declared.piece.PieceStart.{PieceStart}
 use Rattle.pgn_pieces.proofs.Streams.{Order, both_none, no_games}
 
 -- a piece and what stands after it
@@ -17,16 +17,16 @@ piece_and_rest archive p =
     ap (λ (l : List ℕ). piece_bytes archive p ++ l) (sym (drop-drop p.length p.offset archive)) ∙ take-append-drop p.length (drop p.offset archive)
 
 -- full pieces are what stands before the place where they stop
-full_cover : (least : ℕ) (archive : List ℕ) (here : Place) (games : List Span) (ps : List Piece) (stop : Place) → AreFull least here games ps stop
+full_cover : (least : ℕ) (archive : List ℕ) (here : PieceStart) (games : List Span) (ps : List Piece) (stop : PieceStart) → AreFull least here games ps stop
     → flat_map (piece_bytes archive) ps ++ drop stop.from archive ≡ drop here.from archive
 unfolding AreFull
-full_cover least archive here games [] stop full = ap (λ (p : Place). drop p.from archive) (sym full.1)
+full_cover least archive here games [] stop full = ap (λ (p : PieceStart). drop p.from archive) (sym full.1)
 full_cover least archive here games (p ∷ ps) stop full =
     append_assoc (piece_bytes archive p) (flat_map (piece_bytes archive) ps) (drop stop.from archive)
     ∙ ap (λ (l : List ℕ). piece_bytes archive p ++ l) (full_cover least archive (after p) full.1 ps stop full.5) ∙ piece_and_rest archive p
     ∙ ap (λ (q : Piece). drop q.offset archive) full.4
 
-last_by : (archive : List ℕ) (stop : Place) (games : ℕ) → (stop.from < length archive) ⊎ (length archive ≤ stop.from)
+last_by : (archive : List ℕ) (stop : PieceStart) (games : ℕ) → (stop.from < length archive) ⊎ (length archive ≤ stop.from)
     → flat_map (piece_bytes archive) (last_piece stop (length archive) games) ≡ drop stop.from archive
 last_by archive stop games (inl some) =
     let rest = drop stop.from archive in
@@ -47,7 +47,7 @@ not_none : (xs : List Span) (x : Span) → [] ≡ xs ++ x ∷ [] → ⊥
 not_none [] x are = cc
 not_none (y ∷ ys) x are = cc
 
-none_full : (least : ℕ) (here : Place) (games : List Span) (ps : List Piece) (stop : Place) → games ≡ [] → AreFull least here games ps stop → (ps ≡ []) × (here ≡ stop)
+none_full : (least : ℕ) (here : PieceStart) (games : List Span) (ps : List Piece) (stop : PieceStart) → games ≡ [] → AreFull least here games ps stop → (ps ≡ []) × (here ≡ stop)
 unfolding AreFull
 none_full least here games [] stop none full = (refl, full.1)
 none_full least here games (p ∷ ps) stop none full =
@@ -58,4 +58,4 @@ pub no_pieces : Order → (least : ℕ) (pieces : List Piece) → ArePieces leas
 no_pieces order least pieces are =
     let taken : are.fill.taken ≡ [] = both_none are.fill.taken are.fill.rest (sym (no_games (cut []) (order [])) ∙ are.fill.are) in
     let none = none_full least start are.fill.taken are.full are.stop taken are.fill.full in
-    are.are ∙ ap₂ (λ (ps : List Piece) (stop : Place). ps ++ last_piece stop 0 (length are.fill.rest)) none.0 (sym none.1)
+    are.are ∙ ap₂ (λ (ps : List Piece) (stop : PieceStart). ps ++ last_piece stop 0 (length are.fill.rest)) none.0 (sym none.1)

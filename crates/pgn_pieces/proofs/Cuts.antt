@@ -6,7 +6,7 @@ use Rattle.std.proofs.lemmas.List.Concat.{flat_map-append}
 use Rattle.std.specs.Io.KnownBytes.{Consumes, Keeps, IsAtEnd}
 use Rattle.cq_outside.specs.Faults.{Rose}
 use Rattle.cq_outside.specs.Flow.{Grew}
-use Rattle.pgn_pieces.specs.Pieces.{ArePieces, AreFirst}
+use Rattle.pgn_pieces.specs.Pieces.{ArePieces, ArePrefixPieces}
 use Rattle.pgn_pieces.specs.State.{Stands, TakesBytes, ComesToEnd}
 use Rattle.pgn_pieces.specs.Table.{line, table}
 use Rattle.pgn_pieces.specs.declared.piece.Piece.{Piece}
@@ -56,10 +56,10 @@ rose_on a b c same rose = subst (λ (k : ℕ). Rose k c) same rose
 
 -- ---- one read
 
-first_of : (least : ℕ) (p : Pieces) (front : List ℕ) (pieces : List Piece) → p.least ≡ least → Stands p front pieces → AreFirst least front pieces
+first_of : (least : ℕ) (p : Pieces) (front : List ℕ) (pieces : List Piece) → p.least ≡ least → Stands p front pieces → ArePrefixPieces least front pieces
 first_of least p front pieces is stands =
-    let first : AreFirst p.least front pieces = record { stop = p.open_piece.here; fill = stands.shows.fill } in
-    subst (λ (k : ℕ). AreFirst k front pieces) is first
+    let first : ArePrefixPieces p.least front pieces = record { stop = p.open_piece.begin; fill = stands.shows.fill } in
+    subst (λ (k : ℕ). ArePrefixPieces k front pieces) is first
 
 pub starts : (least : ℕ) (was : Pipe) (p : Pieces) → Stands p [] [] → p.least ≡ least → HasCut least 0 was was p
 starts least was p stands is = record {

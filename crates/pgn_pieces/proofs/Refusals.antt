@@ -7,7 +7,7 @@ use Rattle.clap.specs.declared.error.kind.ErrorKind.TheVariants.{OutOfMemory}
 use Rattle.clap.specs.declared.parser.matches.ArgMatches.{ArgMatches}
 use Rattle.cq_common.specs.declared.faults.Refusal.{Refusal}
 use Rattle.cq_common.specs.declared.faults.Refusal.TheVariants.{Fault, NoMemory}
-use Rattle.pgn_pieces.specs.Jobs.{Answers, HasMatches, IsRefused, asked, job_in}
+use Rattle.pgn_pieces.specs.Jobs.{Answers, HasMatches, IsRefused, job_of_words, job_in}
 use Rattle.pgn_pieces.specs.Line.{line}
 use Rattle.pgn_pieces.specs.declared.job.Job.{Job}
 use Rattle.pgn_pieces.specs.declared.job.WordsRefused.{WordsRefused}
@@ -37,6 +37,6 @@ none_asked [] job never = absurd (never refl)
 none_asked (k ∷ ks) job never = search rules
 
 -- words that are refused ask for no job
-pub asks_for_none : (words : List Text) (refusal : Refusal WordsRefused) → IsRefused words refusal → Answers (asked words) (Err refusal)
+pub asks_for_none : (words : List Text) (refusal : Refusal WordsRefused) → IsRefused words refusal → Answers (job_of_words words) (Err refusal)
 asks_for_none words NoMemory is = tt
 asks_for_none words (Fault refused) is = none_asked (fault_of line words) (job_in (matches_of line words)) is

@@ -5,7 +5,7 @@ use Rattle.std.proofs.Math.Seq.{drop-append_seam}
 use Rattle.std.proofs.lemmas.List.{append-nil, length-append}
 use Rattle.std.proofs.lemmas.List.Concat.{flat_map-append}
 use Rattle.pgn_cut.specs.Cut.{cut, closed}
-use Rattle.pgn_cut.specs.Spans.{AreInOrder, FinishesAt}
+use Rattle.pgn_cut.specs.Spans.{AreSpansInOrder, FinishesAt}
 use Rattle.pgn_cut.specs.Streams.{Stands as CutterStands}
 use Rattle.pgn_cut.specs.declared.span.Span.{Span}
 use Rattle.pgn_pieces.specs.Pieces.{end_of, start, last_piece}
@@ -25,7 +25,7 @@ abbrev pub Whole : Type 0
 Whole = (front : List ℕ) → (last : List Span) × (cut front ≡ closed front ++ last) × FinishesAt (length front) last
 
 abbrev pub Order : Type 0
-Order = (archive : List ℕ) → AreInOrder 0 (length archive) (cut archive)
+Order = (archive : List ℕ) → AreSpansInOrder 0 (length archive) (cut archive)
 
 -- ---- the games that some bytes close, and those that the end closes
 
@@ -45,24 +45,24 @@ ended whole_ front news are =
 open_end : (least : ℕ) (o : OpenPiece) (games : List Span) (pieces : List Piece) → Shows least o games pieces → end_of 0 games ≡ o.end
 open_end least o games pieces shows =
     let f = shows.fill in
-    ap (end_of 0) f.are ∙ end_append 0 f.taken f.rest ∙ ap (λ (k : ℕ). end_of k f.rest) (full_end least start f.taken pieces o.here f.full) ∙ sym shows.end
+    ap (end_of 0) f.are ∙ end_append 0 f.taken f.rest ∙ ap (λ (k : ℕ). end_of k f.rest) (full_end least start f.taken pieces o.begin f.full) ∙ sym shows.end
 
 later_games : Order → (least : ℕ) (o : OpenPiece) (pieces : List Piece) (archive : List ℕ) (before news last : List Span) → Shows least o before pieces
-    → cut archive ≡ before ++ (news ++ last) → AreInOrder o.end (length archive) news
+    → cut archive ≡ before ++ (news ++ last) → AreSpansInOrder o.end (length archive) news
 later_games order least o pieces archive before news last shows is =
     let to = length archive in
-    subst (λ (k : ℕ). AreInOrder k to news) (open_end least o before pieces shows)
-    (order_before (end_of 0 before) to news last (order_after 0 to before (news ++ last) (subst (AreInOrder 0 to) is (order archive))))
+    subst (λ (k : ℕ). AreSpansInOrder k to news) (open_end least o before pieces shows)
+    (order_before (end_of 0 before) to news last (order_after 0 to before (news ++ last) (subst (AreSpansInOrder 0 to) is (order archive))))
 
 pub fed_in_order : Order → Whole → (p : Pieces) (pieces : List Piece) (front bytes : List ℕ) (news : List Span) → Stands p front pieces
-    → closed (front ++ bytes) ≡ closed front ++ news → AreInOrder p.open_piece.end (length (front ++ bytes)) news
+    → closed (front ++ bytes) ≡ closed front ++ news → AreSpansInOrder p.open_piece.end (length (front ++ bytes)) news
 fed_in_order order whole_ p pieces front bytes news stands is =
     let w = whole_ (front ++ bytes) in
     later_games order p.least p.open_piece pieces (front ++ bytes) (closed front) news w.0 stands.shows
     (w.1 ∙ ap (λ (l : List Span). l ++ w.0) is ∙ append_assoc (closed front) news w.0)
 
 pub ended_in_order : Order → (p : Pieces) (pieces : List Piece) (front : List ℕ) (news : List Span) → Stands p front pieces
-    → cut front ≡ closed front ++ news → AreInOrder p.open_piece.end (length front) news
+    → cut front ≡ closed front ++ news → AreSpansInOrder p.open_piece.end (length front) news
 ended_in_order order p pieces front news stands is =
     later_games order p.least p.open_piece pieces front (closed front) news [] stands.shows (is ∙ ap (λ (l : List Span). closed front ++ l) (sym (append-nil news)))
 
@@ -70,7 +70,7 @@ ended_in_order order p pieces front news stands is =
 
 -- no bytes have no game, and close none
 
-pub no_games : (games : List Span) → AreInOrder 0 0 games → games ≡ []
+pub no_games : (games : List Span) → AreSpansInOrder 0 0 games → games ≡ []
 no_games [] order = refl
 no_games (g ∷ gs) order = let e = order.1 in absurd (omega (arith, e.0, e.1))
 
@@ -121,9 +121,9 @@ adds_after least was now games none lines text longer none_is adds is = record {
 
 pub comes_to_end : (was : Pieces) (last : OpenPiece) (text mid longer : List ℕ) (news : List Span)
     → ((front : List ℕ) → CutterStands was.cutter front → cut front ≡ closed front ++ news) → AddsGames was.least was.open_piece last news text mid
-    → longer ≡ mid ++ table (last_piece last.here was.taken last.games) → ComesToEnd was text longer
+    → longer ≡ mid ++ table (last_piece last.begin was.taken last.games) → ComesToEnd was text longer
 comes_to_end was last text mid longer news ends adds is =
-    let rest = last_piece last.here was.taken last.games in record {
+    let rest = last_piece last.begin was.taken last.games in record {
       more = adds.more ++ rest;
       lines = is ∙ ap (λ (l : List ℕ). l ++ table rest) adds.lines ∙ append_assoc text (table adds.more) (table rest)
           ∙ ap (λ (l : List ℕ). text ++ l) (sym (flat_map-append line adds.more rest));
@@ -131,9 +131,9 @@ comes_to_end was last text mid longer news ends adds is =
           let shows = adds.shows (closed front) pieces stands.shows in
           let f = shows.fill in record {
             full = pieces ++ adds.more;
-            stop = last.here;
+            stop = last.begin;
             fill = record { taken = f.taken; rest = f.rest; are = ends front stands.cutter ∙ f.are; full = f.full; short = f.short };
             are = sym (append_assoc pieces adds.more rest)
-                ∙ ap₂ (λ (total games : ℕ). (pieces ++ adds.more) ++ last_piece last.here total games) stands.taken shows.count;
+                ∙ ap₂ (λ (total games : ℕ). (pieces ++ adds.more) ++ last_piece last.begin total games) stands.taken shows.count;
           };
     }

@@ -3,7 +3,7 @@ use Rattle.std.specs.Prelude.{◌≡◌, ◌⊎◌, ℕ, ◌<◌, ◌≤◌, ◌
 use Rattle.std.specs.Io.KnownBytes.{Consumes, IsAtEnd}
 use Rattle.cq_outside.specs.Faults.{Rose}
 use Rattle.cq_outside.specs.Flow.{Grew}
-use Rattle.pgn_pieces.specs.Pieces.{ArePieces, AreFirst}
+use Rattle.pgn_pieces.specs.Pieces.{ArePieces, ArePrefixPieces}
 use Rattle.pgn_pieces.specs.State.{Stands}
 use Rattle.pgn_pieces.specs.Table.{table}
 use Rattle.pgn_pieces.specs.declared.piece.Piece.{Piece}
@@ -58,7 +58,7 @@ pub record WritesTable (least : ℕ) (was now : Pipe) : Type 0 where
 -- These first bytes were read, and the lines of the pieces that are full with them were written.
 pub record WritesFirst (least : ℕ) (was now : Pipe) (front : List ℕ) : Type 0 where
   pub pieces : List Piece
-  pub are : AreFirst least front pieces
+  pub are : ArePrefixPieces least front pieces
   pub moves : Moves was now front (table pieces)
 
 -- Some first bytes were read, and then these; a front of the lines of the pieces that are full with the first ones was written, or of all
@@ -66,7 +66,7 @@ pub record WritesFirst (least : ℕ) (was now : Pipe) (front : List ℕ) : Type 
 pub record WritesPart (least : ℕ) (was now : Pipe) (later : List ℕ) : Type 0 where
   pub front : List ℕ
   pub pieces : List Piece
-  pub are : AreFirst least front pieces ⊎ (ArePieces least front pieces × (later ≡ []) × IsAtEnd now.left)
+  pub are : ArePrefixPieces least front pieces ⊎ (ArePieces least front pieces × (later ≡ []) × IsAtEnd now.left)
   pub count : ℕ
   pub moves : Moves was now (front ++ later) (take count (table pieces))
 

@@ -24,8 +24,8 @@ job_in rows = option_and_then (λ archive. option_map (λ least. record { archiv
     (option_and_then number_of (first_of (codes "bytes") rows))) (first_of (codes "archive") rows)
 
 -- the job of words of which `clap` promises matches; none of words that it promises to refuse
-abbrev pub asked : List Text → Option Job
-asked words = if is_empty (fault_of line words) then job_in (matches_of line words) else None
+abbrev pub job_of_words : List Text → Option Job
+job_of_words words = if is_empty (fault_of line words) then job_in (matches_of line words) else None
 
 -- what a call answers about a job that is asked, or about none: the job, a refusal of the words, or out of memory
 abbrev pub Answers : Option Job → Result Job (Refusal WordsRefused) → Type 0

@@ -3,7 +3,7 @@ use Rattle.std.specs.Prelude.{◌≡◌, ℕ, ◌+◌, ◌-◌, ◌≤◌, ◌<�
 use Rattle.pgn_cut.specs.Cut.{cut, closed}
 use Rattle.pgn_cut.specs.declared.span.Span.{Span}
 use Rattle.pgn_pieces.specs.declared.piece.Piece.{Piece}
-use Rattle.pgn_pieces.specs.declared.piece.Place.{Place}
+use Rattle.pgn_pieces.specs.declared.piece.PieceStart.{PieceStart}
 
 -- where some games end of which the first begins at a place, or after it
 abbrev pub end_of : ℕ → List Span → ℕ
@@ -18,29 +18,29 @@ pub record IsLongEnough (least from : ℕ) (games : List Span) : Type 0 where
   pub long : from + least ≤ last.end
 
 -- the piece that begins at a place, ends at another and has so many games
-abbrev pub piece_to : Place → (to games : ℕ) → Piece
-piece_to here to games = record { number = here.number; offset = here.from; length = to - here.from; first = here.first; games = games }
+abbrev pub piece_to : PieceStart → (to games : ℕ) → Piece
+piece_to begin to games = record { number = begin.number; offset = begin.from; length = to - begin.from; first = begin.first; games = games }
 
 -- the bytes of a piece
 abbrev pub piece_bytes : List ℕ → Piece → List ℕ
 piece_bytes archive p = take p.length (drop p.offset archive)
 
 -- where the piece after a piece begins
-abbrev pub after : Piece → Place
+abbrev pub after : Piece → PieceStart
 after p = record { number = p.number + 1; from = p.offset + p.length; first = p.first + p.games }
 
 -- where the first piece begins
-abbrev pub start : Place
+abbrev pub start : PieceStart
 start = record { number = 1; from = 0; first = 1 }
 
 -- The games are those of these pieces, one after the other, each just long enough; the last one ends at `stop`.
-unfoldable pub AreFull : ℕ → Place → List Span → List Piece → Place → Type 0
-AreFull least here games [] stop = (games ≡ []) × (here ≡ stop)
-AreFull least here games (p ∷ ps) stop = (mine : List Span) × (others : List Span) × (games ≡ mine ++ others)
-    × IsLongEnough least here.from mine × (p ≡ piece_to here (end_of here.from mine) (length mine)) × AreFull least (after p) others ps stop
+unfoldable pub AreFull : ℕ → PieceStart → List Span → List Piece → PieceStart → Type 0
+AreFull least begin games [] stop = (games ≡ []) × (begin ≡ stop)
+AreFull least begin games (p ∷ ps) stop = (mine : List Span) × (others : List Span) × (games ≡ mine ++ others)
+    × IsLongEnough least begin.from mine × (p ≡ piece_to begin (end_of begin.from mine) (length mine)) × AreFull least (after p) others ps stop
 
 -- Some games are those of full pieces and then too few for one more, which begins at `stop`.
-pub record Fill (least : ℕ) (games : List Span) (pieces : List Piece) (stop : Place) : Type 0 where
+pub record Fill (least : ℕ) (games : List Span) (pieces : List Piece) (stop : PieceStart) : Type 0 where
   pub taken : List Span
   pub rest : List Span
   pub are : games ≡ taken ++ rest
@@ -48,17 +48,17 @@ pub record Fill (least : ℕ) (games : List Span) (pieces : List Piece) (stop : 
   pub short : end_of stop.from rest < stop.from + least
 
 -- These pieces are full by the games that the first bytes of an archive close, so that they are its first ones, whatever follows.
-pub record AreFirst (least : ℕ) (front : List ℕ) (pieces : List Piece) : Type 0 where
-  pub stop : Place
+pub record ArePrefixPieces (least : ℕ) (front : List ℕ) (pieces : List Piece) : Type 0 where
+  pub stop : PieceStart
   pub fill : Fill least (closed front) pieces stop
 
 -- What is left of an archive of so many bytes is one piece more, where it has a byte.
-abbrev pub last_piece : Place → (total games : ℕ) → List Piece
+abbrev pub last_piece : PieceStart → (total games : ℕ) → List Piece
 last_piece stop total games = if nat_lt stop.from total then piece_to stop total games ∷ [] else []
 
 -- the pieces of an archive
 pub record ArePieces (least : ℕ) (archive : List ℕ) (pieces : List Piece) : Type 0 where
   pub full : List Piece
-  pub stop : Place
+  pub stop : PieceStart
   pub fill : Fill least (cut archive) full stop
   pub are : pieces ≡ full ++ last_piece stop (length archive) (length fill.rest)

@@ -3,9 +3,9 @@ use Rattle.std.specs.Prelude.{◌≡◌, ℕ, List, [], ◌∷◌, ◌++◌, tak
 use Rattle.std.specs.Option.{option_map}
 use Rattle.cq_outside.specs.Faults.{Rose}
 use Rattle.cq_outside.specs.Flow.{Grew}
-use Rattle.cq_outside.specs.Told.{Told, bytes_of}
+use Rattle.cq_outside.specs.DeskFiles.{DeskFiles, bytes_of}
 use Rattle.pgn_pieces.specs.Cutting.{Pipe, Says}
-use Rattle.pgn_pieces.specs.Jobs.{asked}
+use Rattle.pgn_pieces.specs.Jobs.{job_of_words}
 use Rattle.pgn_pieces.specs.Status.{exit_code}
 use Rattle.pgn_pieces.specs.declared.job.Job.{Job}
 use Rattle.pgn_pieces.specs.declared.status.Status.{Status}
@@ -14,13 +14,13 @@ use Rattle.pgn_pieces.specs.declared.status.Status.TheVariants.{WordsRefused, Op
 -- What the program is lent, at one moment: what the desk tells of its files, how many could not be opened, its open file and the sink for
 -- the table, and the sink for the usage line, with the bytes taken and the count of writes that failed.
 pub record Lent : Type 0 where
-  pub told : Option Told
+  pub told : Option DeskFiles
   pub open_faults : ℕ
   pub pipe_ : Pipe
   pub err_taken : Option (List ℕ)
   pub err_faults : ℕ
 
-abbrev pub lent : {D E : Type 0} → (D → Option Told) → (D → ℕ) → Pipe → (E → Option (List ℕ)) → (E → ℕ) → D → E → Lent
+abbrev pub lent : {D E : Type 0} → (D → Option DeskFiles) → (D → ℕ) → Pipe → (E → Option (List ℕ)) → (E → ℕ) → D → E → Lent
 lent told open_faults pipe_ taken faults desk err =
     record { told = told desk; open_faults = open_faults desk; pipe_ = pipe_; err_taken = taken err; err_faults = faults err }
 
@@ -30,13 +30,13 @@ pub record IsErrUnwritten (was now : Lent) : Type 0 where
   pub faults : now.err_faults ≡ was.err_faults
 
 -- a desk on which one more name was opened
-abbrev pub with_open : List ℕ → Told → Told
+abbrev pub with_open : List ℕ → DeskFiles → DeskFiles
 with_open name told = record { files = told.files; opened = told.opened ++ name ∷ [] }
 
 -- As far as the desk tells, this name was opened, once, and no other was. The pipe before the file was read.
 pub record Opened (name : List ℕ) (was now : Lent) (file : Pipe) : Type 0 where
   pub told : now.told ≡ option_map (with_open name) was.told
-  pub bytes : (told : Told) → was.told ≡ Some told → file.left ≡ Some (bytes_of told.files name)
+  pub bytes : (told : DeskFiles) → was.told ≡ Some told → file.left ≡ Some (bytes_of told.files name)
   pub opens : now.open_faults ≡ was.open_faults
   pub reads : file.read_faults ≡ was.pipe_.read_faults
   pub out : file.taken ≡ was.pipe_.taken
@@ -69,10 +69,10 @@ RefusesWords _ was now = ⊥
 -- What `run` promises of its status: the words ask for a table, and the archive is opened and cut, or can't be opened; or they are
 -- refused; or no memory was found, and nothing changed.
 pub data Promise (words : List (List ℕ)) (status : Status) (was now : Lent) : Type 0 where
-  archive_cut : (job : Job) → asked words ≡ Some job → (file : Pipe) → Opened job.archive was now file
+  archive_cut : (job : Job) → job_of_words words ≡ Some job → (file : Pipe) → Opened job.archive was now file
       → Says status job.least file now.pipe_ → IsErrUnwritten was now → Promise words status was now
-  archive_unopened : (job : Job) → asked words ≡ Some job → status ≡ OpenFault → FailsToOpen was now → Promise words status was now
-  words_refused : asked words ≡ None → RefusesWords status was now → Promise words status was now
+  archive_unopened : (job : Job) → job_of_words words ≡ Some job → status ≡ OpenFault → FailsToOpen was now → Promise words status was now
+  words_refused : job_of_words words ≡ None → RefusesWords status was now → Promise words status was now
   out_of_memory : status ≡ NoMemory → now ≡ was → Promise words status was now
 
 -- the exit status is that of the status by which these words were answered

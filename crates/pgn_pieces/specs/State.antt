@@ -11,9 +11,9 @@ use Rattle.pgn_pieces.specs.declared.state.Pieces.{Pieces}
 
 -- The full pieces of some games are these, and the open piece has the games after them.
 pub record Shows (least : ℕ) (open_ : OpenPiece) (games : List Span) (pieces : List Piece) : Type 0 where
-  pub fill : Fill least games pieces open_.here
+  pub fill : Fill least games pieces open_.begin
   pub count : open_.games ≡ length fill.rest
-  pub end : open_.end ≡ end_of open_.here.from fill.rest
+  pub end : open_.end ≡ end_of open_.begin.from fill.rest
 
 -- The bytes taken are `front`, of which the closed games fill these pieces.
 pub record Stands (p : Pieces) (front : List ℕ) (pieces : List Piece) : Type 0 where

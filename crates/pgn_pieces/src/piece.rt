@@ -19,18 +19,18 @@ pub struct Piece {
 
 /// Where a piece begins: its number, the place of its first byte, and the number of its first game.
 #[derive(Clone, Copy)]
-pub(crate) struct Place {
+pub(crate) struct PieceStart {
     pub(crate) number: u64,
     pub(crate) from: u64,
     pub(crate) first: u64,
 }
 
-impl Place {
+impl PieceStart {
     /// Where the first piece begins.
-    pub(crate) fn start() -> Place
+    pub(crate) fn start() -> PieceStart
         ensures { result ≡ start }
     {
-        Place {
+        PieceStart {
             number: 1,
             from: 0,
             first: 1,
@@ -54,12 +54,12 @@ impl Place {
 
 impl Piece {
     /// Where the piece after this one begins.
-    pub(crate) fn after(self) -> Place
+    pub(crate) fn after(self) -> PieceStart
         requires numbers { (self.number < 2 ^ 62) × (self.first < 2 ^ 62) × (self.games < 2 ^ 62) }
         requires bytes { (self.offset < 2 ^ 62) × (self.length < 2 ^ 62) }
         ensures { result ≡ after self }
     {
-        Place {
+        PieceStart {
             number: self.number + 1,
             from: self.offset + self.length,
             first: self.first + self.games,

@@ -1,12 +1,12 @@
 //! The pieces of an archive that comes bit by bit.
 ghost use Rattle.std.specs.Prelude.{◌≡◌, ◌+◌, ◌++◌, ◌<◌, ◌≤◌, ◌^◌, [], ◌∷◌, ℕ, List, length, OnOk, OnErr, IfOk};
-ghost use Rattle.pgn_cut.specs.Spans.{AreInOrder};
+ghost use Rattle.pgn_cut.specs.Spans.{AreSpansInOrder};
 ghost use Rattle.pgn_pieces.specs.Pieces.{last_piece};
 ghost use Rattle.pgn_pieces.specs.Table.{table};
 ghost use Rattle.pgn_pieces.specs.State.{Shows, Stands, AddsGames, TakesBytes, ComesToEnd};
 ghost use Rattle.pgn_pieces.specs.declared.piece.Piece.{Piece as APiece};
 
-use crate::piece::Place;
+use crate::piece::PieceStart;
 use crate::state::{OpenPiece, Pieces};
 use crate::table::push_line;
 use cq_common::{Bytes, NoMemory};
@@ -20,7 +20,7 @@ impl OpenPiece {
         ensures end { result.end ≡ 0 }
     {
         OpenPiece {
-            here: Place::start(),
+            begin: PieceStart::start(),
             games: 0,
             end: 0,
         }
@@ -33,17 +33,17 @@ impl OpenPiece {
         ensures end { IfOk result (λ now. now.end ≡ game.end) }
     {
         let games = self.games + 1;
-        if game.end - self.here.from < least {
+        if game.end - self.begin.from < least {
             return Ok(OpenPiece {
-                here: self.here,
+                begin: self.begin,
                 games,
                 end: game.end,
             });
         }
-        let piece = self.here.piece_to(game.end, games);
+        let piece = self.begin.piece_to(game.end, games);
         push_line(text, piece)?;
         Ok(OpenPiece {
-            here: piece.after(),
+            begin: piece.after(),
             games: 0,
             end: game.end,
         })
@@ -51,12 +51,12 @@ impl OpenPiece {
 
     // Adds the line of what is left of an archive of so many bytes, where something is left.
     fn push_last(self, total: u64, text: &mut Bytes) -> Result<(), NoMemory>
-        ensures { OnOk result (text.new ≡ text.old ++ table (last_piece self.here total self.games)) }
+        ensures { OnOk result (text.new ≡ text.old ++ table (last_piece self.begin total self.games)) }
     {
-        if total <= self.here.from {
+        if total <= self.begin.from {
             return Ok(());
         }
-        push_line(text, self.here.piece_to(total, self.games))
+        push_line(text, self.begin.piece_to(total, self.games))
     }
 }
 
@@ -67,7 +67,7 @@ fn add_all(
     least: u64,
     text: &mut Bytes,
 ) -> Result<OpenPiece, NoMemory>
-    requires order { (to : ℕ) × (to < 2 ^ 62) × AreInOrder open_piece.end to games.now }
+    requires order { (to : ℕ) × (to < 2 ^ 62) × AreSpansInOrder open_piece.end to games.now }
     ensures { IfOk result (λ now. AddsGames least open_piece now games.now text.old text.new) }
 {
     let mut now = open_piece;

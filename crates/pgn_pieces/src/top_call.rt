@@ -1,7 +1,7 @@
 //! The top call.
 ghost use Rattle.std.specs.Prelude.{ℕ, Option, map, MatchResult};
 ghost use Rattle.std.specs.String.{string_bytes};
-ghost use Rattle.cq_outside.specs.Told.{Told};
+ghost use Rattle.cq_outside.specs.DeskFiles.{DeskFiles};
 ghost use Rattle.pgn_pieces.specs.Cutting.{Pipe, pipe};
 ghost use Rattle.pgn_pieces.specs.Promise.{EndsWithoutWords, EndsWords, Promise, RefusesWords, lent};
 
@@ -59,7 +59,7 @@ pub fn run<D: Desk, O: Sink, E: Sink>(
 
 // Writes the usage line.
 fn refuse_words<E: Sink>(err: &mut E) -> Status
-    ensures { (told : Option Told) (open_faults : ℕ) (p : Pipe) → RefusesWords result
+    ensures { (told : Option DeskFiles) (open_faults : ℕ) (p : Pipe) → RefusesWords result
         (record { told = told; open_faults = open_faults; pipe_ = p; err_taken = E.taken err.old; err_faults = E.faults err.old })
         (record { told = told; open_faults = open_faults; pipe_ = p; err_taken = E.taken err.new; err_faults = E.faults err.new }) }
 {

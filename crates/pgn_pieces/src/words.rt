@@ -2,7 +2,7 @@
 ghost use Rattle.std.specs.Prelude.{◌≡◌, ◌≤◌, ◌↔◌, IfOk, IfSome, MatchResult, map, option_map};
 ghost use Rattle.std.specs.String.{string_bytes};
 ghost use Rattle.clap.specs.Words.{first_of, found_of, kind_of, rows_of};
-ghost use Rattle.pgn_pieces.specs.Jobs.{Answers, HasMatches, IsRefused, asked, job_in, number_of};
+ghost use Rattle.pgn_pieces.specs.Jobs.{Answers, HasMatches, IsRefused, job_of_words, job_in, number_of};
 
 use crate::job::{BYTES_LIMIT, Job, WordsRefused};
 use crate::line::line;
@@ -67,7 +67,7 @@ fn job_in(alloc: Global, matches: &ArgMatches<'_>) -> Result<Job, Refusal<WordsR
 
 /// What the words after the program's name ask. They are refused exactly where `clap` refuses them for another cause than memory.
 pub fn read_words(alloc: Global, words: &[String]) -> Result<Job, Refusal<WordsRefused>>
-    ensures value { Answers (asked (map string_bytes words.now)) result }
+    ensures value { Answers (job_of_words (map string_bytes words.now)) result }
     ensures range { IfOk result (λ job. (1 ≤ job.least) × (job.least ≤ 1099511627776)) }
 {
     let matches = matched(alloc, words)?;

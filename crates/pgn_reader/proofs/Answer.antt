@@ -8,44 +8,44 @@ use Rattle.pgn_reader.specs.declared.fault.Reason.{Reason}
 use Rattle.pgn_reader.specs.declared.fault.Reason.TheVariants.{TooManyPositions}
 use Rattle.pgn_reader.specs.Words.{Word}
 use Rattle.pgn_reader.specs.Tags.{result_of_tags}
-use Rattle.pgn_reader.specs.Line.{beginning, Tells}
+use Rattle.pgn_reader.specs.Line.{beginning, ParsesLine}
 use Rattle.pgn_reader.specs.Games.{SpellsAny, Spells}
-use Rattle.pgn_reader.specs.Standing.{Begun, outermost, within, depth_of, Reaches, StandsAt, fault_at, fault_at_end, moves_before}
+use Rattle.pgn_reader.specs.ReadingPlace.{OpenLines, outermost, within, depth_of, Reaches, IsReadingPlace, fault_at, fault_at_end, moves_before}
 use Rattle.pgn_reader.specs.Faults.{Begins, IsFault}
-use Rattle.pgn_reader.specs.Frame.{Row, Frame, place, whole}
-use Rattle.pgn_reader.specs.Machine.{Head, State, opened, named, valued, at, ended, stuck, feed, run, first}
-use Rattle.pgn_reader.specs.Shown.{moves_in}
-use Rattle.pgn_reader.specs.Arranged.{way_on, nodes_by, nodes_of_rows, game_shown, standing_of}
+use Rattle.pgn_reader.specs.Internal.Frame.{NodeRow, Frame, place, whole}
+use Rattle.pgn_reader.specs.Internal.Machine.{Head, State, opened, named, valued, at, ended, stuck, feed, run, first}
+use Rattle.pgn_reader.specs.Internal.ReaderView.{moves_in}
+use Rattle.pgn_reader.specs.Internal.GameAssembly.{path_down, nodes_by, nodes_of_rows, game_of_frame, reading_place_of}
 use Rattle.pgn_reader.proofs.Read.{run_append}
-use Rattle.pgn_reader.proofs.Told.{Stack}
+use Rattle.pgn_reader.proofs.LineTail.{Stack}
 use Rattle.pgn_reader.proofs.Stands.{Stands, all_stands}
 use Rattle.pgn_reader.proofs.Whole.{IsEnd, IsRead, spelled_is_read, Spelled, read_at, read_ended, begins, stuck_is_dead}
 use Rattle.pgn_reader.proofs.Count.{run_counts, first_counts, Counts}
 
 -- the place that what has begun reaches, and how many variations are open
-pub record Reached (start : Board) (b : Begun) (f : Frame) (k : List Frame) : Type 0 where
+pub record Reached (start : Board) (b : OpenLines) (f : Frame) (k : List Frame) : Type 0 where
   pub reaches : Reaches start b (place f)
   pub depth : depth_of b ≡ length k
 
-reached : (start : Board) (b : Begun) (f : Frame) (k : List Frame) → Stack start b f k → Reached start b f k
+reached : (start : Board) (b : OpenLines) (f : Frame) (k : List Frame) → Stack start b f k → Reached start b f k
 reached start (outermost l) f [] (t, tells, end) = record { reaches = (t, tells, end); depth = refl }
 reached start (outermost l) f (g ∷ k) wrong = absurd wrong
 reached start (within b o l) f [] wrong = absurd wrong
 reached start (within b o l) f (g ∷ k) (around, p, before, shallow, opening, t, tells, end) =
     let outer : Reached start b g k = reached start b g k around in
     record {
-      reaches = (place g, outer.reaches, p, before, subst (λ n. n < 100) (sym outer.depth) shallow, opening, t, subst (λ n. Tells (n + 1) (beginning p) l t) (sym outer.depth) tells, end);
+      reaches = (place g, outer.reaches, p, before, subst (λ n. n < 100) (sym outer.depth) shallow, opening, t, subst (λ n. ParsesLine (n + 1) (beginning p) l t) (sym outer.depth) tells, end);
       depth = let e : depth_of b + 1 ≡ length (g ∷ k) = let d = outer.depth in omega (arith, d) in e;
     }
 
 -- where reading ends there is one game
-same_end : (s : State) (h i : Head) (f g : Frame) (a b : GameResult) → IsEnd s h f a → IsEnd s i g b → game_shown i g b ≡ game_shown h f a
+same_end : (s : State) (h i : Head) (f g : Frame) (a b : GameResult) → IsEnd s h f a → IsEnd s i g b → game_of_frame i g b ≡ game_of_frame h f a
 same_end s h i f g a b (inl x) (inl y) =
     let e : at i g [] ≡ at h f [] = sym y.0 ∙ x.0 in
     let heads : i ≡ h = cc in
     let frames : g ≡ f = cc in
     let results : b ≡ a = y.1 ∙ ap (λ z. result_of_tags z.tags) heads ∙ sym x.1 in
-    ap₂ (λ z n. game_shown z n b) heads frames ∙ ap (game_shown h f) results
+    ap₂ (λ z n. game_of_frame z n b) heads frames ∙ ap (game_of_frame h f) results
 same_end s h i f g a b (inl x) (inr y) = absurd (let e : ended i g b ≡ at h f [] = sym y ∙ x.0 in cc)
 same_end s h i f g a b (inr x) (inl y) = absurd (let e : at i g [] ≡ ended h f a = sym y.0 ∙ x in cc)
 same_end s h i f g a b (inr x) (inr y) =
@@ -53,24 +53,24 @@ same_end s h i f g a b (inr x) (inr y) =
     let heads : i ≡ h = cc in
     let frames : g ≡ f = cc in
     let results : b ≡ a = cc in
-    ap₂ (λ z n. game_shown z n b) heads frames ∙ ap (game_shown h f) results
+    ap₂ (λ z n. game_of_frame z n b) heads frames ∙ ap (game_of_frame h f) results
 
 spelled_end : (ts : List Word) (h : Head) (f : Frame) (result : GameResult) → IsEnd (run first ts) h f result → Spelled ts
 spelled_end ts h f result (inl there) = read_at ts h f there.0
 spelled_end ts h f result (inr there) = read_ended ts h f result there
 
-pub spells_shown : (ts : List Word) (h : Head) (f : Frame) (result : GameResult) → IsEnd (run first ts) h f result → SpellsAny ts (game_shown h f result)
+pub spells_shown : (ts : List Word) (h : Head) (f : Frame) (result : GameResult) → IsEnd (run first ts) h f result → SpellsAny ts (game_of_frame h f result)
 spells_shown ts h f result is_end =
     let spelled : Spelled ts = spelled_end ts h f result is_end in
     let r : IsRead ts spelled.game = spelled_is_read ts spelled.game spelled.spells in
     subst (SpellsAny ts) (r.game ∙ same_end (run first ts) h r.head f r.frame result r.result is_end r.is_end) spelled.spells
 
-nodes_length : (rows : List Row) (way : List ℕ) (k : ℕ) → length (nodes_by way k rows) ≡ length rows
+nodes_length : (rows : List NodeRow) (way : List ℕ) (k : ℕ) → length (nodes_by way k rows) ≡ length rows
 unfolding nodes_by
 nodes_length [] way k = refl
-nodes_length (r ∷ rows) way k = ap suc (nodes_length rows (way_on way r.level k) (k + 1))
+nodes_length (r ∷ rows) way k = ap suc (nodes_length rows (path_down way r.level k) (k + 1))
 
-pub all_nodes_length : (rows : List Row) → length (nodes_of_rows rows) ≡ length rows
+pub all_nodes_length : (rows : List NodeRow) → length (nodes_of_rows rows) ≡ length rows
 all_nodes_length [] = refl
 all_nodes_length (r ∷ rows) = ap suc (nodes_length rows (0 ∷ []) 1)
 
@@ -81,7 +81,7 @@ counts_end s h f result (inr there) counts = subst Counts there counts
 pub whole_counts : (ts : List Word) (h : Head) (f : Frame) (result : GameResult) → IsEnd (run first ts) h f result → length (whole f) ≡ h.moves + 1
 whole_counts ts h f result is_end = counts_end (run first ts) h f result is_end (run_counts ts first first_counts)
 
-pub read_iff : (ts : List Word) (h : Head) (f : Frame) (result : GameResult) → IsEnd (run first ts) h f result → h.moves ≤ 65535 → (g : Game) → Spells ts g ↔ (g ≡ game_shown h f result)
+pub read_iff : (ts : List Word) (h : Head) (f : Frame) (result : GameResult) → IsEnd (run first ts) h f result → h.moves ≤ 65535 → (g : Game) → Spells ts g ↔ (g ≡ game_of_frame h f result)
 read_iff ts h f result is_end few g = (
   λ spells. let r : IsRead ts g = spelled_is_read ts g spells.spells in r.game ∙ same_end (run first ts) h r.head f r.frame result r.result is_end r.is_end,
   λ is. subst (Spells ts) (sym is) (record {
@@ -91,35 +91,35 @@ read_iff ts h f result is_end few g = (
 )
 
 -- where the tokens of a state stand
-stands_by : (ts : List Word) (s : State) → run first ts ≡ s → moves_in s ≤ 65535 → Stands ts s → (s ≡ stuck → ⊥) → StandsAt ts (standing_of s)
+stands_by : (ts : List Word) (s : State) → run first ts ≡ s → moves_in s ≤ 65535 → Stands ts s → (s ≡ stuck → ⊥) → IsReadingPlace ts (reading_place_of s)
 stands_by ts (opened tags) is few stands live = stands
 stands_by ts (named tags name) is few stands live = stands
 stands_by ts (valued tags start) is few v live = (v.tags, v.opening, v.name, v.value, v.is_open, v.is_symbol, v.is_text, v.pair)
-stands_by ts (at h f k) is few shown live =
-    let r : Reached h.start shown.begun f k = reached h.start shown.begun f k shown.stack in
+stands_by ts (at h f k) is few state_of live =
+    let r : Reached h.start state_of.begun f k = reached h.start state_of.begun f k state_of.stack in
     record {
-      pairs = shown.pairs;
+      pairs = state_of.pairs;
       tags = h.tags;
       start = h.start;
-      has_heading = shown.has_heading;
-      begun = shown.begun;
+      has_heading = state_of.has_heading;
+      begun = state_of.begun;
       reaches = r.reaches;
-      joined = shown.joined;
+      joined = state_of.joined;
       depth_is = sym r.depth;
-      moves_are = shown.moves;
-      heading_is = shown.heading;
+      moves_are = state_of.moves;
+      heading_is = state_of.heading;
     }
 stands_by ts (ended h f result) is few m live = record {
-  game = game_shown h f result;
-  spells = (read_iff ts h f result (inr is) few (game_shown h f result)).1 refl;
+  game = game_of_frame h f result;
+  spells = (read_iff ts h f result (inr is) few (game_of_frame h f result)).1 refl;
   marked = (m.before, m.marker, result, m.joined, m.marks);
 }
 stands_by ts stuck is few stands live = absurd (live refl)
 
-pub stands_at : (ts : List Word) (s : State) → run first ts ≡ s → moves_in s ≤ 65535 → (s ≡ stuck → ⊥) → StandsAt ts (standing_of s)
+pub stands_at : (ts : List Word) (s : State) → run first ts ≡ s → moves_in s ≤ 65535 → (s ≡ stuck → ⊥) → IsReadingPlace ts (reading_place_of s)
 stands_at ts s is few live = stands_by ts s is few (subst (Stands ts) is (all_stands ts)) live
 
-few_before : (s : State) → moves_in s ≤ 65535 → moves_before (standing_of s) ≤ 65535
+few_before : (s : State) → moves_in s ≤ 65535 → moves_before (reading_place_of s) ≤ 65535
 few_before (opened tags) few = few
 few_before (named tags name) few = few
 few_before (valued tags start) few = few
@@ -129,10 +129,10 @@ few_before stuck few = few
 
 -- a token at which reading gets stuck, or that makes one position too many
 pub fault_here : (ts : List Word) (i : ℕ) (w : Word) (s : State) (reason : Reason) → run first (take i ts) ≡ s → (s ≡ stuck → ⊥) → i < length ts → take (i + 1) ts ≡ take i ts ++ w ∷ []
-    → fault_at (standing_of s) w ≡ Some reason → (reason ≢ TooManyPositions → feed s w ≡ stuck) → moves_in s ≤ 65535 → IsFault ts i reason
+    → fault_at (reading_place_of s) w ≡ Some reason → (reason ≢ TooManyPositions → feed s w ≡ stuck) → moves_in s ≤ 65535 → IsFault ts i reason
 fault_here ts i w s reason is live low more why dead few = record {
   alive = begins (take i ts) s is live;
-  standing = standing_of s;
+  standing = reading_place_of s;
   stands = stands_at (take i ts) s is few live;
   few = few_before s few;
   fault = inl (
@@ -146,19 +146,19 @@ fault_here ts i w s reason is live low more why dead few = record {
   );
 }
 
-pub no_end_fault : (s : State) (h : Head) (f : Frame) (result : GameResult) (reason : Reason) → IsEnd s h f result → fault_at_end (standing_of s) ≡ Some reason → ⊥
-no_end_fault s h f result reason (inl there) why = let e : None ≡ Some reason = ap (λ x. fault_at_end (standing_of x)) (sym there.0) ∙ why in cc
-no_end_fault s h f result reason (inr there) why = let e : None ≡ Some reason = ap (λ x. fault_at_end (standing_of x)) (sym there) ∙ why in cc
+pub no_end_fault : (s : State) (h : Head) (f : Frame) (result : GameResult) (reason : Reason) → IsEnd s h f result → fault_at_end (reading_place_of s) ≡ Some reason → ⊥
+no_end_fault s h f result reason (inl there) why = let e : None ≡ Some reason = ap (λ x. fault_at_end (reading_place_of x)) (sym there.0) ∙ why in cc
+no_end_fault s h f result reason (inr there) why = let e : None ≡ Some reason = ap (λ x. fault_at_end (reading_place_of x)) (sym there) ∙ why in cc
 
 -- the end, where the tokens only begin a game
-pub fault_of_end : (ts : List Word) (s : State) (reason : Reason) → run first ts ≡ s → (s ≡ stuck → ⊥) → fault_at_end (standing_of s) ≡ Some reason → moves_in s ≤ 65535
+pub fault_of_end : (ts : List Word) (s : State) (reason : Reason) → run first ts ≡ s → (s ≡ stuck → ⊥) → fault_at_end (reading_place_of s) ≡ Some reason → moves_in s ≤ 65535
     → IsFault ts (length ts) reason
 fault_of_end ts s reason is live why few =
     let all : take (length ts) ts ≡ ts = take_all (length ts) ts (let e : length ts ≤ length ts = omega arith in e) in
     record {
       alive = subst Begins (sym all) (begins ts s is live);
-      standing = standing_of s;
-      stands = subst (λ x. StandsAt x (standing_of s)) (sym all) (stands_at ts s is few live);
+      standing = reading_place_of s;
+      stands = subst (λ x. IsReadingPlace x (reading_place_of s)) (sym all) (stands_at ts s is few live);
       few = few_before s few;
       fault = inr (
         refl,

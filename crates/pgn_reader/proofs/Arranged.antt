@@ -4,8 +4,8 @@ use Rattle.std.specs.Prelude.{slice_index}
 use Rattle.std.proofs.lemmas.List.{get_or_append_left, get_or-append-add, get_or-take, length-take-le}
 use Rattle.cq_position.specs.Games.{Node}
 use Rattle.cq_position.specs.Continuations.{Continuations, none, played, size, nodes_from, node_of}
-use Rattle.pgn_reader.specs.Frame.{Row, rows}
-use Rattle.pgn_reader.specs.Arranged.{way_on, nodes_by}
+use Rattle.pgn_reader.specs.Internal.Frame.{NodeRow, rows}
+use Rattle.pgn_reader.specs.Internal.GameAssembly.{path_down, nodes_by}
 
 -- two ways agree down to a level
 abbrev pub Agree : ℕ → List ℕ → List ℕ → Type 0
@@ -14,34 +14,34 @@ Agree level v w = (i : ℕ) → i ≤ level → slice_index v i ≡ slice_index 
 taken : (way : List ℕ) (level : ℕ) → level < length way → length (take (level + 1) way) ≡ level + 1
 taken way level deep = length-take-le (level + 1) way (omega arith)
 
-pub length_way : (way : List ℕ) (level k : ℕ) → level < length way → length (way_on way level k) ≡ level + 2
+pub length_way : (way : List ℕ) (level k : ℕ) → level < length way → length (path_down way level k) ≡ level + 2
 length_way way level k deep =
     let a = length-append (take (level + 1) way) (k ∷ []) in
     let b = taken way level deep in
     let c : length (k ∷ []) ≡ 1 = refl in
     omega (arith, a, b, c)
 
-pub way_below : (way : List ℕ) (level k i : ℕ) → level < length way → i ≤ level → slice_index (way_on way level k) i ≡ slice_index way i
+pub way_below : (way : List ℕ) (level k i : ℕ) → level < length way → i ≤ level → slice_index (path_down way level k) i ≡ slice_index way i
 way_below way level k i deep low =
     get_or_append_left (take (level + 1) way) (k ∷ []) 0 i (let e = taken way level deep in omega (arith, e, low)) ∙ get_or-take (level + 1) way i 0 (omega arith)
 
-pub way_end : (way : List ℕ) (level k : ℕ) → level < length way → slice_index (way_on way level k) (level + 1) ≡ k
+pub way_end : (way : List ℕ) (level k : ℕ) → level < length way → slice_index (path_down way level k) (level + 1) ≡ k
 way_end way level k deep =
     let e : length (take (level + 1) way) + 0 ≡ level + 1 = let a = taken way level deep in omega (arith, a) in
-    ap (slice_index (way_on way level k)) (sym e) ∙ get_or-append-add (take (level + 1) way) (k ∷ []) 0 0
+    ap (slice_index (path_down way level k)) (sym e) ∙ get_or-append-add (take (level + 1) way) (k ∷ []) 0 0
 
 nodes_none : (way : List ℕ) (k : ℕ) → nodes_by way k [] ≡ []
 unfolding nodes_by
 nodes_none way k = refl
 
 -- the rows of continuations give their nodes, and then those of the rows that follow, whichever way agrees down to their level
-pub arranged : (c : Continuations) (level k : ℕ) (way : List ℕ) (more : List Row) (later : List Node) → level < length way
+pub arranged : (c : Continuations) (level k : ℕ) (way : List ℕ) (more : List NodeRow) (later : List Node) → level < length way
     → ((other : List ℕ) → level < length other → Agree level other way → nodes_by other (k + size c) more ≡ later)
     → nodes_by way k (rows level c ++ more) ≡ nodes_from (slice_index way level) k c ++ later
 unfolding rows nodes_by nodes_from
 arranged none level k way more later deep after = ap (λ n. nodes_by way n more) (let e : k ≡ k + 0 = omega arith in e) ∙ after way deep (λ i low. refl)
 arranged (played m next others) level k way more later deep after =
-    let down : List ℕ = way_on way level k in
+    let down : List ℕ = path_down way level k in
     let beside : List Node = nodes_from (slice_index way level) (k + 1 + size next) others in
     let long : length down ≡ level + 2 = length_way way level k deep in
     let within : nodes_by down (k + 1) (rows (level + 1) next ++ (rows level others ++ more)) ≡ nodes_from (slice_index down (level + 1)) (k + 1) next ++ (beside ++ later) =

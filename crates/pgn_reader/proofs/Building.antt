@@ -8,9 +8,9 @@ use Rattle.cq_position.specs.Legal.{Leads}
 use Rattle.cq_position.specs.Games.{Node, Game, no_node, node_at, way_up, IsTree}
 use Rattle.cq_position.specs.Continuations.{Played, node_of}
 use Rattle.cq_position.proofs.Trees.{prefix_tree, way_in_prefix}
-use Rattle.pgn_reader.specs.Frame.{Row}
-use Rattle.pgn_reader.specs.Arranged.{way_on, nodes_by}
-use Rattle.pgn_reader.specs.Building.{IsNext}
+use Rattle.pgn_reader.specs.Internal.Frame.{NodeRow}
+use Rattle.pgn_reader.specs.Internal.GameAssembly.{path_down, nodes_by}
+use Rattle.pgn_reader.specs.Internal.Building.{IsNext}
 
 -- a node of a tree may be the next after those before it
 pub is_next : (xs rest : List Node) (p : ℕ) (m : Played) → 0 < length xs → IsTree (xs ++ node_of p m ∷ rest) → IsNext xs p m
@@ -41,12 +41,12 @@ is_next xs rest p m rooted tree =
     moves_are i j e = cc
 
 -- The game so far, the way down to its last node, and the rows that are left, which give the nodes that are missing.
-pub record IsBuilt (g h : Game) (way : List ℕ) (left : List Row) (all : List Node) : Type 0 where
+pub record IsBuilt (g h : Game) (way : List ℕ) (left : List NodeRow) (all : List Node) : Type 0 where
   pub rooted : 0 < length h.nodes
   pub same : record h { nodes = all } ≡ record g { nodes = all }
   pub nodes : h.nodes ++ nodes_by way (length h.nodes) left ≡ all
 
-pub built_first : (g : Game) (rows : List Row) → length g.nodes ≡ 1 → IsBuilt g g (0 ∷ []) rows (g.nodes ++ nodes_by (0 ∷ []) 1 rows)
+pub built_first : (g : Game) (rows : List NodeRow) → length g.nodes ≡ 1 → IsBuilt g g (0 ∷ []) rows (g.nodes ++ nodes_by (0 ∷ []) 1 rows)
 built_first g rows one = record {
   rooted = omega (arith, one);
   same = refl;
@@ -54,21 +54,21 @@ built_first g rows one = record {
 }
 
 -- a row and those after it
-left_is : (h : Game) (way : List ℕ) (r : Row) (rows : List Row)
+left_is : (h : Game) (way : List ℕ) (r : NodeRow) (rows : List NodeRow)
     → h.nodes ++ nodes_by way (length h.nodes) (r ∷ rows)
-    ≡ h.nodes ++ node_of (slice_index way r.level) r.move ∷ nodes_by (way_on way r.level (length h.nodes)) (length h.nodes + 1) rows
+    ≡ h.nodes ++ node_of (slice_index way r.level) r.move ∷ nodes_by (path_down way r.level (length h.nodes)) (length h.nodes + 1) rows
 unfolding nodes_by
 left_is h way r rows = refl
 
-pub next_row : (g h : Game) (way : List ℕ) (left : List Row) (r : Row) (rows : List Row) (all : List Node) → left ≡ r ∷ rows → IsTree all → IsBuilt g h way left all
+pub next_row : (g h : Game) (way : List ℕ) (left : List NodeRow) (r : NodeRow) (rows : List NodeRow) (all : List Node) → left ≡ r ∷ rows → IsTree all → IsBuilt g h way left all
     → IsNext h.nodes (slice_index way r.level) r.move
 next_row g h way left r rows all left_are tree built =
-    is_next h.nodes (nodes_by (way_on way r.level (length h.nodes)) (length h.nodes + 1) rows) (slice_index way r.level) r.move built.rooted
+    is_next h.nodes (nodes_by (path_down way r.level (length h.nodes)) (length h.nodes + 1) rows) (slice_index way r.level) r.move built.rooted
     (subst IsTree (sym built.nodes ∙ ap (λ l. h.nodes ++ nodes_by way (length h.nodes) l) left_are ∙ left_is h way r rows) tree)
 
-pub built_on : (g h j : Game) (way on : List ℕ) (left : List Row) (r : Row) (rows : List Row) (all : List Node) → left ≡ r ∷ rows → IsBuilt g h way left all
+pub built_on : (g h j : Game) (way on : List ℕ) (left : List NodeRow) (r : NodeRow) (rows : List NodeRow) (all : List Node) → left ≡ r ∷ rows → IsBuilt g h way left all
     → j ≡ record h { nodes = h.nodes ++ node_of (slice_index way r.level) r.move ∷ [] }
-    → on ≡ way_on way r.level (length h.nodes) → IsBuilt g j on rows all
+    → on ≡ path_down way r.level (length h.nodes) → IsBuilt g j on rows all
 built_on g h j way on left r rows all left_are built node step =
     let x : Node = node_of (slice_index way r.level) r.move in
     let nodes : j.nodes ≡ h.nodes ++ x ∷ [] = ap (λ z. z.nodes) node in
@@ -79,8 +79,8 @@ built_on g h j way on left r rows all left_are built node step =
       nodes =
           ap (λ k. j.nodes ++ nodes_by on k rows) len
           ∙ ap (λ w. j.nodes ++ nodes_by w (length h.nodes + 1) rows) step
-          ∙ ap (λ n. n ++ nodes_by (way_on way r.level (length h.nodes)) (length h.nodes + 1) rows) nodes
-          ∙ append_assoc h.nodes (x ∷ []) (nodes_by (way_on way r.level (length h.nodes)) (length h.nodes + 1) rows)
+          ∙ ap (λ n. n ++ nodes_by (path_down way r.level (length h.nodes)) (length h.nodes + 1) rows) nodes
+          ∙ append_assoc h.nodes (x ∷ []) (nodes_by (path_down way r.level (length h.nodes)) (length h.nodes + 1) rows)
           ∙ sym (left_is h way r rows)
           ∙ ap (λ l. h.nodes ++ nodes_by way (length h.nodes) l) (sym left_are)
           ∙ built.nodes;
@@ -90,6 +90,6 @@ none_left : (h : Game) (way : List ℕ) → h.nodes ++ nodes_by way (length h.no
 unfolding nodes_by
 none_left h way = append-nil h.nodes
 
-pub built_whole : (g h : Game) (way : List ℕ) (left : List Row) (all : List Node) → left ≡ [] → IsBuilt g h way left all → h ≡ record g { nodes = all }
+pub built_whole : (g h : Game) (way : List ℕ) (left : List NodeRow) (all : List Node) → left ≡ [] → IsBuilt g h way left all → h ≡ record g { nodes = all }
 built_whole g h way left all none built =
     ap (λ n. record h { nodes = n }) (sym (none_left h way) ∙ ap (λ l. h.nodes ++ nodes_by way (length h.nodes) l) (sym none) ∙ built.nodes) ∙ built.same

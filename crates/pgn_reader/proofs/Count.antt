@@ -13,8 +13,8 @@ use Rattle.pgn_reader.specs.Words.{Word, Sense, plays, annotates, remarks, ends,
 use Rattle.cq_position.specs.Games.{with_tag}
 use Rattle.pgn_reader.specs.Tags.{Tags, start_of, value_of}
 use Rattle.pgn_reader.specs.Line.{led_to}
-use Rattle.pgn_reader.specs.Frame.{Frame, last_row_by, last_row, whole, advance, annotated, remarked, with_variation}
-use Rattle.pgn_reader.specs.Machine.{Head, State, opened, named, valued, at, ended, stuck, on_name, on_start, on_value, on_closing, on_move, on_marker, on_opening, on_end, on_bracket, on_sense, feed, run, first}
+use Rattle.pgn_reader.specs.Internal.Frame.{Frame, last_row_by, last_row, whole, advance, with_glyph, with_remark, with_variation}
+use Rattle.pgn_reader.specs.Internal.Machine.{Head, State, opened, named, valued, at, ended, stuck, on_name, on_start, on_value, on_closing, on_move, on_marker, on_opening, on_end, on_bracket, on_sense, feed, run, first}
 
 -- how many rows the lines that are open have
 abbrev pub rows_in : List Frame → ℕ
@@ -101,8 +101,8 @@ closing_counts tags start _ = tt
 
 sense_counts : (h : Head) (f : Frame) (k : List Frame) (kind : TokenKind) (s : Sense) → Counts (at h f k) → Counts (on_sense h f k kind s)
 sense_counts h f k kind (plays m) counts = move_counts h f k counts (san f.reached m)
-sense_counts h f k kind (annotates n) counts = ap (λ x. x + rows_in k) (noted_length f (annotated f n) refl refl refl refl) ∙ counts
-sense_counts h f k kind (remarks c) counts = ap (λ x. x + rows_in k) (noted_length f (remarked f c) refl refl refl refl) ∙ counts
+sense_counts h f k kind (annotates n) counts = ap (λ x. x + rows_in k) (noted_length f (with_glyph f n) refl refl refl refl) ∙ counts
+sense_counts h f k kind (remarks c) counts = ap (λ x. x + rows_in k) (noted_length f (with_remark f c) refl refl refl refl) ∙ counts
 sense_counts h f k kind (ends r) counts = marker_counts h f k r counts
 sense_counts h f k kind opens counts = opening_counts h f k (nat_lt (length k) 100) f.before counts
 sense_counts h f k kind closes counts = end_counts h f k f.before counts

@@ -5,9 +5,9 @@ use Rattle.std.proofs.lemmas.List.{reverse-append}
 use Rattle.cq_position.specs.Board.{Board}
 use Rattle.pgn_reader.specs.declared.token_machine.Reader.{Reader}
 use Rattle.pgn_reader.specs.declared.token_machine.Phase.TheVariants.{Movetext}
-use Rattle.pgn_reader.specs.Frame.{Frame, with_variation}
-use Rattle.pgn_reader.specs.Shown.{head_of, shown_by, shown, moves_in}
-use Rattle.pgn_reader.specs.Machine.{Head, at, in_body, on_end}
+use Rattle.pgn_reader.specs.Internal.Frame.{Frame, with_variation}
+use Rattle.pgn_reader.specs.Internal.ReaderView.{head_of, state_by_phase, state_of, moves_in}
+use Rattle.pgn_reader.specs.Internal.Machine.{Head, at, in_body, on_end}
 
 end_some : (h : Head) (f g : Frame) (k : List Frame) (o : Option Board) → is_some o ≡ true → on_end h f (g ∷ k) o ≡ at (in_body h) (with_variation g f) k
 end_some h f g k None wrong = absurd cc
@@ -20,13 +20,13 @@ end_pops h f g k rest has popped =
 
 -- the reader after it
 pub record Ended (r s : Reader) : Type 0 where
-  pub steps : on_end (head_of r) r.line (reverse r.around.items) r.line.before ≡ shown s
-  pub few : moves_in (shown s) ≤ 65535
+  pub steps : on_end (head_of r) r.line (reverse r.around.items) r.line.before ≡ state_of s
+  pub few : moves_in (state_of s) ≤ 65535
 
 pub end_step : (r s : Reader) (g : Frame) → r.phase ≡ Movetext → r.moves ≤ 65535 → is_some r.line.before ≡ true → r.around.items ≡ s.around.items ++ g ∷ [] → s.line ≡ with_variation g r.line
     → head_of s ≡ in_body (head_of r) → s.phase ≡ r.phase → Ended r s
 end_step r s g phase few has popped line head same =
-    let is : shown s ≡ at (head_of s) s.line (reverse s.around.items) = ap (λ p. shown_by p s) (same ∙ phase) in
+    let is : state_of s ≡ at (head_of s) s.line (reverse s.around.items) = ap (λ p. state_by_phase p s) (same ∙ phase) in
     record {
       steps = end_pops (head_of r) r.line g r.around.items s.around.items has popped ∙ ap₂ (λ h f. at h f (reverse s.around.items)) (sym head) (sym line) ∙ sym is;
       few = subst (λ x. moves_in x ≤ 65535) (sym is) (subst (λ h. h.moves ≤ 65535) (sym head) few);

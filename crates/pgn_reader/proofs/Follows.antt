@@ -15,12 +15,12 @@ use Rattle.cq_san.specs.San.{san}
 use Rattle.cq_san.proofs.Means.{exact}
 use Rattle.pgn_reader.specs.Words.{Word, Sense, plays, annotates, remarks, ends, opens, closes, means_nothing, out_of_place, sense}
 use Rattle.pgn_reader.specs.Tags.{tags_of, start_of}
-use Rattle.pgn_reader.specs.Line.{Line, nothing, word, variation, Place, beginning, led_to, moved, Told, TellsWord, Tells, beside, noted}
-use Rattle.pgn_reader.specs.Games.{root, nodes_told, SpellsAny}
+use Rattle.pgn_reader.specs.Line.{Line, nothing, word, variation, LinePlace, beginning, led_to, moved, LineTail, ParsesWord, ParsesLine, beside, with_leading_notes}
+use Rattle.pgn_reader.specs.Games.{root, nodes_of_tail, SpellsAny}
 use Rattle.pgn_reader.specs.Words.{Word}
-use Rattle.pgn_reader.specs.Frame.{Frame, whole}
-use Rattle.pgn_reader.specs.Machine.{Head, State, run, first}
-use Rattle.pgn_reader.specs.Arranged.{nodes_of_rows, game_shown}
+use Rattle.pgn_reader.specs.Internal.Frame.{Frame, whole}
+use Rattle.pgn_reader.specs.Internal.Machine.{Head, State, run, first}
+use Rattle.pgn_reader.specs.Internal.GameAssembly.{nodes_of_rows, game_of_frame}
 use Rattle.pgn_reader.proofs.Moves.{legal_not_null, led_by_null, led_by_other}
 use Rattle.pgn_reader.proofs.Stands.{Stands, all_stands}
 use Rattle.pgn_reader.proofs.Whole.{IsEnd}
@@ -51,12 +51,12 @@ meant_leads p text m is means =
     }
 
 -- a place that positions lead to
-pub record IsSound (a : Place) : Type 0 where
+pub record IsSound (a : LinePlace) : Type 0 where
   pub reached : IsPosition a.reached
   pub before : (p : Board) → a.before ≡ Some p → IsPosition p
 
 -- what is told at a place follows from it
-pub record Followed (a : Place) (t : Told) : Type 0 where
+pub record Followed (a : LinePlace) (t : LineTail) : Type 0 where
   pub rest : Follows a.reached t.rest
   pub variations : (p : Board) → a.before ≡ Some p → Follows p t.variations
 
@@ -65,7 +65,7 @@ unfolding Follows
 follows_beside p none d f g = g
 follows_beside p (played m next others) d f g = (f.0, f.1, follows_beside p others d f.2 g)
 
-follows_noted : (p : Board) (nags : List ℕ) (comments : List (List ℕ)) (c : Continuations) → Follows p c → Follows p (noted nags comments c)
+follows_noted : (p : Board) (nags : List ℕ) (comments : List (List ℕ)) (c : Continuations) → Follows p c → Follows p (with_leading_notes nags comments c)
 unfolding Follows
 follows_noted p nags comments none f = f
 follows_noted p nags comments (played m next others) f = (f.0, f.1, f.2)
@@ -76,13 +76,13 @@ some_same p q e = cc
 sound_beginning : (p : Board) → IsPosition p → IsSound (beginning p)
 sound_beginning p is = record { reached = is; before = λ q e. absurd (cc) }
 
-sound_moved : (a : Place) (m : Move) → IsSound a → Led a.reached m → IsSound (moved a m)
+sound_moved : (a : LinePlace) (m : Move) → IsSound a → Led a.reached m → IsSound (moved a m)
 sound_moved a m sound led = record {
   reached = led.position;
   before = λ q e. subst IsPosition (some_same a.reached q e) sound.reached;
 }
 
-told_move : (a : Place) (m : Move) (u : Told) → Led a.reached m → Followed (moved a m) u
+told_move : (a : LinePlace) (m : Move) (u : LineTail) → Led a.reached m → Followed (moved a m) u
     → Follows a.reached (played (record { move = m; position = led_to a.reached m; nags = u.nags; comments = u.comments }) u.rest u.variations)
 unfolding Follows
 told_move a m u led f = (led.leads, f.rest, f.variations a.reached refl)
@@ -92,7 +92,7 @@ unfolding Follows
 none_follows p = tt
 
 -- a token, before what is told after it
-followed_word : (depth : ℕ) (a b : Place) (s : Sense) (u t : Told) → IsSound a → TellsWord depth a s b u t → (IsSound b → Followed b u) → Followed a t
+followed_word : (depth : ℕ) (a b : LinePlace) (s : Sense) (u t : LineTail) → IsSound a → ParsesWord depth a s b u t → (IsSound b → Followed b u) → Followed a t
 followed_word depth a b (plays m) u t sound (move, means, to, is) after =
     let led : Led a.reached move = meant_leads a.reached m move sound.reached means in
     let later : Followed (moved a move) u = subst (λ x. Followed x u) to (after (subst IsSound (sym to) (sound_moved a move sound led))) in
@@ -115,7 +115,7 @@ followed_word depth a b opens u t sound here after = absurd here
 followed_word depth a b closes u t sound here after = absurd here
 followed_word depth a b (out_of_place reason) u t sound here after = absurd here
 
-followed : (l : Line) (depth : ℕ) (a : Place) (t : Told) → IsSound a → Tells depth a l t → Followed a t
+followed : (l : Line) (depth : ℕ) (a : LinePlace) (t : LineTail) → IsSound a → ParsesLine depth a l t → Followed a t
 followed nothing depth a t sound is = subst (Followed a) (sym is) (record { rest = none_follows a.reached; variations = λ p e. none_follows p })
 followed (word w rest) depth a t sound (b, u, here, more) = followed_word depth a b (sense w) u t sound here (λ sound_b. followed rest depth b u sound_b more)
 followed (variation opening inner closing rest) depth a t sound (p, before, shallow, is_open, is_close, v, within, q, has_move, u, more, is) =
@@ -125,14 +125,14 @@ followed (variation opening inner closing rest) depth a t sound (p, before, shal
       rest = later.rest;
       variations = λ r e.
           let same : p ≡ r = some_same p r (sym before ∙ e) in
-          follows_beside r (noted v.nags v.comments v.rest) u.variations
-          (subst (λ x. Follows x (noted v.nags v.comments v.rest)) same (follows_noted p v.nags v.comments v.rest in_it.rest))
+          follows_beside r (with_leading_notes v.nags v.comments v.rest) u.variations
+          (subst (λ x. Follows x (with_leading_notes v.nags v.comments v.rest)) same (follows_noted p v.nags v.comments v.rest in_it.rest))
           (later.variations r e);
     })
 
 -- what a line tells from a position is a tree
-told_tree : (start : Board) (l : Line) (t : Told) → IsPosition start → Tells 0 (beginning start) l t
-    → length (nodes_told start t) ≤ 65536 → IsTree (nodes_told start t)
+told_tree : (start : Board) (l : Line) (t : LineTail) → IsPosition start → ParsesLine 0 (beginning start) l t
+    → length (nodes_of_tail start t) ≤ 65536 → IsTree (nodes_of_tail start t)
 told_tree start l t is tells few =
     tree_of (root start t.comments) t.rest (record { parent = refl; led_by = refl })
     (let e = length_nodes 0 1 t.rest in omega (arith, e, few))
@@ -141,17 +141,17 @@ told_tree start l t is tells few =
 -- the position in which the game begins is that of its tags
 starts_at : (ts : List Word) (s : State) (h : Head) (f : Frame) (result : GameResult) → Stands ts s → IsEnd s h f result → start_of h.tags ≡ Ok h.start
 starts_at ts s h f result stands (inl there) = (subst (Stands ts) there.0 stands).has_heading.starts
-starts_at ts s h f result stands (inr there) = (subst (Stands ts) there stands).shown.has_heading.starts
+starts_at ts s h f result stands (inr there) = (subst (Stands ts) there stands).state_of.has_heading.starts
 
 ok_same : (p q : Board) → ◌≡◌ {A = Result Board FenFault} (Ok p) (Ok q) → p ≡ q
 ok_same p q e = cc
 
 pub tree_shown : (ts : List Word) (h : Head) (f : Frame) (result : GameResult) → IsEnd (run first ts) h f result → h.moves ≤ 65535 → IsPosition h.start → IsTree (nodes_of_rows (whole f))
 tree_shown ts h f result is_end few is =
-    let s : SpellsAny ts (game_shown h f result) = spells_shown ts h f result is_end in
+    let s : SpellsAny ts (game_of_frame h f result) = spells_shown ts h f result is_end in
     let tags : h.tags ≡ tags_of s.pairs = ap (λ g. g.tags) s.game in
     let start : h.start ≡ s.start = ok_same h.start s.start (sym (starts_at ts (run first ts) h f result (all_stands ts) is_end) ∙ ap start_of tags ∙ s.starts) in
-    let nodes : nodes_of_rows (whole f) ≡ nodes_told s.start s.told = ap (λ g. g.nodes) s.game in
+    let nodes : nodes_of_rows (whole f) ≡ nodes_of_tail s.start s.told = ap (λ g. g.nodes) s.game in
     let short : length (nodes_of_rows (whole f)) ≤ 65536 = let a = all_nodes_length (whole f) in let b = whole_counts ts h f result is_end in omega (arith, a, b, few) in
     subst IsTree (sym nodes) (told_tree s.start s.line s.told (subst IsPosition start is) s.tells
     (let e = ap length nodes in omega (arith, e, short)))

@@ -3,20 +3,20 @@ use Rattle.std.proofs.Common.{◌≡◌, List, [], ◌∷◌, ◌++◌, reverse,
 use Rattle.std.specs.Prelude.{flat_map}
 use Rattle.std.proofs.lemmas.List.{reverse-append}
 use Rattle.std.proofs.lemmas.List.Concat.{flat_map-cons}
-use Rattle.pgn_reader.specs.Frame.{Row}
-use Rattle.pgn_reader.specs.LineInside.{backwards}
+use Rattle.pgn_reader.specs.Internal.Frame.{NodeRow}
+use Rattle.pgn_reader.specs.Internal.LineInside.{backwards}
 
-pub backwards_last : {A : Type 0} (f : A → List Row) (groups : List A) (g : A) → backwards f (groups ++ g ∷ []) ≡ f g ++ backwards f groups
+pub backwards_last : {A : Type 0} (f : A → List NodeRow) (groups : List A) (g : A) → backwards f (groups ++ g ∷ []) ≡ f g ++ backwards f groups
 backwards_last f groups g = ap (flat_map f) (reverse-append groups (g ∷ [])) ∙ flat_map-cons f g (reverse groups)
 
 -- one group more was added
-pub group_added : {A : Type 0} (f : A → List Row) (rows more all : List Row) (was groups : List A) (g : A) → was ≡ groups ++ g ∷ [] → more ≡ rows ++ f g → rows ++ backwards f was ≡ all
+pub group_added : {A : Type 0} (f : A → List NodeRow) (rows more all : List NodeRow) (was groups : List A) (g : A) → was ≡ groups ++ g ∷ [] → more ≡ rows ++ f g → rows ++ backwards f was ≡ all
     → more ++ backwards f groups ≡ all
 group_added f rows more all was groups g was_is more_is is =
     ap (λ x. x ++ backwards f groups) more_is ∙ append_assoc rows (f g) (backwards f groups) ∙ ap (λ x. rows ++ x) (sym (backwards_last f groups g))
     ∙ ap (λ x. rows ++ backwards f x) (sym was_is) ∙ is
 
-pub groups_done : {A : Type 0} (f : A → List Row) (rows all : List Row) (groups : List A) → groups ≡ [] → rows ++ backwards f groups ≡ all → rows ≡ all
+pub groups_done : {A : Type 0} (f : A → List NodeRow) (rows all : List NodeRow) (groups : List A) → groups ≡ [] → rows ++ backwards f groups ≡ all → rows ≡ all
 groups_done f rows all groups none is = sym (append-nil rows) ∙ ap (λ x. rows ++ backwards f x) (sym none) ∙ is
 
 -- one row more was added

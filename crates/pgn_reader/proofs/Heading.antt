@@ -14,8 +14,8 @@ use Rattle.pgn_reader.specs.Words.{Word, Sense, plays, annotates, remarks, ends,
 use Rattle.cq_position.specs.Games.{tag_value, with_tag}
 use Rattle.pgn_reader.specs.Tags.{Pair, IsPair, pair_text, Tags, with_pair, start_by, start_of, value_of}
 use Rattle.pgn_reader.specs.Games.{AreHeading, heading_text}
-use Rattle.pgn_reader.specs.Frame.{Frame, begin_game, remarked}
-use Rattle.pgn_reader.specs.Machine.{Head, opened, named, valued, at, after_pairs, on_name, on_start, on_value, on_closing, on_sense, feed, run}
+use Rattle.pgn_reader.specs.Internal.Frame.{Frame, begin_game, with_remark}
+use Rattle.pgn_reader.specs.Internal.Machine.{Head, opened, named, valued, at, after_pairs, on_name, on_start, on_value, on_closing, on_sense, feed, run}
 use Rattle.pgn_reader.proofs.Read.{run_append, feed_is}
 
 -- comments are read before tag pairs as in the movetext
@@ -35,7 +35,7 @@ pub all_words : (test : Word → Bool) (c : Word) (cs : List Word) → list_all 
 all_words test c cs = refl
 
 comment_fed : (h : Head) (f : Frame) (k : List Frame) (c : Word) (s : Sense) → sense c ≡ s → is_remark s ≡ true → CommentsRead h f k (c ∷ [])
-comment_fed h f k c (remarks text) is test = record { frame = remarked f text; is_run = feed_is h f k c (remarks text) is }
+comment_fed h f k c (remarks text) is test = record { frame = with_remark f text; is_run = feed_is h f k c (remarks text) is }
 comment_fed h f k c (plays text) is test = absurd cc
 comment_fed h f k c (annotates n) is test = absurd cc
 comment_fed h f k c (ends r) is test = absurd cc

@@ -2,10 +2,10 @@ pub mod Rows
 pub mod Read
 pub mod Then
 pub mod Heading
-pub mod Told
+pub mod LineTail
 pub mod Stands
 pub mod Arranged
-pub mod Begun
+pub mod OpenLines
 pub mod Pairs
 pub mod Whole
 pub mod Count
@@ -25,5 +25,5 @@ pub mod Verdicts
 pub mod Limit
 pub mod Located
 pub mod OneOutcome
-pub mod Elsewhere
+pub mod MovedTokens
 pub mod FirstFen

@@ -16,12 +16,12 @@ use Rattle.pgn_lexer.specs.declared.token.TokenKind.{TokenKind}
 use Rattle.pgn_lexer.specs.declared.token.TokenKind.TheVariants.{Open, Close, Text, Symbol, Nag}
 use Rattle.pgn_reader.specs.declared.fault.Reason.{Reason}
 use Rattle.pgn_reader.specs.declared.fault.Reason.TheVariants.{BadTag, TooDeep, NagRange, TooManyPositions}
-use Rattle.pgn_reader.specs.Frame.{Frame, place}
-use Rattle.pgn_reader.specs.Line.{Place}
-use Rattle.pgn_reader.specs.Machine.{Head, State, opened, named, valued, at, ended, stuck, on_move, on_marker, on_opening, on_end, on_bracket, on_sense, feed, run}
-use Rattle.pgn_reader.specs.Arranged.{standing_of}
-use Rattle.pgn_reader.specs.Shown.{moves_in}
-use Rattle.pgn_reader.specs.Standing.{name_fault, value_fault, fen_fault, closing_fault, marker_fault, move_fault, san_reason, variation_fault, end_of_variation_fault, misplaced_fault, movetext_fault, fault_at}
+use Rattle.pgn_reader.specs.Internal.Frame.{Frame, place}
+use Rattle.pgn_reader.specs.Line.{LinePlace}
+use Rattle.pgn_reader.specs.Internal.Machine.{Head, State, opened, named, valued, at, ended, stuck, on_move, on_marker, on_opening, on_end, on_bracket, on_sense, feed, run}
+use Rattle.pgn_reader.specs.Internal.GameAssembly.{reading_place_of}
+use Rattle.pgn_reader.specs.Internal.ReaderView.{moves_in}
+use Rattle.pgn_reader.specs.ReadingPlace.{name_fault, value_fault, fen_fault, closing_fault, marker_fault, move_fault, san_reason, variation_fault, end_of_variation_fault, misplaced_fault, movetext_fault, fault_at}
 use Rattle.pgn_reader.specs.Tags.{start_of, value_of}
 use Rattle.pgn_reader.specs.Words.{Word, Sense, plays, annotates, remarks, ends, opens, closes, means_nothing, out_of_place, sense, sense_of, sense_of_symbol, sense_of_marker, sense_of_glyph, result_of_text}
 use Rattle.pgn_reader.proofs.Read.{feed_is}
@@ -180,7 +180,7 @@ unfolding sense
 word_never w e = no_sense w.kind w.text e
 
 -- the limit is passed at a move, after so many
-record PassesLimit (moves : ℕ) (a : Place) (s : Sense) : Type 0 where
+record PassesLimit (moves : ℕ) (a : LinePlace) (s : Sense) : Type 0 where
   text : List ℕ
   move : Move
   is : s ≡ plays text
@@ -191,14 +191,14 @@ room_passed : (t : Bool) (moves : ℕ) → nat_lt moves 65535 ≡ t → (if t th
 room_passed true moves is e = absurd (let f : None ≡ Some TooManyPositions = e in cc)
 room_passed false moves is e = ltb-false moves 65535 is
 
-move_limit : (moves : ℕ) (a : Place) (text : List ℕ) (r : Result Move SanFault) → san a.reached text ≡ r → move_fault moves r ≡ Some TooManyPositions → PassesLimit moves a (plays text)
+move_limit : (moves : ℕ) (a : LinePlace) (text : List ℕ) (r : Result Move SanFault) → san a.reached text ≡ r → move_fault moves r ≡ Some TooManyPositions → PassesLimit moves a (plays text)
 move_limit moves a text (Err fault) is e = absurd (no_san fault e)
 move_limit moves a text (Ok move) is e = record { text = text; move = move; is = refl; read = is; many = room_passed (nat_lt moves 65535) moves refl e }
 
-never : (s : Sense) (moves : ℕ) (a : Place) → None ≡ Some TooManyPositions → PassesLimit moves a s
+never : (s : Sense) (moves : ℕ) (a : LinePlace) → None ≡ Some TooManyPositions → PassesLimit moves a s
 never s moves a e = absurd cc
 
-limit_passes : (heading : Bool) (depth moves : ℕ) (a : Place) (kind : TokenKind) (s : Sense) → (s ≡ out_of_place TooManyPositions → ⊥)
+limit_passes : (heading : Bool) (depth moves : ℕ) (a : LinePlace) (kind : TokenKind) (s : Sense) → (s ≡ out_of_place TooManyPositions → ⊥)
     → movetext_fault heading depth moves a kind s ≡ Some TooManyPositions → PassesLimit moves a s
 limit_passes heading depth moves a kind (plays m) placed e = move_limit moves a m (san a.reached m) refl e
 limit_passes heading depth moves a kind opens placed e = absurd (no_opening depth a.before e)
@@ -210,7 +210,7 @@ limit_passes heading depth moves a kind (ends r) placed e = never (ends r) moves
 limit_passes heading depth moves a kind means_nothing placed e = never means_nothing moves a e
 
 -- where the limit is passed so many moves were read
-limit_fed : (s : State) (w : Word) → (s ≡ stuck → ⊥) → fault_at (standing_of s) w ≡ Some TooManyPositions → AtLeast 65536 (feed s w)
+limit_fed : (s : State) (w : Word) → (s ≡ stuck → ⊥) → fault_at (reading_place_of s) w ≡ Some TooManyPositions → AtLeast 65536 (feed s w)
 limit_fed (opened tags) w live why = absurd (no_name w.kind why)
 limit_fed (named tags name) w live why = absurd (no_value w.kind (start_of (with_tag tags name (value_of w.text))) why)
 limit_fed (valued tags start) w live why = absurd (no_closing w.kind why)
@@ -231,7 +231,7 @@ unfolding AtLeast
 stuck_least n = tt
 
 -- after a faulty token reading is stuck, or has passed the limit, and stays so
-pub fault_fed : (s : State) (w : Word) (reason : Reason) → (s ≡ stuck → ⊥) → moves_in s ≤ 65535 → fault_at (standing_of s) w ≡ Some reason → AtLeast 65536 (feed s w)
+pub fault_fed : (s : State) (w : Word) (reason : Reason) → (s ≡ stuck → ⊥) → moves_in s ≤ 65535 → fault_at (reading_place_of s) w ≡ Some reason → AtLeast 65536 (feed s w)
 fault_fed s w reason live few why =
     ⊎_elim
     (λ limit. limit_fed s w live (why ∙ ap Some limit))

@@ -12,14 +12,14 @@ use Rattle.cq_position.specs.Games.{Game, with_tag}
 use Rattle.pgn_lexer.specs.declared.token.TokenKind.{TokenKind}
 use Rattle.pgn_lexer.specs.declared.token.TokenKind.TheVariants.{Open, Close, Text, Symbol}
 use Rattle.pgn_reader.specs.declared.fault.Reason.TheVariants.{BadTag}
-use Rattle.pgn_reader.specs.Arranged.{standing_of}
+use Rattle.pgn_reader.specs.Internal.GameAssembly.{reading_place_of}
 use Rattle.pgn_reader.specs.Faults.{Begins}
-use Rattle.pgn_reader.specs.Frame.{Frame, begin, begin_game, place, whole}
+use Rattle.pgn_reader.specs.Internal.Frame.{Frame, begin, begin_game, place, whole}
 use Rattle.pgn_reader.specs.Games.{heading_text, Spells}
-use Rattle.pgn_reader.specs.Line.{text, Place}
-use Rattle.pgn_reader.specs.Machine.{Head, State, opened, named, valued, at, ended, stuck, in_body, after_pairs, on_name, on_start, on_value, on_closing, on_marker, on_sense, feed, run, first}
-use Rattle.pgn_reader.specs.Shown.{moves_in}
-use Rattle.pgn_reader.specs.Standing.{Begun, outermost, within, begun_text, depth_of, Reaches, Standing, after_opening, after_name, after_value, in_movetext, after_marker, InPair, InMovetext, AfterMarker, StandsAt, moves_before}
+use Rattle.pgn_reader.specs.Line.{text, LinePlace}
+use Rattle.pgn_reader.specs.Internal.Machine.{Head, State, opened, named, valued, at, ended, stuck, in_body, after_pairs, on_name, on_start, on_value, on_closing, on_marker, on_sense, feed, run, first}
+use Rattle.pgn_reader.specs.Internal.ReaderView.{moves_in}
+use Rattle.pgn_reader.specs.ReadingPlace.{OpenLines, outermost, within, open_lines_text, depth_of, Reaches, ReadingPlace, after_opening, after_name, after_value, in_movetext, after_marker, InPair, InMovetext, AfterMarker, IsReadingPlace, moves_before}
 use Rattle.pgn_reader.specs.Tags.{Tags, start_of, tags_of, value_of}
 use Rattle.pgn_reader.specs.Words.{Word, ends, out_of_place, sense, sense_of, is_comment, is_remark, is_move, is_move_sense}
 use Rattle.pgn_reader.proofs.Answer.{all_nodes_length, whole_counts}
@@ -28,7 +28,7 @@ use Rattle.pgn_reader.proofs.Read.{run_append, opening_read, counted_word, told_
 use Rattle.pgn_reader.proofs.Whole.{IsEnd, IsRead, spelled_is_read, stuck_is_dead, start_none}
 
 -- what has begun is read up to its place
-record IsReadUpTo (start : Board) (h : Head) (ts : List Word) (depth : ℕ) (a : Place) : Type 0 where
+record IsReadUpTo (start : Board) (h : Head) (ts : List Word) (depth : ℕ) (a : LinePlace) : Type 0 where
   head : Head
   frame : Frame
   around : List Frame
@@ -38,7 +38,7 @@ record IsReadUpTo (start : Board) (h : Head) (ts : List Word) (depth : ℕ) (a :
   depth_is : depth ≡ length around
   heading : head.heading ≡ (h.heading && list_all is_comment ts)
 
-begun_read : (b : Begun) (start : Board) (h : Head) (a : Place) → Reaches start b a → IsReadUpTo start h (begun_text b) (depth_of b) a
+begun_read : (b : OpenLines) (start : Board) (h : Head) (a : LinePlace) → Reaches start b a → IsReadUpTo start h (open_lines_text b) (depth_of b) a
 begun_read (outermost line) start h a (t, tells, end) =
     let r = told_is_read line h (begin_game start) [] 0 t refl tells in
     record { head = r.head; frame = r.frame; around = []; is_run = r.is_run; moves = r.grown.moves; place_is = r.place ∙ end; depth_is = refl; heading = r.grown.heading }
@@ -47,7 +47,7 @@ begun_read (within around opening line) start h a (b, reaches, p, has_move, shal
     let deep = o.depth_is in
     let fed = opening_read o.head o.frame o.around opening p opening_is (ap (λ x. x.before) o.place_is ∙ has_move) (omega (arith, deep, shallow)) in
     let r = told_is_read line (in_body o.head) (begin o.frame.level p) (o.frame ∷ o.around) (depth_of around + 1) t (omega (arith, deep)) tells in
-    let one = sum_by-append (λ w. cond (is_move w) 1 0) (begun_text around) (opening ∷ text line) in
+    let one = sum_by-append (λ w. cond (is_move w) 1 0) (open_lines_text around) (opening ∷ text line) in
     let two = counted_word opening (text line) in
     let three : ◌≡◌ {A = ℕ} (cond (is_move opening) 1 0) 0 = ap (λ s. cond (is_move_sense s) 1 0) opening_is in
     let four = o.moves in
@@ -57,7 +57,7 @@ begun_read (within around opening line) start h a (b, reaches, p, has_move, shal
       frame = r.frame;
       around = o.frame ∷ o.around;
       is_run =
-          run_append (at h (begin_game start) []) (begun_text around) (opening ∷ text line)
+          run_append (at h (begin_game start) []) (open_lines_text around) (opening ∷ text line)
           ∙ ap (λ x. run x (opening ∷ text line)) o.is_run
           ∙ ap (λ x. run x (text line)) fed
           ∙ r.is_run;
@@ -67,16 +67,16 @@ begun_read (within around opening line) start h a (b, reaches, p, has_move, shal
       heading =
           r.grown.heading ∙ sym (and-false h.heading)
           ∙ ap (λ b. h.heading && b)
-          (sym (and-false (list_all is_comment (begun_text around)))
-          ∙ ap (λ s. list_all is_comment (begun_text around) && (is_remark s && list_all is_comment (text line))) (sym opening_is)
-          ∙ sym (list_all-append is_comment (begun_text around) (opening ∷ text line)));
+          (sym (and-false (list_all is_comment (open_lines_text around)))
+          ∙ ap (λ s. list_all is_comment (open_lines_text around) && (is_remark s && list_all is_comment (text line))) (sym opening_is)
+          ∙ sym (list_all-append is_comment (open_lines_text around) (opening ∷ text line)));
     }
 
 -- the reader after some tokens stands where they do
-pub record Located (ts : List Word) (s : Standing) : Type 0 where
+pub record Located (ts : List Word) (s : ReadingPlace) : Type 0 where
   pub state : State
   pub is_run : run first ts ≡ state
-  pub stands : standing_of state ≡ s
+  pub stands : reading_place_of state ≡ s
   pub few : moves_in state ≤ 65535
 
 -- within a tag pair
@@ -111,7 +111,7 @@ opened_run ts tags opening more is in_pair =
     let p = pair_read ts tags (opening ∷ more) in_pair in
     p.is_run ∙ ap (λ s. run s more) (bracket_fed p.head p.frame [] opening p.may is) ∙ ap (λ t. run (opened t) more) p.tags_are
 
-value_by : (tags : Tags) (r : Result Board FenFault) → (on_start tags r ≡ stuck → ⊥) → (standing_of (on_start tags r) ≡ after_value) × (moves_in (on_start tags r) ≤ 65535)
+value_by : (tags : Tags) (r : Result Board FenFault) → (on_start tags r ≡ stuck → ⊥) → (reading_place_of (on_start tags r) ≡ after_value) × (moves_in (on_start tags r) ≤ 65535)
 value_by tags (Ok start) live = (refl, omega arith)
 value_by tags (Err fault) live = absurd (live refl)
 
@@ -119,7 +119,7 @@ value_fed_as : (tags : Tags) (name : List ℕ) (w : Word) → w.kind ≡ Text �
 unfolding feed
 value_fed_as tags name w is = ap (on_value (with_tag tags name (value_of w.text))) is
 
-located_value : (ts : List Word) → StandsAt ts after_value → (run first ts ≡ stuck → ⊥) → Located ts after_value
+located_value : (ts : List Word) → IsReadingPlace ts after_value → (run first ts ≡ stuck → ⊥) → Located ts after_value
 located_value ts (tags, opening, name, value, is_open, is_symbol, is_text, in_pair) live =
     let all : Tags = with_tag tags name.text (value_of value.text) in
     let is_run : run first ts ≡ on_start all (start_of all) =
@@ -130,7 +130,7 @@ located_value ts (tags, opening, name, value, is_open, is_symbol, is_text, in_pa
     record { state = on_start all (start_of all); is_run = is_run; stands = r.0; few = r.1 }
 
 -- in the movetext
-located_movetext : (ts : List Word) (heading : Bool) (depth moves : ℕ) (a : Place) → InMovetext ts heading depth moves a → moves ≤ 65535 → Located ts (in_movetext heading depth moves a)
+located_movetext : (ts : List Word) (heading : Bool) (depth moves : ℕ) (a : LinePlace) → InMovetext ts heading depth moves a → moves ≤ 65535 → Located ts (in_movetext heading depth moves a)
 located_movetext ts heading depth moves a m few =
     let h : Head = record { tags = m.tags; start = m.start; heading = true; moves = 0 } in
     let u = begun_read m.begun m.start h a m.reaches in
@@ -142,7 +142,7 @@ located_movetext ts heading depth moves a m few =
     let same_heading : u.head.heading ≡ heading = u.heading ∙ sym m.heading_is in
     record {
       state = at u.head u.frame u.around;
-      is_run = ap (run first) m.joined ∙ run_append first (heading_text m.pairs) (begun_text m.begun) ∙ ap (λ s. run s (begun_text m.begun)) paired ∙ u.is_run;
+      is_run = ap (run first) m.joined ∙ run_append first (heading_text m.pairs) (open_lines_text m.begun) ∙ ap (λ s. run s (open_lines_text m.begun)) paired ∙ u.is_run;
       stands =
           ap (λ x. in_movetext x (length u.around) u.head.moves (place u.frame)) same_heading
           ∙ ap₂ (λ d n. in_movetext heading d n (place u.frame)) same_depth same_moves
@@ -201,7 +201,7 @@ located_end ts m r (inl there) =
 located_end ts m r (inr there) = record { state = ended r.head r.frame r.result; is_run = there; stands = refl; few = few_moves ts m.game m.spells r }
 
 -- so it is for all tokens with which some game begins
-pub located : (ts : List Word) (s : Standing) → Begins ts → StandsAt ts s → moves_before s ≤ 65535 → Located ts s
+pub located : (ts : List Word) (s : ReadingPlace) → Begins ts → IsReadingPlace ts s → moves_before s ≤ 65535 → Located ts s
 located ts (after_opening tags) begins (opening, is_open, in_pair) few =
     record { state = opened tags; is_run = opened_run ts tags opening [] is_open in_pair; stands = refl; few = omega arith }
 located ts (after_name tags name_text) begins (opening, name, is_open, is_symbol, named_is, in_pair) few = record {

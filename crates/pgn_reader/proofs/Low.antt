@@ -12,9 +12,9 @@ use Rattle.pgn_lexer.specs.declared.token.TokenKind.{TokenKind}
 use Rattle.pgn_lexer.specs.declared.token.TokenKind.TheVariants.{Open, Close, Text, Symbol}
 use Rattle.pgn_reader.specs.Words.{Word, Sense, plays, annotates, remarks, ends, opens, closes, means_nothing, out_of_place, sense}
 use Rattle.pgn_reader.specs.Tags.{Tags, start_of, value_of}
-use Rattle.pgn_reader.specs.Frame.{Frame}
-use Rattle.pgn_reader.specs.Machine.{Head, State, opened, named, valued, at, ended, stuck, on_name, on_start, on_value, on_closing, on_move, on_marker, on_opening, on_end, on_bracket, on_sense, feed, run, first}
-use Rattle.pgn_reader.specs.Shown.{AreLowLines, IsLow}
+use Rattle.pgn_reader.specs.Internal.Frame.{Frame}
+use Rattle.pgn_reader.specs.Internal.Machine.{Head, State, opened, named, valued, at, ended, stuck, on_name, on_start, on_value, on_closing, on_move, on_marker, on_opening, on_end, on_bracket, on_sense, feed, run, first}
+use Rattle.pgn_reader.specs.Internal.ReaderView.{AreLowLines, IsLow}
 
 higher : (n : ℕ) (k : List Frame) → AreLowLines n k → AreLowLines (n + 1) k
 higher n [] low = tt

@@ -6,12 +6,12 @@ use Rattle.cq_position.specs.Games.{Game}
 use Rattle.pgn_lexer.specs.Lexemes.{tokens_of}
 use Rattle.pgn_reader.specs.declared.fault.GameFault.{GameFault}
 use Rattle.pgn_reader.specs.declared.fault.Reason.{Reason}
-use Rattle.pgn_reader.specs.Arranged.{standing_of}
+use Rattle.pgn_reader.specs.Internal.GameAssembly.{reading_place_of}
 use Rattle.pgn_reader.specs.Faults.{IsFault}
 use Rattle.pgn_reader.specs.Games.{Spells}
-use Rattle.pgn_reader.specs.Machine.{State, stuck, feed, run, first}
-use Rattle.pgn_reader.specs.Shown.{moves_in}
-use Rattle.pgn_reader.specs.Standing.{fault_at, fault_at_end}
+use Rattle.pgn_reader.specs.Internal.Machine.{State, stuck, feed, run, first}
+use Rattle.pgn_reader.specs.Internal.ReaderView.{moves_in}
+use Rattle.pgn_reader.specs.ReadingPlace.{fault_at, fault_at_end}
 use Rattle.pgn_reader.specs.Verdict.{IsGameFault, IsRead, place_or}
 use Rattle.pgn_reader.specs.Words.{Word, words_of}
 use Rattle.pgn_reader.proofs.Answer.{no_end_fault}
@@ -26,8 +26,8 @@ record Met (ts : List Word) (k : ℕ) (reason : Reason) : Type 0 where
   is_run : run first (take k ts) ≡ state
   live : state ≡ stuck → ⊥
   few : moves_in state ≤ 65535
-  why : ((w : Word) × (take (k + 1) ts ≡ take k ts ++ w ∷ []) × (k < length ts) × (fault_at (standing_of state) w ≡ Some reason))
-      ⊎ ((k ≡ length ts) × (fault_at_end (standing_of state) ≡ Some reason))
+  why : ((w : Word) × (take (k + 1) ts ≡ take k ts ++ w ∷ []) × (k < length ts) × (fault_at (reading_place_of state) w ≡ Some reason))
+      ⊎ ((k ≡ length ts) × (fault_at_end (reading_place_of state) ≡ Some reason))
 
 met : (ts : List Word) (k : ℕ) (reason : Reason) → IsFault ts k reason → Met ts k reason
 met ts k reason fault =
@@ -44,7 +44,7 @@ met ts k reason fault =
     }
 
 -- after a faulty token the limit is passed, or reading is stuck, whatever follows
-after_fault : (ts more : List Word) (k : ℕ) (reason : Reason) (m : Met ts k reason) (w : Word) → fault_at (standing_of m.state) w ≡ Some reason
+after_fault : (ts more : List Word) (k : ℕ) (reason : Reason) (m : Met ts k reason) (w : Word) → fault_at (reading_place_of m.state) w ≡ Some reason
     → AtLeast 65536 (run first ((take k ts ++ w ∷ []) ++ more))
 after_fault ts more k reason m w why =
     subst (AtLeast 65536)
@@ -81,12 +81,12 @@ last_is (x ∷ xs) v w e = last_is xs v w (let t : xs ++ v ∷ [] ≡ xs ++ w �
 same_reason : (ts : List Word) (k : ℕ) (a b : Reason) → Met ts k a → Met ts k b → a ≡ b
 same_reason ts k a b m n = by_why m.why n.why
   where
-    same : standing_of n.state ≡ standing_of m.state
-    same = ap standing_of (sym n.is_run ∙ m.is_run)
+    same : reading_place_of n.state ≡ reading_place_of m.state
+    same = ap reading_place_of (sym n.is_run ∙ m.is_run)
 
-    by_why : ((w : Word) × (take (k + 1) ts ≡ take k ts ++ w ∷ []) × (k < length ts) × (fault_at (standing_of m.state) w ≡ Some a)) ⊎ ((k ≡ length ts) × (fault_at_end (standing_of m.state) ≡ Some a))
-        → ((w : Word) × (take (k + 1) ts ≡ take k ts ++ w ∷ []) × (k < length ts) × (fault_at (standing_of n.state) w ≡ Some b))
-        ⊎ ((k ≡ length ts) × (fault_at_end (standing_of n.state) ≡ Some b)) → a ≡ b
+    by_why : ((w : Word) × (take (k + 1) ts ≡ take k ts ++ w ∷ []) × (k < length ts) × (fault_at (reading_place_of m.state) w ≡ Some a)) ⊎ ((k ≡ length ts) × (fault_at_end (reading_place_of m.state) ≡ Some a))
+        → ((w : Word) × (take (k + 1) ts ≡ take k ts ++ w ∷ []) × (k < length ts) × (fault_at (reading_place_of n.state) w ≡ Some b))
+        ⊎ ((k ≡ length ts) × (fault_at_end (reading_place_of n.state) ≡ Some b)) → a ≡ b
     by_why (inl (v, more, low, why)) (inl (w, more', low', why')) =
         let words : w ≡ v = last_is (take k ts) w v (sym more' ∙ more) in
         some_is a b (sym why ∙ ap₂ (λ s x. fault_at s x) (sym same) (sym words) ∙ why')

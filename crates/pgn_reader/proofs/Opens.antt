@@ -6,9 +6,9 @@ use Rattle.std.proofs.lemmas.List.{length-reverse, reverse-append}
 use Rattle.cq_position.specs.Board.{Board}
 use Rattle.pgn_reader.specs.declared.token_machine.Reader.{Reader}
 use Rattle.pgn_reader.specs.declared.token_machine.Phase.TheVariants.{Movetext}
-use Rattle.pgn_reader.specs.Frame.{Frame, begin}
-use Rattle.pgn_reader.specs.Shown.{head_of, shown_by, shown, moves_in}
-use Rattle.pgn_reader.specs.Machine.{at, in_body, on_opening}
+use Rattle.pgn_reader.specs.Internal.Frame.{Frame, begin}
+use Rattle.pgn_reader.specs.Internal.ReaderView.{head_of, state_by_phase, state_of, moves_in}
+use Rattle.pgn_reader.specs.Internal.Machine.{at, in_body, on_opening}
 
 -- one more variation may be open
 has_room : (k : List Frame) → length k < 100 → nat_lt (length (reverse k)) 100 ≡ true
@@ -16,13 +16,13 @@ has_room k low = ap (λ n. nat_lt n 100) (length-reverse k) ∙ lt-ltb (length k
 
 -- the reader after it
 pub record Opened (r s : Reader) : Type 0 where
-  pub steps : on_opening (head_of r) r.line (reverse r.around.items) (nat_lt (length (reverse r.around.items)) 100) r.line.before ≡ shown s
-  pub few : moves_in (shown s) ≤ 65535
+  pub steps : on_opening (head_of r) r.line (reverse r.around.items) (nat_lt (length (reverse r.around.items)) 100) r.line.before ≡ state_of s
+  pub few : moves_in (state_of s) ≤ 65535
 
 pub open_step : (r s : Reader) (p : Board) → r.phase ≡ Movetext → r.moves ≤ 65535 → r.line.before ≡ Some p → length r.around.items < 100
     → s.around.items ≡ r.around.items ++ r.line ∷ [] → s.line ≡ begin r.line.level p → head_of s ≡ in_body (head_of r) → s.phase ≡ r.phase → Opened r s
 open_step r s p phase few before low pushed line head same =
-    let is : shown s ≡ at (head_of s) s.line (reverse s.around.items) = ap (λ p. shown_by p s) (same ∙ phase) in
+    let is : state_of s ≡ at (head_of s) s.line (reverse s.around.items) = ap (λ p. state_by_phase p s) (same ∙ phase) in
     record {
       steps = ap₂ (on_opening (head_of r) r.line (reverse r.around.items)) (has_room r.around.items low) before
           ∙ ap₂ (λ h f. at h f (r.line ∷ reverse r.around.items)) (sym head) (sym line)

@@ -14,10 +14,10 @@ use Rattle.pgn_lexer.specs.declared.token.TokenKind.TheVariants.{Close, Text, Sy
 use Rattle.pgn_reader.specs.Words.{Word}
 use Rattle.cq_position.specs.Games.{tag_value, with_tag}
 use Rattle.pgn_reader.specs.Tags.{Tags, start_by, start_of, unescaped, value_of}
-use Rattle.pgn_reader.specs.Frame.{begin_game}
-use Rattle.pgn_reader.specs.Machine.{opened, named, valued, on_start, feed, run}
+use Rattle.pgn_reader.specs.Internal.Frame.{begin_game}
+use Rattle.pgn_reader.specs.Internal.Machine.{opened, named, valued, on_start, feed, run}
 use Rattle.pgn_reader.proofs.Heading.{IsRead, value_stays}
-use Rattle.pgn_reader.proofs.Begun.{Finish}
+use Rattle.pgn_reader.proofs.OpenLines.{Finish}
 
 -- the tokens that are added: a name, the position of the initial array as a string, and the bracket
 abbrev name_word : Word

@@ -11,21 +11,21 @@ use Rattle.cq_position.specs.Board.{Board}
 use Rattle.cq_position.specs.Continuations.{none}
 use Rattle.pgn_reader.specs.Words.{Word, Sense, plays, annotates, remarks, ends, opens, closes, means_nothing, out_of_place, sense, is_comment, is_remark, is_move, is_move_sense}
 use Rattle.cq_position.specs.Comments.{words, comment_of}
-use Rattle.pgn_reader.specs.Line.{Line, nothing, word, variation, text, Place, beginning, led_to, Told, nothing_told, glyph_told, remark_told, move_told, variation_told, beside, noted, TellsWord, Tells}
-use Rattle.pgn_reader.specs.Frame.{Row, rows, Frame, place, last_row_by, whole, begin, carried, advance, annotated, remarked, with_variation}
-use Rattle.pgn_reader.specs.Machine.{Head, State, at, in_body, one_more, on_move, on_marker, on_opening, on_end, on_sense, feed, run}
+use Rattle.pgn_reader.specs.Line.{Line, nothing, word, variation, text, LinePlace, beginning, led_to, LineTail, empty_tail, tail_with_glyph, tail_with_comment, tail_with_move, tail_with_variation, beside, with_leading_notes, ParsesWord, ParsesLine}
+use Rattle.pgn_reader.specs.Internal.Frame.{NodeRow, rows, Frame, place, last_row_by, whole, begin, carried_notes, advance, with_glyph, with_remark, with_variation}
+use Rattle.pgn_reader.specs.Internal.Machine.{Head, State, at, in_body, one_more, on_move, on_marker, on_opening, on_end, on_sense, feed, run}
 use Rattle.pgn_reader.proofs.Rows.{rows_beside}
 
 -- the nodes of a line, the rest of which tells so much
-abbrev pub wholly_by : Option Move → Frame → Told → List Row
-wholly_by None f t = rows f.next (noted (f.nags ++ t.nags) (f.comments ++ t.comments) t.rest)
+abbrev pub wholly_by : Option Move → Frame → LineTail → List NodeRow
+wholly_by None f t = rows f.next (with_leading_notes (f.nags ++ t.nags) (f.comments ++ t.comments) t.rest)
 wholly_by (Some m) f t =
     record {
       level = f.level;
       move = record { move = m; position = f.reached; nags = f.nags ++ t.nags; comments = f.comments ++ t.comments };
     } ∷ rows f.next t.rest
 
-abbrev pub wholly : Frame → Told → List Row
+abbrev pub wholly : Frame → LineTail → List NodeRow
 wholly f t = f.moves ++ (wholly_by f.last f t ++ (f.here ++ (rows f.level t.variations ++ f.earlier)))
 
 pub run_append : (s : State) (a b : List Word) → run s (a ++ b) ≡ run (run s a) b
@@ -45,7 +45,7 @@ pub record Grown (h : Head) (n : ℕ) (comments : Bool) (j : Head) : Type 0 wher
   pub heading : j.heading ≡ (h.heading && comments)
 
 -- a frame after the rest of its line, which tells so much
-pub record Reads (h : Head) (f : Frame) (k : List Frame) (ts : List Word) (t : Told) : Type 0 where
+pub record Reads (h : Head) (f : Frame) (k : List Frame) (ts : List Word) (t : LineTail) : Type 0 where
   pub head : Head
   pub frame : Frame
   pub is_run : run (at h f k) ts ≡ at head frame k
@@ -54,97 +54,97 @@ pub record Reads (h : Head) (f : Frame) (k : List Frame) (ts : List Word) (t : T
   pub whole : whole frame ≡ wholly f t
 
 -- a told record by its parts
-pub wholly_same : (f : Frame) (t u : Told) → t ≡ u → wholly f t ≡ wholly f u
+pub wholly_same : (f : Frame) (t u : LineTail) → t ≡ u → wholly f t ≡ wholly f u
 wholly_same f t u is = ap (wholly f) is
 
 wholly_nothing_by : (f : Frame) (o : Option Move) → f.last ≡ o → f.moves ++ (last_row_by o f ++ (f.here ++ f.earlier))
-    ≡ f.moves ++ (wholly_by o f (nothing_told (place f)) ++ (f.here ++ (rows f.level none ++ f.earlier)))
+    ≡ f.moves ++ (wholly_by o f (empty_tail (place f)) ++ (f.here ++ (rows f.level none ++ f.earlier)))
 unfolding rows
 wholly_nothing_by f None is = refl
 wholly_nothing_by f (Some m) is =
     ap₂ (λ x y. f.moves ++ (record { level = f.level; move = record { move = m; position = f.reached; nags = x; comments = y } }
     ∷ (f.here ++ f.earlier))) (sym (append-nil f.nags)) (sym (append-nil f.comments))
 
-pub wholly_nothing : (f : Frame) → whole f ≡ wholly f (nothing_told (place f))
+pub wholly_nothing : (f : Frame) → whole f ≡ wholly f (empty_tail (place f))
 wholly_nothing f = wholly_nothing_by f f.last refl
 
-glyph_by : (f : Frame) (n : ℕ) (u : Told) (o : Option Move) → (annotated f n).moves ++ (wholly_by o (annotated f n) u ++ (f.here ++ (rows f.level u.variations ++ f.earlier)))
-    ≡ f.moves ++ (wholly_by o f (glyph_told n u) ++ (f.here ++ (rows f.level u.variations ++ f.earlier)))
+glyph_by : (f : Frame) (n : ℕ) (u : LineTail) (o : Option Move) → (with_glyph f n).moves ++ (wholly_by o (with_glyph f n) u ++ (f.here ++ (rows f.level u.variations ++ f.earlier)))
+    ≡ f.moves ++ (wholly_by o f (tail_with_glyph n u) ++ (f.here ++ (rows f.level u.variations ++ f.earlier)))
 glyph_by f n u None =
-    ap (λ x. f.moves ++ (rows f.next (noted x (f.comments ++ u.comments) u.rest) ++ (f.here ++ (rows f.level u.variations ++ f.earlier)))) (append_assoc f.nags (n ∷ []) u.nags)
+    ap (λ x. f.moves ++ (rows f.next (with_leading_notes x (f.comments ++ u.comments) u.rest) ++ (f.here ++ (rows f.level u.variations ++ f.earlier)))) (append_assoc f.nags (n ∷ []) u.nags)
 glyph_by f n u (Some m) =
     ap (λ x. f.moves ++ (record { level = f.level; move = record { move = m; position = f.reached; nags = x; comments = f.comments ++ u.comments } }
     ∷ (rows f.next u.rest ++ (f.here ++ (rows f.level u.variations ++ f.earlier))))) (append_assoc f.nags (n ∷ []) u.nags)
 
-remark_by : (f : Frame) (c : List ℕ) (u : Told) (o : Option Move) → (remarked f c).moves ++ (wholly_by o (remarked f c) u ++ (f.here ++ (rows f.level u.variations ++ f.earlier)))
-    ≡ f.moves ++ (wholly_by o f (remark_told c u) ++ (f.here ++ (rows f.level u.variations ++ f.earlier)))
+remark_by : (f : Frame) (c : List ℕ) (u : LineTail) (o : Option Move) → (with_remark f c).moves ++ (wholly_by o (with_remark f c) u ++ (f.here ++ (rows f.level u.variations ++ f.earlier)))
+    ≡ f.moves ++ (wholly_by o f (tail_with_comment c u) ++ (f.here ++ (rows f.level u.variations ++ f.earlier)))
 remark_by f c u None =
-    ap (λ x. f.moves ++ (rows f.next (noted (f.nags ++ u.nags) x u.rest) ++ (f.here ++ (rows f.level u.variations ++ f.earlier)))) (append_assoc f.comments (comment_of (words c)) u.comments)
+    ap (λ x. f.moves ++ (rows f.next (with_leading_notes (f.nags ++ u.nags) x u.rest) ++ (f.here ++ (rows f.level u.variations ++ f.earlier)))) (append_assoc f.comments (comment_of (words c)) u.comments)
 remark_by f c u (Some m) =
     ap (λ x. f.moves ++ (record { level = f.level; move = record { move = m; position = f.reached; nags = f.nags ++ u.nags; comments = x } }
     ∷ (rows f.next u.rest ++ (f.here ++ (rows f.level u.variations ++ f.earlier))))) (append_assoc f.comments (comment_of (words c)) u.comments)
 
 -- the node of a move, with the glyphs and comments that wait for it, and then its own
-abbrev row_of : ℕ → Move → Board → List ℕ → List (List ℕ) → Row
+abbrev row_of : ℕ → Move → Board → List ℕ → List (List ℕ) → NodeRow
 row_of level m q nags comments = record { level = level; move = record { move = m; position = q; nags = nags; comments = comments } }
 
-move_by : (f : Frame) (m : Move) (q : Board) (u : Told) (o : Option Move)
+move_by : (f : Frame) (m : Move) (q : Board) (u : LineTail) (o : Option Move)
     → (f.moves ++ last_row_by o f) ++ ((record {
       level = f.next;
       move = record {
         move = m;
         position = q;
-        nags = carried o f.nags
+        nags = carried_notes o f.nags
             ++ u.nags;
-        comments = carried o f.comments ++ u.comments;
+        comments = carried_notes o f.comments ++ u.comments;
       };
     } ∷ rows (f.next + 1) u.rest)
     ++ (rows f.next u.variations ++ (f.here ++ f.earlier)))
-    ≡ f.moves ++ (wholly_by o f (move_told m q u) ++ (f.here ++ (rows f.level none ++ f.earlier)))
+    ≡ f.moves ++ (wholly_by o f (tail_with_move m q u) ++ (f.here ++ (rows f.level none ++ f.earlier)))
 unfolding rows
 move_by f m q u None =
     let tail = f.here ++ f.earlier in
-    let row : List ℕ → List (List ℕ) → List Row = λ x y. row_of f.next m q (x ++ u.nags) (y ++ u.comments) ∷ (rows (f.next + 1) u.rest ++ (rows f.next u.variations ++ tail)) in
+    let row : List ℕ → List (List ℕ) → List NodeRow = λ x y. row_of f.next m q (x ++ u.nags) (y ++ u.comments) ∷ (rows (f.next + 1) u.rest ++ (rows f.next u.variations ++ tail)) in
     ap (λ x. x ++ row f.nags f.comments) (append-nil f.moves)
     ∙ ap₂ (λ x y. f.moves ++ row x y) (sym (append-nil f.nags)) (sym (append-nil f.comments))
     ∙ ap (λ x. f.moves ++ (row_of f.next m q ((f.nags ++ []) ++ u.nags) ((f.comments ++ []) ++ u.comments) ∷ x)) (sym (append_assoc (rows (f.next + 1) u.rest) (rows f.next u.variations) tail))
 move_by f m q u (Some l) =
     let tail = f.here ++ f.earlier in
-    let next : List Row = row_of f.next m q u.nags u.comments ∷ (rows (f.next + 1) u.rest ++ (rows f.next u.variations ++ tail)) in
+    let next : List NodeRow = row_of f.next m q u.nags u.comments ∷ (rows (f.next + 1) u.rest ++ (rows f.next u.variations ++ tail)) in
     append_assoc f.moves (row_of f.level l f.reached f.nags f.comments ∷ []) next
     ∙ ap₂ (λ x y. f.moves ++ (row_of f.level l f.reached x y ∷ next)) (sym (append-nil f.nags)) (sym (append-nil f.comments))
     ∙ ap (λ x. f.moves ++ (row_of f.level l f.reached (f.nags ++ []) (f.comments ++ []) ∷ (row_of f.next m q u.nags u.comments ∷ x)))
     (sym (append_assoc (rows (f.next + 1) u.rest) (rows f.next u.variations) tail))
 
-move_told_is : (f : Frame) (m : Move) (q : Board) (u : Told) → wholly (advance f m q) u ≡ wholly f (move_told m q u)
+move_told_is : (f : Frame) (m : Move) (q : Board) (u : LineTail) → wholly (advance f m q) u ≡ wholly f (tail_with_move m q u)
 move_told_is f m q u = move_by f m q u f.last
 
-variation_by : (g : Frame) (v u : Told) (inner : List Row) → inner ≡ rows g.level (noted v.nags v.comments v.rest) → (o : Option Move)
+variation_by : (g : Frame) (v u : LineTail) (inner : List NodeRow) → inner ≡ rows g.level (with_leading_notes v.nags v.comments v.rest) → (o : Option Move)
     → g.moves ++ (wholly_by o (record g { here = g.here ++ inner }) u ++ ((g.here ++ inner) ++ (rows g.level u.variations ++ g.earlier)))
-    ≡ g.moves ++ (wholly_by o g (variation_told v u) ++ (g.here ++ (rows g.level (beside (noted v.nags v.comments v.rest) u.variations) ++ g.earlier)))
+    ≡ g.moves ++ (wholly_by o g (tail_with_variation v u) ++ (g.here ++ (rows g.level (beside (with_leading_notes v.nags v.comments v.rest) u.variations) ++ g.earlier)))
 variation_by g v u inner is o =
-    let tail : (g.here ++ inner) ++ (rows g.level u.variations ++ g.earlier) ≡ g.here ++ (rows g.level (beside (noted v.nags v.comments v.rest) u.variations) ++ g.earlier) =
+    let tail : (g.here ++ inner) ++ (rows g.level u.variations ++ g.earlier) ≡ g.here ++ (rows g.level (beside (with_leading_notes v.nags v.comments v.rest) u.variations) ++ g.earlier) =
     append_assoc g.here inner (rows g.level u.variations ++ g.earlier)
     ∙ ap (λ x. g.here ++ x) (sym (append_assoc inner (rows g.level u.variations) g.earlier))
     ∙ ap (λ x. g.here ++ ((x ++ rows g.level u.variations) ++ g.earlier)) is
-    ∙ ap (λ x. g.here ++ (x ++ g.earlier)) (sym (rows_beside g.level (noted v.nags v.comments v.rest) u.variations)) in
+    ∙ ap (λ x. g.here ++ (x ++ g.earlier)) (sym (rows_beside g.level (with_leading_notes v.nags v.comments v.rest) u.variations)) in
     by_last o tail
   where
-    by_last : (o : Option Move) → (g.here ++ inner) ++ (rows g.level u.variations ++ g.earlier) ≡ g.here ++ (rows g.level (beside (noted v.nags v.comments v.rest) u.variations) ++ g.earlier)
+    by_last : (o : Option Move) → (g.here ++ inner) ++ (rows g.level u.variations ++ g.earlier) ≡ g.here ++ (rows g.level (beside (with_leading_notes v.nags v.comments v.rest) u.variations) ++ g.earlier)
         → g.moves ++ (wholly_by o (record g { here = g.here ++ inner }) u ++ ((g.here ++ inner) ++ (rows g.level u.variations ++ g.earlier)))
-        ≡ g.moves ++ (wholly_by o g (variation_told v u) ++ (g.here ++ (rows g.level (beside (noted v.nags v.comments v.rest) u.variations) ++ g.earlier)))
+        ≡ g.moves ++ (wholly_by o g (tail_with_variation v u) ++ (g.here ++ (rows g.level (beside (with_leading_notes v.nags v.comments v.rest) u.variations) ++ g.earlier)))
     by_last None tail = ap (λ x. g.moves ++ (wholly_by None g u ++ x)) tail
     by_last (Some m) tail = ap (λ x. g.moves ++ (wholly_by (Some m) g u ++ x)) tail
 
-variation_told_is : (g f : Frame) (p : Board) (v u : Told) → whole f ≡ wholly (begin g.level p) v → v.variations ≡ none → wholly (with_variation g f) u ≡ wholly g (variation_told v u)
+variation_told_is : (g f : Frame) (p : Board) (v u : LineTail) → whole f ≡ wholly (begin g.level p) v → v.variations ≡ none → wholly (with_variation g f) u ≡ wholly g (tail_with_variation v u)
 unfolding rows
 variation_told_is g f p v u is alone =
-    let inner : whole f ≡ rows g.level (noted v.nags v.comments v.rest) =
-    is ∙ ap (λ x. rows g.level (noted v.nags v.comments v.rest) ++ (rows 0 x ++ [])) alone ∙ append-nil (rows g.level (noted v.nags v.comments v.rest)) in
+    let inner : whole f ≡ rows g.level (with_leading_notes v.nags v.comments v.rest) =
+    is ∙ ap (λ x. rows g.level (with_leading_notes v.nags v.comments v.rest) ++ (rows 0 x ++ [])) alone ∙ append-nil (rows g.level (with_leading_notes v.nags v.comments v.rest)) in
     variation_by g v u (whole f) inner g.last
 
 -- a line that has no move yet has no variations of a move before it
-alone_by : (depth : ℕ) (a b : Place) (u t : Told) (s : Sense) → TellsWord depth a s b u t → (b.before ≡ None → u.variations ≡ none) → a.before ≡ None → t.variations ≡ none
+alone_by : (depth : ℕ) (a b : LinePlace) (u t : LineTail) (s : Sense) → ParsesWord depth a s b u t → (b.before ≡ None → u.variations ≡ none) → a.before ≡ None → t.variations ≡ none
 alone_by depth a b u t (plays m) tells later is = ap (λ x. x.variations) tells.3
 alone_by depth a b u t (annotates n) tells later is = ap (λ x. x.variations) tells.1 ∙ later (ap (λ x. x.before) tells.0 ∙ is)
 alone_by depth a b u t (remarks c) tells later is = ap (λ x. x.variations) tells.1 ∙ later (ap (λ x. x.before) tells.0 ∙ is)
@@ -154,13 +154,13 @@ alone_by depth a b u t opens tells later is = absurd tells
 alone_by depth a b u t closes tells later is = absurd tells
 alone_by depth a b u t (out_of_place r) tells later is = absurd tells
 
-pub alone : (l : Line) (depth : ℕ) (a : Place) (t : Told) → Tells depth a l t → a.before ≡ None → t.variations ≡ none
+pub alone : (l : Line) (depth : ℕ) (a : LinePlace) (t : LineTail) → ParsesLine depth a l t → a.before ≡ None → t.variations ≡ none
 alone nothing depth a t tells is = ap (λ x. x.variations) tells
 alone (word w rest) depth a t (b, u, now, later) is = alone_by depth a b u t (sense w) now (alone rest depth b u later) is
 alone (variation o inner c rest) depth a t (p, before, shallow, opening, closing, v, inside, q, has_move, u, later, told) is = absurd (let x : None ≡ Some p = sym is ∙ before in cc)
 
 -- a token and the rest of its line
-pub record WordReads (h : Head) (f : Frame) (k : List Frame) (w : Word) (s : Sense) (b : Place) (u t : Told) : Type 0 where
+pub record WordReads (h : Head) (f : Frame) (k : List Frame) (w : Word) (s : Sense) (b : LinePlace) (u t : LineTail) : Type 0 where
   pub head : Head
   pub frame : Frame
   pub is_fed : feed (at h f k) w ≡ at head frame k
@@ -201,19 +201,19 @@ marker_skipped : (h : Head) (f : Frame) (k : List Frame) (r : GameResult) → 0 
 marker_skipped h f [] r deep = absurd (let e : 0 < 0 = deep in omega (arith, e))
 marker_skipped h f (g ∷ k) r deep = refl
 
-word_reads : (h : Head) (f : Frame) (k : List Frame) (w : Word) (b : Place) (u t : Told) (s : Sense) → sense w ≡ s → TellsWord (length k) (place f) s b u t → WordReads h f k w s b u t
+word_reads : (h : Head) (f : Frame) (k : List Frame) (w : Word) (b : LinePlace) (u t : LineTail) (s : Sense) → sense w ≡ s → ParsesWord (length k) (place f) s b u t → WordReads h f k w s b u t
 word_reads h f k w b u t (plays m) is (move, means, to, told) = record {
   head = one_more h;
   frame = advance f move (led_to f.reached move);
   is_fed = feed_is h f k w (plays m) is ∙ ap (on_move h f k) means;
   grown = record { tags = refl; start = refl; moves = refl; heading = sym (and-false h.heading) };
   place = sym to;
-  whole = move_told_is f move (led_to f.reached move) u ∙ ap (λ x. wholly f (move_told move x.reached u)) (sym to) ∙ ap (wholly f) (sym told);
+  whole = move_told_is f move (led_to f.reached move) u ∙ ap (λ x. wholly f (tail_with_move move x.reached u)) (sym to) ∙ ap (wholly f) (sym told);
   end = ap (λ x. x.end) (sym told);
 }
 word_reads h f k w b u t (annotates n) is (to, told) = record {
   head = in_body h;
-  frame = annotated f n;
+  frame = with_glyph f n;
   is_fed = feed_is h f k w (annotates n) is;
   grown = grown_body h;
   place = sym to;
@@ -222,7 +222,7 @@ word_reads h f k w b u t (annotates n) is (to, told) = record {
 }
 word_reads h f k w b u t (remarks c) is (to, told) = record {
   head = h;
-  frame = remarked f c;
+  frame = with_remark f c;
   is_fed = feed_is h f k w (remarks c) is;
   grown = grown_same h;
   place = sym to;
@@ -298,7 +298,7 @@ variation_grown h i j o c inner rest opening closing a b = record {
 }
 
 -- what a line tells is what is read of its tokens, whatever lines are open around it
-pub told_is_read : (l : Line) (h : Head) (f : Frame) (k : List Frame) (d : ℕ) (t : Told) → d ≡ length k → Tells d (place f) l t → Reads h f k (text l) t
+pub told_is_read : (l : Line) (h : Head) (f : Frame) (k : List Frame) (d : ℕ) (t : LineTail) → d ≡ length k → ParsesLine d (place f) l t → Reads h f k (text l) t
 told_is_read nothing h f k d t deep told = record {
   head = h;
   frame = f;
@@ -308,8 +308,8 @@ told_is_read nothing h f k d t deep told = record {
   whole = wholly_nothing f ∙ ap (wholly f) (sym told);
 }
 told_is_read (word w rest) h f k d t deep (b, u, now, later) =
-    let one : WordReads h f k w (sense w) b u t = word_reads h f k w b u t (sense w) refl (subst (λ n. TellsWord n (place f) (sense w) b u t) deep now) in
-    let more : Reads one.head one.frame k (text rest) u = told_is_read rest one.head one.frame k d u deep (subst (λ x. Tells d x rest u) (sym one.place) later) in
+    let one : WordReads h f k w (sense w) b u t = word_reads h f k w b u t (sense w) refl (subst (λ n. ParsesWord n (place f) (sense w) b u t) deep now) in
+    let more : Reads one.head one.frame k (text rest) u = told_is_read rest one.head one.frame k d u deep (subst (λ x. ParsesLine d x rest u) (sym one.place) later) in
     record {
       head = more.head;
       frame = more.frame;

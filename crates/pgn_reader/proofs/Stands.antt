@@ -14,12 +14,12 @@ use Rattle.pgn_lexer.specs.declared.token.TokenKind.TheVariants.{Open, Close, Te
 use Rattle.pgn_reader.specs.Words.{Word, Sense, plays, annotates, remarks, ends, opens, closes, means_nothing, out_of_place, sense, is_remark, is_move_sense}
 use Rattle.cq_position.specs.Games.{with_tag}
 use Rattle.pgn_reader.specs.Tags.{Pair, IsPair, pair_text, Tags, with_pair, start_of, value_of}
-use Rattle.pgn_reader.specs.Line.{Line, nothing, variation, text, beginning, led_to, nothing_told, glyph_told, remark_told, move_told, variation_told, Tells}
+use Rattle.pgn_reader.specs.Line.{Line, nothing, variation, text, beginning, led_to, empty_tail, tail_with_glyph, tail_with_comment, tail_with_move, tail_with_variation, ParsesLine}
 use Rattle.pgn_reader.specs.Games.{AreHeading, heading_text}
-use Rattle.pgn_reader.specs.Standing.{Begun, outermost, within, begun_text, InPair, StandsAt, after_opening, after_name}
-use Rattle.pgn_reader.specs.Frame.{Frame, place, begin, begin_game, advance, annotated, remarked, with_variation}
-use Rattle.pgn_reader.specs.Machine.{Head, State, opened, named, valued, at, ended, stuck, in_body, one_more, on_name, on_start, on_value, on_closing, on_move, on_marker, on_opening, on_end, on_bracket, on_sense, feed, run, first}
-use Rattle.pgn_reader.proofs.Told.{longer, text_longer, Stack, Shown, stack_on, Stepped, and_false, and_true, same_moves, shown_on, one_move, one_comment, word_stands}
+use Rattle.pgn_reader.specs.ReadingPlace.{OpenLines, outermost, within, open_lines_text, InPair, IsReadingPlace, after_opening, after_name}
+use Rattle.pgn_reader.specs.Internal.Frame.{Frame, place, begin, begin_game, advance, with_glyph, with_remark, with_variation}
+use Rattle.pgn_reader.specs.Internal.Machine.{Head, State, opened, named, valued, at, ended, stuck, in_body, one_more, on_name, on_start, on_value, on_closing, on_move, on_marker, on_opening, on_end, on_bracket, on_sense, feed, run, first}
+use Rattle.pgn_reader.proofs.LineTail.{longer, text_longer, Stack, Shown, stack_on, Stepped, and_false, and_true, same_moves, shown_on, one_move, one_comment, word_stands}
 
 -- the value of a tag was read
 pub record Valued (ts : List Word) (all : Tags) (start : Board) : Type 0 where
@@ -40,11 +40,11 @@ pub record Marked (ts : List Word) (h : Head) (f : Frame) (result : GameResult) 
   pub marker : Word
   pub joined : ts ≡ before ++ marker ∷ []
   pub marks : sense marker ≡ ends result
-  pub shown : Shown before h f []
+  pub state_of : Shown before h f []
 
 abbrev pub Stands : List Word → State → Type 0
-Stands ts (opened tags) = StandsAt ts (after_opening tags)
-Stands ts (named tags name) = StandsAt ts (after_name tags name)
+Stands ts (opened tags) = IsReadingPlace ts (after_opening tags)
+Stands ts (named tags name) = IsReadingPlace ts (after_name tags name)
 Stands ts (valued tags start) = Valued ts tags start
 Stands ts (at h f k) = Shown ts h f k
 Stands ts (ended h f result) = Marked ts h f result
@@ -109,7 +109,7 @@ pair_done ts all start w v is =
         starts = v.starts;
       };
       begun = outermost nothing;
-      stack = (nothing_told (beginning start), refl, refl);
+      stack = (empty_tail (beginning start), refl, refl);
       joined = whole.joined ∙ sym text_is ∙ sym (append-nil (heading_text pairs));
       moves = refl;
       heading = refl;
@@ -129,40 +129,40 @@ body_step h s no_move no_remark = record {
 
 move_stands : (ts : List Word) (h : Head) (f : Frame) (k : List Frame) (w : Word) (m : List ℕ) → sense w ≡ plays m → Shown ts h f k → (r : Result Move SanFault) → san f.reached m ≡ r
     → Stands (ts ++ w ∷ []) (on_move h f k r)
-move_stands ts h f k w m is shown (Err fault) means = tt
-move_stands ts h f k w m is shown (Ok move) means =
+move_stands ts h f k w m is state_of (Err fault) means = tt
+move_stands ts h f k w m is state_of (Ok move) means =
     let g : Frame = advance f move (led_to f.reached move) in
-    word_stands ts h (one_more h) f g k w (plays m) (move_told move g.reached (nothing_told (place g))) is shown (λ d e. (move, means, refl, refl))
+    word_stands ts h (one_more h) f g k w (plays m) (tail_with_move move g.reached (empty_tail (place g))) is state_of (λ d e. (move, means, refl, refl))
     (record { tags = refl; start = refl; moves = refl; heading = and_false h.heading })
 
 marker_stands : (ts : List Word) (h : Head) (f : Frame) (k : List Frame) (w : Word) (r : GameResult) → sense w ≡ ends r → Shown ts h f k → Stands (ts ++ w ∷ []) (on_marker h f k r)
-marker_stands ts h f [] w r is shown = record { before = ts; marker = w; joined = refl; marks = is; shown = shown }
-marker_stands ts h f (g ∷ k) w r is shown =
-    word_stands ts h (in_body h) f f (g ∷ k) w (ends r) (nothing_told (place f)) is shown (λ d e. (omega (arith, e), refl, refl)) (body_step h (ends r) refl refl)
+marker_stands ts h f [] w r is state_of = record { before = ts; marker = w; joined = refl; marks = is; state_of = state_of }
+marker_stands ts h f (g ∷ k) w r is state_of =
+    word_stands ts h (in_body h) f f (g ∷ k) w (ends r) (empty_tail (place f)) is state_of (λ d e. (omega (arith, e), refl, refl)) (body_step h (ends r) refl refl)
 
 opening_stands : (ts : List Word) (h : Head) (f : Frame) (k : List Frame) (w : Word) → sense w ≡ opens → Shown ts h f k → (deep : Bool) → (deep ≡ true → length k < 100)
     → (o : Option Board) → f.before ≡ o → Stands (ts ++ w ∷ []) (on_opening h f k deep o)
-opening_stands ts h f k w is shown deep low None before = tt
-opening_stands ts h f k w is shown false low (Some p) before = tt
-opening_stands ts h f k w is shown true low (Some p) before =
+opening_stands ts h f k w is state_of deep low None before = tt
+opening_stands ts h f k w is state_of false low (Some p) before = tt
+opening_stands ts h f k w is state_of true low (Some p) before =
     let step : Stepped h opens (in_body h) = body_step h opens refl refl in
-    shown_on ts (w ∷ []) h (in_body h) f (begin f.level p) k (f ∷ k) shown (within shown.begun w nothing) refl
-    (shown.stack, p, before, low refl, is, nothing_told (beginning p), refl, refl) refl refl (one_move h (in_body h) w opens is step.moves) (one_comment h (in_body h) w opens is step.heading)
+    shown_on ts (w ∷ []) h (in_body h) f (begin f.level p) k (f ∷ k) state_of (within state_of.begun w nothing) refl
+    (state_of.stack, p, before, low refl, is, empty_tail (beginning p), refl, refl) refl refl (one_move h (in_body h) w opens is step.moves) (one_comment h (in_body h) w opens is step.heading)
 
 -- the innermost line ends, and becomes a variation of the one around it
-pub record Closed (start : Board) (b : Begun) (f g : Frame) (k : List Frame) (w : Word) : Type 0 where
-  pub begun : Begun
-  pub text_is : begun_text begun ≡ begun_text b ++ w ∷ []
+pub record Closed (start : Board) (b : OpenLines) (f g : Frame) (k : List Frame) (w : Word) : Type 0 where
+  pub begun : OpenLines
+  pub text_is : open_lines_text begun ≡ open_lines_text b ++ w ∷ []
   pub stack : Stack start begun (with_variation g f) k
 
-closed : (start : Board) (b : Begun) (f g : Frame) (k : List Frame) (w : Word) (q : Board) → sense w ≡ closes → f.before ≡ Some q → Stack start b f (g ∷ k) → Closed start b f g k w
+closed : (start : Board) (b : OpenLines) (f g : Frame) (k : List Frame) (w : Word) (q : Board) → sense w ≡ closes → f.before ≡ Some q → Stack start b f (g ∷ k) → Closed start b f g k w
 closed start (outermost l) f g k w q is has_move wrong = absurd wrong
 closed start (within b o l) f g k w q is has_move (around, p, before, shallow, opening, t, tells, end) =
     let m : Line = variation o l w nothing in
     record {
       begun = longer b m;
-      text_is = text_longer b m ∙ sym (append_assoc (begun_text b) (o ∷ text l) (w ∷ []));
-      stack = stack_on start b g (with_variation g f) k m (variation_told t (nothing_told (place g))) around
+      text_is = text_longer b m ∙ sym (append_assoc (open_lines_text b) (o ∷ text l) (w ∷ []));
+      stack = stack_on start b g (with_variation g f) k m (tail_with_variation t (empty_tail (place g))) around
           (λ d e. (
             p,
             before,
@@ -170,57 +170,57 @@ closed start (within b o l) f g k w q is has_move (around, p, before, shallow, o
             opening,
             is,
             t,
-            subst (λ n. Tells (n + 1) (beginning p) l t) (sym e) tells,
+            subst (λ n. ParsesLine (n + 1) (beginning p) l t) (sym e) tells,
             q,
             ap
                 (λ x. x.before) end ∙ has_move,
-            nothing_told (place g),
+            empty_tail (place g),
             refl,
             refl,
           )) refl;
     }
 
 end_stands : (ts : List Word) (h : Head) (f : Frame) (k : List Frame) (w : Word) → sense w ≡ closes → Shown ts h f k → (o : Option Board) → f.before ≡ o → Stands (ts ++ w ∷ []) (on_end h f k o)
-end_stands ts h f k w is shown None before = tt
-end_stands ts h f [] w is shown (Some q) before = tt
-end_stands ts h f (g ∷ k) w is shown (Some q) before =
+end_stands ts h f k w is state_of None before = tt
+end_stands ts h f [] w is state_of (Some q) before = tt
+end_stands ts h f (g ∷ k) w is state_of (Some q) before =
     let step : Stepped h closes (in_body h) = body_step h closes refl refl in
-    let all : Closed h.start shown.begun f g k w = closed h.start shown.begun f g k w q is before shown.stack in
-    shown_on ts (w ∷ []) h (in_body h) f (with_variation g f) (g ∷ k) k shown all.begun all.text_is all.stack refl refl
+    let all : Closed h.start state_of.begun f g k w = closed h.start state_of.begun f g k w q is before state_of.stack in
+    shown_on ts (w ∷ []) h (in_body h) f (with_variation g f) (g ∷ k) k state_of all.begun all.text_is all.stack refl refl
     (one_move h (in_body h) w closes is step.moves) (one_comment h (in_body h) w closes is step.heading)
 
 bracket_stands : (ts : List Word) (h : Head) (f : Frame) (k : List Frame) (w : Word) → Shown ts h f k → (may : Bool) → h.heading ≡ may → (kind : TokenKind) → w.kind ≡ kind
     → Stands (ts ++ w ∷ []) (on_bracket may h.tags kind)
-bracket_stands ts h f k w shown true may Open is = (
+bracket_stands ts h f k w state_of true may Open is = (
   w,
   is,
   record {
-    pairs = shown.pairs;
+    pairs = state_of.pairs;
     start = h.start;
-    has_heading = shown.has_heading;
-    comments = begun_text shown.begun;
-    are_comments = sym shown.heading ∙ may;
-    joined = ap (λ x. x ++ w ∷ []) shown.joined ∙ append_assoc (heading_text shown.pairs) (begun_text shown.begun) (w ∷ []);
+    has_heading = state_of.has_heading;
+    comments = open_lines_text state_of.begun;
+    are_comments = sym state_of.heading ∙ may;
+    joined = ap (λ x. x ++ w ∷ []) state_of.joined ∙ append_assoc (heading_text state_of.pairs) (open_lines_text state_of.begun) (w ∷ []);
   },
 )
-bracket_stands ts h f k w shown _ may _ is = tt
+bracket_stands ts h f k w state_of _ may _ is = tt
 
 below_is_true : (a b : ℕ) → nat_lt a b ≡ true → a < b
 below_is_true a b h = grind arith
 
 sense_stands : (ts : List Word) (h : Head) (f : Frame) (k : List Frame) (w : Word) → Shown ts h f k → (s : Sense) → sense w ≡ s → Stands (ts ++ w ∷ []) (on_sense h f k w.kind s)
-sense_stands ts h f k w shown (plays m) is = move_stands ts h f k w m is shown (san f.reached m) refl
-sense_stands ts h f k w shown (annotates n) is =
-    word_stands ts h (in_body h) f (annotated f n) k w (annotates n) (glyph_told n (nothing_told (place f))) is shown (λ d e. (refl, refl)) (body_step h (annotates n) refl refl)
-sense_stands ts h f k w shown (remarks c) is =
-    word_stands ts h h f (remarked f c) k w (remarks c) (remark_told c (nothing_told (place f))) is shown (λ d e. (refl, refl))
+sense_stands ts h f k w state_of (plays m) is = move_stands ts h f k w m is state_of (san f.reached m) refl
+sense_stands ts h f k w state_of (annotates n) is =
+    word_stands ts h (in_body h) f (with_glyph f n) k w (annotates n) (tail_with_glyph n (empty_tail (place f))) is state_of (λ d e. (refl, refl)) (body_step h (annotates n) refl refl)
+sense_stands ts h f k w state_of (remarks c) is =
+    word_stands ts h h f (with_remark f c) k w (remarks c) (tail_with_comment c (empty_tail (place f))) is state_of (λ d e. (refl, refl))
     (record { tags = refl; start = refl; moves = same_moves h; heading = and_true h.heading })
-sense_stands ts h f k w shown (ends r) is = marker_stands ts h f k w r is shown
-sense_stands ts h f k w shown opens is = opening_stands ts h f k w is shown (nat_lt (length k) 100) (below_is_true (length k) 100) f.before refl
-sense_stands ts h f k w shown closes is = end_stands ts h f k w is shown f.before refl
-sense_stands ts h f k w shown means_nothing is =
-    word_stands ts h (in_body h) f f k w means_nothing (nothing_told (place f)) is shown (λ d e. (refl, refl)) (body_step h means_nothing refl refl)
-sense_stands ts h f k w shown (out_of_place r) is = bracket_stands ts h f k w shown h.heading refl w.kind refl
+sense_stands ts h f k w state_of (ends r) is = marker_stands ts h f k w r is state_of
+sense_stands ts h f k w state_of opens is = opening_stands ts h f k w is state_of (nat_lt (length k) 100) (below_is_true (length k) 100) f.before refl
+sense_stands ts h f k w state_of closes is = end_stands ts h f k w is state_of f.before refl
+sense_stands ts h f k w state_of means_nothing is =
+    word_stands ts h (in_body h) f f k w means_nothing (empty_tail (place f)) is state_of (λ d e. (refl, refl)) (body_step h means_nothing refl refl)
+sense_stands ts h f k w state_of (out_of_place r) is = bracket_stands ts h f k w state_of h.heading refl w.kind refl
 
 pub step_stands : (ts : List Word) (w : Word) (s : State) → Stands ts s → Stands (ts ++ w ∷ []) (feed s w)
 unfolding feed
@@ -242,7 +242,7 @@ first_stands = record {
   pairs = [];
   has_heading = record { are_pairs = tt; are_tags = refl; starts = refl };
   begun = outermost nothing;
-  stack = (nothing_told (beginning start_board), refl, refl);
+  stack = (empty_tail (beginning start_board), refl, refl);
   joined = refl;
   moves = refl;
   heading = refl;

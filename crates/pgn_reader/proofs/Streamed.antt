@@ -11,16 +11,16 @@ use Rattle.pgn_lexer.specs.declared.token.Token.{Token}
 use Rattle.pgn_lexer.specs.declared.token.TokenKind.{TokenKind}
 use Rattle.pgn_lexer.specs.declared.token.TokenKind.TheVariants.{Open}
 use Rattle.pgn_lexer.specs.Lexemes.{lexemes, lexemes_at, token_if, tokens_among, tokens_of}
-use Rattle.pgn_lexer.specs.Shown.{shown as lexeme_shown}
+use Rattle.pgn_lexer.specs.PlacedLexemes.{placed_lexeme as lexeme_shown}
 use Rattle.pgn_reader.specs.declared.fault.Reason.{Reason}
 use Rattle.pgn_reader.specs.declared.token_machine.Reader.{Reader}
 use Rattle.pgn_reader.specs.Words.{Word, word_of, words_of}
-use Rattle.pgn_reader.specs.Standing.{fault_at, fault_at_end}
+use Rattle.pgn_reader.specs.ReadingPlace.{fault_at, fault_at_end}
 use Rattle.pgn_reader.specs.Limits.{longest}
-use Rattle.pgn_reader.specs.Machine.{State, feed, run, first as begin}
-use Rattle.pgn_reader.specs.Arranged.{standing_of}
-use Rattle.pgn_reader.specs.Shown.{shown, moves_in, Steps, StepsOver, IsLow}
-use Rattle.pgn_reader.specs.Reading.{IsWhole}
+use Rattle.pgn_reader.specs.Internal.Machine.{State, feed, run, first as begin}
+use Rattle.pgn_reader.specs.Internal.GameAssembly.{reading_place_of}
+use Rattle.pgn_reader.specs.Internal.ReaderView.{state_of, moves_in, Steps, StepsOver, IsLow}
+use Rattle.pgn_reader.specs.Internal.Reading.{IsWhole}
 use Rattle.pgn_reader.specs.Verdict.{HasTokenFault, place_or}
 use Rattle.pgn_reader.proofs.Tokens.{run_on, low_here, fault_in_loop, end_in_loop, whole_in_loop}
 
@@ -68,7 +68,7 @@ module _ (start : ℕ) (first : Bool) (bytes : List ℕ) (place : ℕ) (r : Read
   abbrev read : TokenKind → Word
   read kind = record { kind = kind; text = l.text.now }
 
-  left_by : (kind : LexemeKind) → l.kind ≡ kind → IsFound → IsReadTo start first bytes place (shown r) → (i : ℕ) → drop i (tokens_of start first bytes) ≡ tokens_among (lexemes_at start first bytes place)
+  left_by : (kind : LexemeKind) → l.kind ≡ kind → IsFound → IsReadTo start first bytes place (state_of r) → (i : ℕ) → drop i (tokens_of start first bytes) ≡ tokens_among (lexemes_at start first bytes place)
       → drop i (tokens_of start first bytes) ≡ token_if (start + l.at) (length l.text.now) kind ++ tokens_among (lexemes_at start first bytes (l.at + length l.text.now))
   left_by kind is found so_far i left =
       left ∙ ap tokens_among found
@@ -79,19 +79,19 @@ module _ (start : ℕ) (first : Bool) (bytes : List ℕ) (place : ℕ) (r : Read
       ap {B = Word} (λ t. record { kind = kind; text = t })
       (text_is ∙ ap (λ p. take (length l.text.now) (drop p bytes)) (let e : l.at ≡ start + l.at - start = omega arith in e))
 
-  next_token : (kind : TokenKind) → l.kind ≡ IsToken kind → IsFound → (so_far : IsReadTo start first bytes place (shown r))
+  next_token : (kind : TokenKind) → l.kind ≡ IsToken kind → IsFound → (so_far : IsReadTo start first bytes place (state_of r))
       → IsNext (tokens_of start first bytes) so_far.index (token kind) (tokens_among (lexemes_at start first bytes (l.at + length l.text.now)))
   next_token kind is found so_far =
       next_one (tokens_of start first bytes) so_far.index (token kind) (tokens_among (lexemes_at start first bytes (l.at + length l.text.now)))
       (left_by (IsToken kind) is found so_far so_far.index so_far.left)
 
-  same_here : (kind : TokenKind) → l.kind ≡ IsToken kind → IsFound → l.text.now ≡ take (length l.text.now) (drop l.at bytes) → (so_far : IsReadTo start first bytes place (shown r))
+  same_here : (kind : TokenKind) → l.kind ≡ IsToken kind → IsFound → l.text.now ≡ take (length l.text.now) (drop l.at bytes) → (so_far : IsReadTo start first bytes place (state_of r))
       → read kind ≡ word_of start bytes (get_or (tokens_of start first bytes) so_far.index nothing_there)
   same_here kind is found text_is so_far = same_word kind text_is ∙ ap (word_of start bytes) (sym (next_token kind is found so_far).here)
 
   -- a lexeme was read
   on_by : (kind : LexemeKind) (s : State) (u : Unit {0}) → l.kind ≡ kind → IsFound → l.text.now ≡ take (length l.text.now) (drop l.at bytes) → l.at + length l.text.now ≤ length bytes
-      → IsReadTo start first bytes place (shown r) → StepsOver (shown r) kind l.text.now s (Ok u) → IsReadTo start first bytes (l.at + length l.text.now) s
+      → IsReadTo start first bytes place (state_of r) → StepsOver (state_of r) kind l.text.now s (Ok u) → IsReadTo start first bytes (l.at + length l.text.now) s
   on_by EscapeLine s u is found text_is within so_far steps = record {
     within = within;
     index = so_far.index;
@@ -105,27 +105,27 @@ module _ (start : ℕ) (first : Bool) (bytes : List ℕ) (place : ℕ) (r : Read
         within = within;
         index = so_far.index + 1;
         left = next.later;
-        stands = run_on (word_of start bytes) (tokens_of start first bytes) so_far.index nothing_there (shown r) s next.low so_far.stands
-            (ap (feed (shown r)) (sym (same_here kind is found text_is so_far)) ∙ steps.0);
+        stands = run_on (word_of start bytes) (tokens_of start first bytes) so_far.index nothing_there (state_of r) s next.low so_far.stands
+            (ap (feed (state_of r)) (sym (same_here kind is found text_is so_far)) ∙ steps.0);
         few = steps.1;
       }
 
   pub read_on : (s : State) (u : Unit {0}) → IsFound → l.text.now ≡ take (length l.text.now) (drop l.at bytes) → l.at + length l.text.now ≤ length bytes
-      → IsReadTo start first bytes place (shown r) → StepsOver (shown r) l.kind l.text.now s (Ok u) → IsReadTo start first bytes (l.at + length l.text.now) s
+      → IsReadTo start first bytes place (state_of r) → StepsOver (state_of r) l.kind l.text.now s (Ok u) → IsReadTo start first bytes (l.at + length l.text.now) s
   read_on s u found text_is within so_far steps = on_by l.kind s u refl found text_is within so_far steps
 
   -- or it was refused
   refused_by : (kind : LexemeKind) (s : State) (x : Refusal Reason) (reason : Reason) → l.kind ≡ kind → IsFound → l.text.now ≡ take (length l.text.now) (drop l.at bytes) → length bytes ≤ longest
-      → IsReadTo start first bytes place (shown r) → x ≡ Fault reason → StepsOver (shown r) kind l.text.now s (Err x)
+      → IsReadTo start first bytes place (state_of r) → x ≡ Fault reason → StepsOver (state_of r) kind l.text.now s (Err x)
       → HasTokenFault start first bytes (record { byte = start + l.at; reason = reason })
   refused_by EscapeLine s x reason is found text_is short so_far fault steps = absurd steps
   refused_by (IsToken kind) s x reason is found text_is short so_far fault steps =
       let next = next_token kind is found so_far in
-      let known : Steps (feed (shown r) (read kind)) (fault_at (standing_of (shown r)) (read kind)) s (Err (Fault reason)) =
-      subst (λ y. Steps (feed (shown r) (read kind)) (fault_at (standing_of (shown r)) (read kind)) s (Err y)) fault steps in
+      let known : Steps (feed (state_of r) (read kind)) (fault_at (reading_place_of (state_of r)) (read kind)) s (Err (Fault reason)) =
+      subst (λ y. Steps (feed (state_of r) (read kind)) (fault_at (reading_place_of (state_of r)) (read kind)) s (Err y)) fault steps in
       let word = word_of start bytes (get_or (tokens_of start first bytes) so_far.index nothing_there) in
-      let here : Steps (feed (shown r) word) (fault_at (standing_of (shown r)) word) s (Err (Fault reason)) =
-      subst (λ v. Steps (feed (shown r) v) (fault_at (standing_of (shown r)) v) s (Err (Fault reason))) (same_here kind is found text_is so_far) known in
+      let here : Steps (feed (state_of r) word) (fault_at (reading_place_of (state_of r)) word) s (Err (Fault reason)) =
+      subst (λ v. Steps (feed (state_of r) v) (fault_at (reading_place_of (state_of r)) v) s (Err (Fault reason))) (same_here kind is found text_is so_far) known in
       record {
         short = short;
         index = so_far.index;
@@ -135,7 +135,7 @@ module _ (start : ℕ) (first : Bool) (bytes : List ℕ) (place : ℕ) (r : Read
       }
 
   pub read_refused : (s : State) (x : Refusal Reason) (reason : Reason) → IsFound → l.text.now ≡ take (length l.text.now) (drop l.at bytes) → length bytes ≤ longest
-      → IsReadTo start first bytes place (shown r) → x ≡ Fault reason → StepsOver (shown r) l.kind l.text.now s (Err x)
+      → IsReadTo start first bytes place (state_of r) → x ≡ Fault reason → StepsOver (state_of r) l.kind l.text.now s (Err x)
       → HasTokenFault start first bytes (record { byte = start + l.at; reason = reason })
   read_refused s x reason found text_is short so_far fault steps = refused_by l.kind s x reason refl found text_is short so_far fault steps
 
@@ -156,14 +156,14 @@ low_so_far start first bytes place s so_far = low_here (take so_far.index (words
 nothing_left : (ts : List Token) (i : ℕ) → drop i ts ≡ [] → length ts ≤ i
 nothing_left ts i is = let count = ap length is in let len = length-drop i ts in omega (arith, count, len)
 
-module _ (start : ℕ) (first : Bool) (bytes : List ℕ) (place : ℕ) (r : Reader) (so_far : IsReadTo start first bytes place (shown r)) (none : lexemes_at start first bytes place ≡ []) where
+module _ (start : ℕ) (first : Bool) (bytes : List ℕ) (place : ℕ) (r : Reader) (so_far : IsReadTo start first bytes place (state_of r)) (none : lexemes_at start first bytes place ≡ []) where
   past : length (tokens_of start first bytes) ≤ so_far.index
   past = nothing_left (tokens_of start first bytes) so_far.index (so_far.left ∙ ap tokens_among none)
 
-  pub read_whole : fault_at_end (standing_of (shown r)) ≡ None → IsWhole (words_of start first bytes) r
+  pub read_whole : fault_at_end (reading_place_of (state_of r)) ≡ None → IsWhole (words_of start first bytes) r
   read_whole ends = whole_in_loop (word_of start bytes) (tokens_of start first bytes) so_far.index r past so_far.stands so_far.few ends
 
-  pub read_to_fault : (reason : Reason) → length bytes ≤ longest → fault_at_end (standing_of (shown r)) ≡ Some reason
+  pub read_to_fault : (reason : Reason) → length bytes ≤ longest → fault_at_end (reading_place_of (state_of r)) ≡ Some reason
       → HasTokenFault start first bytes (record { byte = start + length bytes; reason = reason })
   read_to_fault reason short why = record {
     short = short;

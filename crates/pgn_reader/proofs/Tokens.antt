@@ -11,14 +11,14 @@ use Rattle.pgn_reader.specs.declared.token_machine.Phase.{Phase}
 use Rattle.pgn_reader.specs.declared.token_machine.Phase.TheVariants.{Movetext, Opened, Named, Valued, Ended}
 use Rattle.pgn_reader.specs.Words.{Word}
 use Rattle.pgn_reader.specs.Games.{Spells}
-use Rattle.pgn_reader.specs.Standing.{fault_at, fault_at_end, variations_fault}
-use Rattle.pgn_reader.specs.Frame.{Row, Frame, whole}
+use Rattle.pgn_reader.specs.ReadingPlace.{fault_at, fault_at_end, variations_fault}
+use Rattle.pgn_reader.specs.Internal.Frame.{NodeRow, Frame, whole}
 use Rattle.pgn_reader.specs.Verdict.{IsOnlyGame}
 use Rattle.pgn_reader.specs.Faults.{IsFault}
-use Rattle.pgn_reader.specs.Machine.{State, at, ended, stuck, feed, run, first}
-use Rattle.pgn_reader.specs.Arranged.{standing_of, nodes_of_rows}
-use Rattle.pgn_reader.specs.Shown.{head_of, shown_by, shown, moves_in, IsLow}
-use Rattle.pgn_reader.specs.Reading.{IsWhole, ending_by, game_of}
+use Rattle.pgn_reader.specs.Internal.Machine.{State, at, ended, stuck, feed, run, first}
+use Rattle.pgn_reader.specs.Internal.GameAssembly.{reading_place_of, nodes_of_rows}
+use Rattle.pgn_reader.specs.Internal.ReaderView.{head_of, state_by_phase, state_of, moves_in, IsLow}
+use Rattle.pgn_reader.specs.Internal.Reading.{IsWhole, ending_by, game_of}
 use Rattle.pgn_reader.proofs.Read.{run_append}
 use Rattle.pgn_reader.proofs.Whole.{IsEnd}
 use Rattle.pgn_reader.proofs.Answer.{fault_here, fault_of_end, read_iff}
@@ -26,14 +26,14 @@ use Rattle.pgn_reader.proofs.Low.{run_low, first_low}
 use Rattle.pgn_reader.proofs.Follows.{tree_shown}
 
 -- the state of a reader is never stuck
-shown_lives_by : (p : Phase) (r : Reader) → shown_by p r ≡ stuck → ⊥
+shown_lives_by : (p : Phase) (r : Reader) → state_by_phase p r ≡ stuck → ⊥
 shown_lives_by Movetext r is = cc
 shown_lives_by Opened r is = cc
 shown_lives_by Named r is = cc
 shown_lives_by Valued r is = cc
 shown_lives_by (Ended result) r is = cc
 
-pub shown_lives : (r : Reader) → shown r ≡ stuck → ⊥
+pub shown_lives : (r : Reader) → state_of r ≡ stuck → ⊥
 shown_lives r is = shown_lives_by r.phase r is
 
 -- one token more
@@ -51,25 +51,25 @@ pub low_here : (ts : List Word) (s : State) → run first ts ≡ s → IsLow s
 low_here ts s is = subst IsLow is (run_low ts first first_low)
 
 pub fault_in_loop : {A : Type 0} (word : A → Word) (tokens : List A) (i : ℕ) (d : A) (r : Reader) (reason : Reason) → i < length tokens
-    → run first (take i (map word tokens)) ≡ shown r → moves_in (shown r) ≤ 65535
-    → fault_at (standing_of (shown r)) (word (get_or tokens i d)) ≡ Some reason → (reason ≢ TooManyPositions → feed (shown r) (word (get_or tokens i d)) ≡ stuck)
+    → run first (take i (map word tokens)) ≡ state_of r → moves_in (state_of r) ≤ 65535
+    → fault_at (reading_place_of (state_of r)) (word (get_or tokens i d)) ≡ Some reason → (reason ≢ TooManyPositions → feed (state_of r) (word (get_or tokens i d)) ≡ stuck)
     → IsFault (map word tokens) i reason
 fault_in_loop word tokens i d r reason low is few why dead =
-    fault_here (map word tokens) i (word (get_or tokens i d)) (shown r) reason is (shown_lives r)
+    fault_here (map word tokens) i (word (get_or tokens i d)) (state_of r) reason is (shown_lives r)
     (let len : length (map word tokens) ≡ length tokens = length-map tokens word in omega (arith, low, len)) (words_on word tokens i d low) why dead few
 
 all_run : {A : Type 0} (word : A → Word) (tokens : List A) (i : ℕ) (s : State) → length tokens ≤ i → run first (take i (map word tokens)) ≡ s → run first (map word tokens) ≡ s
 all_run word tokens i s all is =
     ap (run first) (sym (take_all i (map word tokens) (let len : length (map word tokens) ≡ length tokens = length-map tokens word in omega (arith, all, len)))) ∙ is
 
-pub end_in_loop : {A : Type 0} (word : A → Word) (tokens : List A) (i : ℕ) (r : Reader) (reason : Reason) → length tokens ≤ i → run first (take i (map word tokens)) ≡ shown r
-    → moves_in (shown r) ≤ 65535 → fault_at_end (standing_of (shown r)) ≡ Some reason → IsFault (map word tokens) (length tokens) reason
+pub end_in_loop : {A : Type 0} (word : A → Word) (tokens : List A) (i : ℕ) (r : Reader) (reason : Reason) → length tokens ≤ i → run first (take i (map word tokens)) ≡ state_of r
+    → moves_in (state_of r) ≤ 65535 → fault_at_end (reading_place_of (state_of r)) ≡ Some reason → IsFault (map word tokens) (length tokens) reason
 end_in_loop word tokens i r reason all is few why =
-    subst (λ n. IsFault (map word tokens) n reason) (length-map tokens word) (fault_of_end (map word tokens) (shown r) reason (all_run word tokens i (shown r) all is) (shown_lives r) why few)
+    subst (λ n. IsFault (map word tokens) n reason) (length-map tokens word) (fault_of_end (map word tokens) (state_of r) reason (all_run word tokens i (state_of r) all is) (shown_lives r) why few)
 
-pub whole_in_loop : {A : Type 0} (word : A → Word) (tokens : List A) (i : ℕ) (r : Reader) → length tokens ≤ i → run first (take i (map word tokens)) ≡ shown r
-    → moves_in (shown r) ≤ 65535 → fault_at_end (standing_of (shown r)) ≡ None → IsWhole (map word tokens) r
-whole_in_loop word tokens i r all is few ends = record { is_run = all_run word tokens i (shown r) all is; few = few; ends = ends }
+pub whole_in_loop : {A : Type 0} (word : A → Word) (tokens : List A) (i : ℕ) (r : Reader) → length tokens ≤ i → run first (take i (map word tokens)) ≡ state_of r
+    → moves_in (state_of r) ≤ 65535 → fault_at_end (reading_place_of (state_of r)) ≡ None → IsWhole (map word tokens) r
+whole_in_loop word tokens i r all is few ends = record { is_run = all_run word tokens i (state_of r) all is; few = few; ends = ends }
 
 -- the end of all tokens
 pub record IsEndOf (ts : List Word) (r : Reader) : Type 0 where
@@ -80,7 +80,7 @@ none_open : (k : List Frame) → variations_fault (length k) ≡ None → k ≡ 
 none_open [] is = refl
 none_open (f ∷ k) is = absurd cc
 
-end_by_phase : (ts : List Word) (r : Reader) (p : Phase) → r.phase ≡ p → run first ts ≡ shown_by p r → moves_in (shown_by p r) ≤ 65535 → fault_at_end (standing_of (shown_by p r)) ≡ None → IsEndOf ts r
+end_by_phase : (ts : List Word) (r : Reader) (p : Phase) → r.phase ≡ p → run first ts ≡ state_by_phase p r → moves_in (state_by_phase p r) ≤ 65535 → fault_at_end (reading_place_of (state_by_phase p r)) ≡ None → IsEndOf ts r
 end_by_phase ts r Movetext phase is few ends = record {
   is_end = inl (is ∙ ap (at (head_of r) r.line) (none_open (reverse r.around.items) ends), ap (λ p. ending_by p r.preface.tags) phase);
   few = few;
@@ -101,11 +101,11 @@ only_game ts r whole =
     record { spells = (iff (game_of r)).1 refl; alone = λ g spells. (iff g).0 spells }
 
 -- its nodes are a tree
-pub tree_of_rows : (ts : List Word) (r : Reader) (rows : List Row) → IsWhole ts r → IsPosition r.preface.start → rows ≡ whole r.line → IsTree (nodes_of_rows rows)
+pub tree_of_rows : (ts : List Word) (r : Reader) (rows : List NodeRow) → IsWhole ts r → IsPosition r.preface.start → rows ≡ whole r.line → IsTree (nodes_of_rows rows)
 tree_of_rows ts r rows whole_ is all =
     let e : IsEndOf ts r = end_of ts r whole_ in
     subst (λ rs. IsTree (nodes_of_rows rs)) (sym all) (tree_shown ts (head_of r) r.line (ending_by r.phase r.preface.tags) e.is_end e.few is)
 
-pub some_rows : (rows : List Row) → IsTree (nodes_of_rows rows) → 0 < length rows
+pub some_rows : (rows : List NodeRow) → IsTree (nodes_of_rows rows) → 0 < length rows
 some_rows [] tree = tree.rooted
 some_rows (r ∷ rows) tree = omega arith

@@ -18,12 +18,12 @@ use Rattle.pgn_reader.specs.declared.fault.Reason.{Reason}
 use Rattle.pgn_reader.specs.declared.fault.Reason.TheVariants.{BadTag, UnclosedVariation, TooDeep, TooManyPositions, GameTooLong}
 use Rattle.pgn_reader.specs.Words.{Word, Sense, plays, annotates, remarks, ends, opens, closes, means_nothing, out_of_place, sense, words_of}
 use Rattle.pgn_reader.specs.Tags.{Tags, start_of, value_of, result_of_tags}
-use Rattle.pgn_reader.specs.Standing.{fault_at, fault_at_end, name_fault, value_fault, fen_fault, closing_fault, marker_fault, move_fault, variation_fault, end_of_variation_fault, misplaced_fault, movetext_fault}
+use Rattle.pgn_reader.specs.ReadingPlace.{fault_at, fault_at_end, name_fault, value_fault, fen_fault, closing_fault, marker_fault, move_fault, variation_fault, end_of_variation_fault, misplaced_fault, movetext_fault}
 use Rattle.pgn_reader.specs.Faults.{IsFault}
-use Rattle.pgn_reader.specs.Frame.{Frame, place}
-use Rattle.pgn_reader.specs.Machine.{Head, State, opened, named, valued, at, ended, stuck, on_name, on_start, on_value, on_closing, on_move, on_marker, on_opening, on_end, on_bracket, on_sense, feed, run, first}
-use Rattle.pgn_reader.specs.Arranged.{standing_of, game_shown}
-use Rattle.pgn_reader.specs.Shown.{moves_in}
+use Rattle.pgn_reader.specs.Internal.Frame.{Frame, place}
+use Rattle.pgn_reader.specs.Internal.Machine.{Head, State, opened, named, valued, at, ended, stuck, on_name, on_start, on_value, on_closing, on_move, on_marker, on_opening, on_end, on_bracket, on_sense, feed, run, first}
+use Rattle.pgn_reader.specs.Internal.GameAssembly.{reading_place_of, game_of_frame}
+use Rattle.pgn_reader.specs.Internal.ReaderView.{moves_in}
 use Rattle.pgn_reader.specs.Verdict.{IsOnlyGame, IsRead, place_or}
 use Rattle.pgn_reader.proofs.Read.{run_append}
 use Rattle.pgn_reader.proofs.Whole.{IsEnd}
@@ -98,7 +98,7 @@ marker_passes : (kind : TokenKind) → Passes stuck (marker_fault kind)
 marker_passes (Nag n) = λ _. refl
 marker_passes _ = λ _. refl
 
-pub step_passes : (s : State) (w : Word) → (s ≡ stuck → ⊥) → moves_in s ≤ 65535 → Passes (feed s w) (fault_at (standing_of s) w)
+pub step_passes : (s : State) (w : Word) → (s ≡ stuck → ⊥) → moves_in s ≤ 65535 → Passes (feed s w) (fault_at (reading_place_of s) w)
 unfolding feed
 step_passes (opened tags) w live few = name_passes tags w.kind w.text
 step_passes (named tags name) w live few = value_passes (with_tag tags name (value_of w.text)) w.kind
@@ -114,14 +114,14 @@ HasVerdict ts = ((game : Game) × IsOnlyGame ts game) ⊎ ((i : ℕ) × (reason 
 game_at_end : (ts : List Word) (h : Head) (f : Frame) (result : GameResult) → IsEnd (run first ts) h f result → h.moves ≤ 65535 → HasVerdict ts
 game_at_end ts h f result is_end few =
     inl (
-      game_shown h f result,
+      game_of_frame h f result,
       record {
-        spells = (read_iff ts h f result is_end few (game_shown h f result)).1 refl;
+        spells = (read_iff ts h f result is_end few (game_of_frame h f result)).1 refl;
         alone = λ g spells. (read_iff ts h f result is_end few g).0 spells;
       },
     )
 
-fault_in_end : (ts : List Word) (s : State) (reason : Reason) → run first ts ≡ s → (s ≡ stuck → ⊥) → moves_in s ≤ 65535 → fault_at_end (standing_of s) ≡ Some reason → HasVerdict ts
+fault_in_end : (ts : List Word) (s : State) (reason : Reason) → run first ts ≡ s → (s ≡ stuck → ⊥) → moves_in s ≤ 65535 → fault_at_end (reading_place_of s) ≡ Some reason → HasVerdict ts
 fault_in_end ts s reason is live few why = inr (length ts, reason, fault_of_end ts s reason is live why few)
 
 at_end : (ts : List Word) (s : State) → run first ts ≡ s → (s ≡ stuck → ⊥) → moves_in s ≤ 65535 → HasVerdict ts
@@ -137,7 +137,7 @@ one_more_word : (before : List Word) (w : Word) (after : List Word) → take (le
 one_more_word before w after = take-append-add before (w ∷ after) 1 ∙ ap (λ l. l ++ w ∷ []) (sym (take-append_seam before (w ∷ after)))
 
 fault_at_word : (before : List Word) (w : Word) (after : List Word) (s : State) (reason : Reason) → run first before ≡ s → (s ≡ stuck → ⊥) → moves_in s ≤ 65535
-    → fault_at (standing_of s) w ≡ Some reason → Passes (feed s w) (Some reason) → HasVerdict (before ++ w ∷ after)
+    → fault_at (reading_place_of s) w ≡ Some reason → Passes (feed s w) (Some reason) → HasVerdict (before ++ w ∷ after)
 fault_at_word before w after s reason is live few why dead =
     inr (
       length before,
@@ -146,7 +146,7 @@ fault_at_word before w after s reason is live few why dead =
           (let e = length-append before (w ∷ after) in omega (arith, e)) (one_more_word before w after) why dead few,
     )
 
-verdict_by : (w : Word) (after before : List Word) (s : State) → run first before ≡ s → (s ≡ stuck → ⊥) → moves_in s ≤ 65535 → (o : Option Reason) → fault_at (standing_of s) w ≡ o
+verdict_by : (w : Word) (after before : List Word) (s : State) → run first before ≡ s → (s ≡ stuck → ⊥) → moves_in s ≤ 65535 → (o : Option Reason) → fault_at (reading_place_of s) w ≡ o
     → (Passes (feed s w) None → HasVerdict (before ++ w ∷ after)) → HasVerdict (before ++ w ∷ after)
 verdict_by w after before s is live few (Some reason) why goes_on =
     fault_at_word before w after s reason is live few why (subst (Passes (feed s w)) why (step_passes s w live few))
@@ -155,7 +155,7 @@ verdict_by w after before s is live few None why goes_on = goes_on (subst (Passe
 verdict_after : (after before : List Word) (s : State) → run first before ≡ s → (s ≡ stuck → ⊥) → moves_in s ≤ 65535 → HasVerdict (before ++ after)
 verdict_after [] before s is live few = subst HasVerdict (sym (append-nil before)) (at_end before s is live few)
 verdict_after (w ∷ after) before s is live few =
-    verdict_by w after before s is live few (fault_at (standing_of s) w) refl
+    verdict_by w after before s is live few (fault_at (reading_place_of s) w) refl
     (λ passes. subst HasVerdict (append_assoc before (w ∷ []) after)
     (verdict_after after (before ++ w ∷ []) (feed s w) (run_append first before (w ∷ []) ∙ ap (λ x. feed x w) is) passes.0 passes.1))
 

@@ -7,19 +7,19 @@ use Rattle.cq_position.specs.Games.{Game}
 use Rattle.cq_position.specs.Continuations.{none}
 use Rattle.pgn_reader.specs.Words.{Word, ends}
 use Rattle.pgn_reader.specs.Tags.{Tags, tags_of, start_of, result_of_tags}
-use Rattle.pgn_reader.specs.Line.{Line, text, beginning, Told, Tells}
-use Rattle.pgn_reader.specs.Games.{heading_text, MarksEnd, root, nodes_told, game_told, SpellsAny}
-use Rattle.pgn_reader.specs.Standing.{Begun, outermost, within, begun_text}
+use Rattle.pgn_reader.specs.Line.{Line, text, beginning, LineTail, ParsesLine}
+use Rattle.pgn_reader.specs.Games.{heading_text, MarksEnd, root, nodes_of_tail, game_of_tail, SpellsAny}
+use Rattle.pgn_reader.specs.ReadingPlace.{OpenLines, outermost, within, open_lines_text}
 use Rattle.pgn_reader.specs.Faults.{Begins}
-use Rattle.pgn_reader.specs.Frame.{rows, Frame, whole, begin_game}
-use Rattle.pgn_reader.specs.Machine.{Head, State, opened, named, valued, at, ended, stuck, after_pairs, feed, run, first}
-use Rattle.pgn_reader.specs.Arranged.{nodes_of_rows, game_shown}
+use Rattle.pgn_reader.specs.Internal.Frame.{rows, Frame, whole, begin_game}
+use Rattle.pgn_reader.specs.Internal.Machine.{Head, State, opened, named, valued, at, ended, stuck, after_pairs, feed, run, first}
+use Rattle.pgn_reader.specs.Internal.GameAssembly.{nodes_of_rows, game_of_frame}
 use Rattle.pgn_reader.proofs.Read.{wholly, run_append, feed_is, Reads, told_is_read, alone}
 use Rattle.pgn_reader.proofs.Heading.{pairs_read}
-use Rattle.pgn_reader.proofs.Told.{Stack, Shown}
+use Rattle.pgn_reader.proofs.LineTail.{Stack, Shown}
 use Rattle.pgn_reader.proofs.Stands.{Marked, Stands, all_stands}
 use Rattle.pgn_reader.proofs.Arranged.{arranged_all}
-use Rattle.pgn_reader.proofs.Begun.{Kept, run_keeps, first_keeps, Finish, finishes}
+use Rattle.pgn_reader.proofs.OpenLines.{Kept, run_keeps, first_keeps, Finish, finishes}
 use Rattle.pgn_reader.proofs.Pairs.{finishes_opened, finishes_named, finishes_valued}
 
 -- where reading ends with a game: after the last token of its line, or after its marker
@@ -32,9 +32,9 @@ pub record IsRead (ts : List Word) (g : Game) : Type 0 where
   pub frame : Frame
   pub result : GameResult
   pub is_end : IsEnd (run first ts) head frame result
-  pub game : g ≡ game_shown head frame result
+  pub game : g ≡ game_of_frame head frame result
 
-nodes_shown : (start : Board) (t : Told) (f : Frame) → whole f ≡ wholly (begin_game start) t → t.variations ≡ none → nodes_told start t ≡ nodes_of_rows (whole f)
+nodes_shown : (start : Board) (t : LineTail) (f : Frame) → whole f ≡ wholly (begin_game start) t → t.variations ≡ none → nodes_of_tail start t ≡ nodes_of_rows (whole f)
 unfolding rows
 nodes_shown start t f is alone =
     let all : whole f ≡ record { level = 0; move = record { move = null_move; position = start; nags = t.nags; comments = t.comments } } ∷ rows 0 t.rest =
@@ -78,42 +78,42 @@ pub record Spelled (ts : List Word) : Type 0 where
   pub spells : SpellsAny ts game
 
 -- what stands for one line, at the outermost level
-pub record Outermost (start : Board) (b : Begun) (f : Frame) : Type 0 where
+pub record Outermost (start : Board) (b : OpenLines) (f : Frame) : Type 0 where
   pub line : Line
-  pub told : Told
-  pub tells : Tells 0 (beginning start) line told
-  pub text_is : begun_text b ≡ text line
+  pub told : LineTail
+  pub tells : ParsesLine 0 (beginning start) line told
+  pub text_is : open_lines_text b ≡ text line
 
-outermost_line : (start : Board) (b : Begun) (f : Frame) → Stack start b f [] → Outermost start b f
+outermost_line : (start : Board) (b : OpenLines) (f : Frame) → Stack start b f [] → Outermost start b f
 outermost_line start (outermost l) f (t, tells, end) = record { line = l; told = t; tells = tells; text_is = refl }
 outermost_line start (within b o l) f wrong = absurd wrong
 
 spelled_by : (ts marker : List Word) (h : Head) (f : Frame) (result : GameResult) → Shown ts h f [] → MarksEnd h.tags marker result → Spelled (ts ++ marker)
-spelled_by ts marker h f result shown marks =
-    let out : Outermost h.start shown.begun f = outermost_line h.start shown.begun f shown.stack in
+spelled_by ts marker h f result state_of marks =
+    let out : Outermost h.start state_of.begun f = outermost_line h.start state_of.begun f state_of.stack in
     record {
-      game = game_told (tags_of shown.pairs) result h.start out.told;
+      game = game_of_tail (tags_of state_of.pairs) result h.start out.told;
       spells = record {
-        pairs = shown.pairs;
+        pairs = state_of.pairs;
         line = out.line;
         marker = marker;
-        joined = ap (λ x. x ++ marker) (shown.joined ∙ ap (λ x. heading_text shown.pairs ++ x) out.text_is) ∙ append_assoc (heading_text shown.pairs) (text out.line) marker;
-        heading = shown.has_heading.are_pairs;
+        joined = ap (λ x. x ++ marker) (state_of.joined ∙ ap (λ x. heading_text state_of.pairs ++ x) out.text_is) ∙ append_assoc (heading_text state_of.pairs) (text out.line) marker;
+        heading = state_of.has_heading.are_pairs;
         start = h.start;
-        starts = ap start_of (sym shown.has_heading.are_tags) ∙ shown.has_heading.starts;
+        starts = ap start_of (sym state_of.has_heading.are_tags) ∙ state_of.has_heading.starts;
         told = out.told;
         tells = out.tells;
         result = result;
-        marks = subst (λ x. MarksEnd x marker result) shown.has_heading.are_tags marks;
+        marks = subst (λ x. MarksEnd x marker result) state_of.has_heading.are_tags marks;
         game = refl;
       };
     }
 
 pub spelled_at : (ts : List Word) (h : Head) (f : Frame) → Shown ts h f [] → Spelled ts
-spelled_at ts h f shown = subst Spelled (append-nil ts) (spelled_by ts [] h f (result_of_tags h.tags) shown refl)
+spelled_at ts h f state_of = subst Spelled (append-nil ts) (spelled_by ts [] h f (result_of_tags h.tags) state_of refl)
 
 pub spelled_marked : (ts : List Word) (h : Head) (f : Frame) (result : GameResult) → Marked ts h f result → Spelled ts
-spelled_marked ts h f result m = subst Spelled (sym m.joined) (spelled_by m.before (m.marker ∷ []) h f result m.shown m.marks)
+spelled_marked ts h f result m = subst Spelled (sym m.joined) (spelled_by m.before (m.marker ∷ []) h f result m.state_of m.marks)
 
 -- tokens that are read to a game's end are spelled
 pub read_at : (ts : List Word) (h : Head) (f : Frame) → run first ts ≡ at h f [] → Spelled ts

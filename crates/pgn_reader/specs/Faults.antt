@@ -5,7 +5,7 @@ use Rattle.pgn_reader.specs.declared.fault.Reason.{Reason}
 use Rattle.pgn_reader.specs.declared.fault.Reason.TheVariants.{TooManyPositions}
 use Rattle.pgn_reader.specs.Words.{Word}
 use Rattle.pgn_reader.specs.Games.{SpellsAny}
-use Rattle.pgn_reader.specs.Standing.{Standing, StandsAt, fault_at, fault_at_end, moves_before}
+use Rattle.pgn_reader.specs.ReadingPlace.{ReadingPlace, IsReadingPlace, fault_at, fault_at_end, moves_before}
 use Rattle.pgn_reader.specs.Limits.{most_moves}
 
 -- some game, of however many positions, begins with the tokens
@@ -15,20 +15,20 @@ pub record Begins (ts : List Word) : Type 0 where
   pub spelled : SpellsAny (ts ++ more) game
 
 -- a token after some others: no game begins with it too, or its move makes one position too many
-pub record IsFaultOf (ts : List Word) (w : Word) (s : Standing) (reason : Reason) : Type 0 where
+pub record IsFaultOf (ts : List Word) (w : Word) (s : ReadingPlace) (reason : Reason) : Type 0 where
   pub why : fault_at s w ≡ Some reason
   pub dead : reason ≢ TooManyPositions → Begins (ts ++ w ∷ []) → ⊥
 
 -- the end of tokens with which some game begins, but which are none
-pub record IsFaultOfEnd (ts : List Word) (s : Standing) (reason : Reason) : Type 0 where
+pub record IsFaultOfEnd (ts : List Word) (s : ReadingPlace) (reason : Reason) : Type 0 where
   pub why : fault_at_end s ≡ Some reason
   pub dead : (g : Game) → SpellsAny ts g → ⊥
 
 -- The fault of tokens, after the first k of them, with which some game of at most 65,536 positions begins: the next token, or the end.
 pub record IsFault (ts : List Word) (k : ℕ) (reason : Reason) : Type 0 where
   pub alive : Begins (take k ts)
-  pub standing : Standing
-  pub stands : StandsAt (take k ts) standing
+  pub standing : ReadingPlace
+  pub stands : IsReadingPlace (take k ts) standing
   pub few : moves_before standing ≤ most_moves
   pub fault : ((w : Word) × (take (k + 1) ts ≡ take k ts ++ w ∷ []) × (k < length ts) × IsFaultOf (take k ts) w standing reason)
       ⊎ ((k ≡ length ts) × IsFaultOfEnd ts standing reason)

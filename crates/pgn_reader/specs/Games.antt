@@ -7,7 +7,7 @@ use Rattle.cq_position.specs.Games.{Node, Game, most_positions}
 use Rattle.cq_position.specs.Continuations.{nodes_from}
 use Rattle.pgn_reader.specs.Words.{Word, ends, sense}
 use Rattle.pgn_reader.specs.Tags.{Pair, IsPair, pair_text, Tags, tags_of, start_of, result_of_tags}
-use Rattle.pgn_reader.specs.Line.{Line, text, Told, Tells, beginning}
+use Rattle.pgn_reader.specs.Line.{Line, text, LineTail, ParsesLine, beginning}
 
 -- tag pairs, with the comments before each
 abbrev pub AreHeading : List Pair → Type 0
@@ -26,11 +26,11 @@ MarksEnd tags (w ∷ v ∷ ws) result = ⊥
 abbrev pub root : Board → List (List ℕ) → Node
 root start comments = record { parent = None; led_by = None; position = start; nags = []; comments = comments }
 
-abbrev pub nodes_told : Board → Told → List Node
-nodes_told start told = root start told.comments ∷ nodes_from 0 1 told.rest
+abbrev pub nodes_of_tail : Board → LineTail → List Node
+nodes_of_tail start told = root start told.comments ∷ nodes_from 0 1 told.rest
 
-abbrev pub game_told : Tags → GameResult → Board → Told → Game
-game_told tags result start told = record { tags = tags; result = result; nodes = nodes_told start told }
+abbrev pub game_of_tail : Tags → GameResult → Board → LineTail → Game
+game_of_tail tags result start told = record { tags = tags; result = result; nodes = nodes_of_tail start told }
 
 -- Tokens spell a game: tag pairs, a line from the position in which the game begins, and a marker that may be missing.
 pub record SpellsAny (ts : List Word) (g : Game) : Type 0 where
@@ -41,11 +41,11 @@ pub record SpellsAny (ts : List Word) (g : Game) : Type 0 where
   pub heading : AreHeading pairs
   pub start : Board
   pub starts : start_of (tags_of pairs) ≡ Ok start
-  pub told : Told
-  pub tells : Tells 0 (beginning start) line told
+  pub told : LineTail
+  pub tells : ParsesLine 0 (beginning start) line told
   pub result : GameResult
   pub marks : MarksEnd (tags_of pairs) marker result
-  pub game : g ≡ game_told (tags_of pairs) result start told
+  pub game : g ≡ game_of_tail (tags_of pairs) result start told
 
 -- a game has at most 65,536 positions
 pub record Spells (ts : List Word) (g : Game) : Type 0 where

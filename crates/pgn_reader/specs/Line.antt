@@ -22,42 +22,42 @@ text (word w rest) = w ∷ text rest
 text (variation opening inner closing rest) = opening ∷ (text inner ++ closing ∷ text rest)
 
 -- a place in a line: the position before the last move, none where the line has no move yet, and the position reached
-pub record Place : Type 0 where
+pub record LinePlace : Type 0 where
   pub before : Option Board
   pub reached : Board
 
-abbrev pub beginning : Board → Place
+abbrev pub beginning : Board → LinePlace
 beginning p = record { before = None; reached = p }
 
 -- the position after a legal move, or after the null move
 abbrev pub led_to : Board → Move → Board
 led_to p m = if m.null then after_pass p else after p m
 
-abbrev pub moved : Place → Move → Place
+abbrev pub moved : LinePlace → Move → LinePlace
 moved a m = record { before = Some a.reached; reached = led_to a.reached m }
 
 -- What the rest of a line tells, from a place in it on: the glyphs and the comments of the move before it, or, where there is none, of the
 -- line's first move; the variations that replace the move before it; what is played after it; and the place at which the line ends.
-pub record Told : Type 0 where
+pub record LineTail : Type 0 where
   pub nags : List ℕ
   pub comments : List (List ℕ)
   pub variations : Continuations
   pub rest : Continuations
-  pub end : Place
+  pub end : LinePlace
 
-abbrev pub nothing_told : Place → Told
-nothing_told a = record { nags = []; comments = []; variations = none; rest = none; end = a }
+abbrev pub empty_tail : LinePlace → LineTail
+empty_tail a = record { nags = []; comments = []; variations = none; rest = none; end = a }
 
 -- a glyph or a comment, and what stands after it
-abbrev pub glyph_told : ℕ → Told → Told
-glyph_told n t = record t { nags = n ∷ t.nags }
+abbrev pub tail_with_glyph : ℕ → LineTail → LineTail
+tail_with_glyph n t = record t { nags = n ∷ t.nags }
 
-abbrev pub remark_told : List ℕ → Told → Told
-remark_told c t = record t { comments = comment_of (words c) ++ t.comments }
+abbrev pub tail_with_comment : List ℕ → LineTail → LineTail
+tail_with_comment c t = record t { comments = comment_of (words c) ++ t.comments }
 
 -- a move to a place, and what stands after it: its own glyphs, comments and variations, and what is played after it
-abbrev pub move_told : Move → Board → Told → Told
-move_told m q t = record {
+abbrev pub tail_with_move : Move → Board → LineTail → LineTail
+tail_with_move m q t = record {
   nags = [];
   comments = [];
   variations = none;
@@ -71,31 +71,31 @@ beside none more = more
 beside (played p next others) more = played p next (beside others more)
 
 -- the glyphs and the comments at the beginning of a variation are its first move's, before that move's own
-abbrev pub noted : List ℕ → List (List ℕ) → Continuations → Continuations
-noted nags comments none = none
-noted nags comments (played p next others) = played (record p { nags = nags ++ p.nags; comments = comments ++ p.comments }) next others
+abbrev pub with_leading_notes : List ℕ → List (List ℕ) → Continuations → Continuations
+with_leading_notes nags comments none = none
+with_leading_notes nags comments (played p next others) = played (record p { nags = nags ++ p.nags; comments = comments ++ p.comments }) next others
 
-abbrev pub variation_told : Told → Told → Told
-variation_told v t = record t { variations = beside (noted v.nags v.comments v.rest) t.variations }
+abbrev pub tail_with_variation : LineTail → LineTail → LineTail
+tail_with_variation v t = record t { variations = beside (with_leading_notes v.nags v.comments v.rest) t.variations }
 
 -- what a token and the rest of its line tell: `b` is the place after it, and `u` what the rest tells
-abbrev pub TellsWord : ℕ → Place → Sense → Place → Told → Told → Type 0
-TellsWord depth a (plays m) b u t = (move : Move) × (san a.reached m ≡ Ok move) × (b ≡ moved a move) × (t ≡ move_told move b.reached u)
-TellsWord depth a (annotates n) b u t = (b ≡ a) × (t ≡ glyph_told n u)
-TellsWord depth a (remarks c) b u t = (b ≡ a) × (t ≡ remark_told c u)
-TellsWord depth a (ends result) b u t = (0 < depth) × (b ≡ a) × (t ≡ u)
-TellsWord depth a means_nothing b u t = (b ≡ a) × (t ≡ u)
-TellsWord depth a opens b u t = ⊥
-TellsWord depth a closes b u t = ⊥
-TellsWord depth a (out_of_place reason) b u t = ⊥
+abbrev pub ParsesWord : ℕ → LinePlace → Sense → LinePlace → LineTail → LineTail → Type 0
+ParsesWord depth a (plays m) b u t = (move : Move) × (san a.reached m ≡ Ok move) × (b ≡ moved a move) × (t ≡ tail_with_move move b.reached u)
+ParsesWord depth a (annotates n) b u t = (b ≡ a) × (t ≡ tail_with_glyph n u)
+ParsesWord depth a (remarks c) b u t = (b ≡ a) × (t ≡ tail_with_comment c u)
+ParsesWord depth a (ends result) b u t = (0 < depth) × (b ≡ a) × (t ≡ u)
+ParsesWord depth a means_nothing b u t = (b ≡ a) × (t ≡ u)
+ParsesWord depth a opens b u t = ⊥
+ParsesWord depth a closes b u t = ⊥
+ParsesWord depth a (out_of_place reason) b u t = ⊥
 
 -- What a line tells from a place on, within so many variations. A move is the one that its token means in the position reached. Glyphs and
 -- comments belong to the move before them. A variation stands somewhere after a move of its line, begins in the position before that move,
 -- and has a move; it is at most the hundredth level. A result within a variation means nothing.
-abbrev pub Tells : ℕ → Place → Line → Told → Type 0
-Tells depth a nothing t = t ≡ nothing_told a
-Tells depth a (word w rest) t = (b : Place) × (u : Told) × TellsWord depth a (sense w) b u t × Tells depth b rest u
-Tells depth a (variation opening inner closing rest) t =
+abbrev pub ParsesLine : ℕ → LinePlace → Line → LineTail → Type 0
+ParsesLine depth a nothing t = t ≡ empty_tail a
+ParsesLine depth a (word w rest) t = (b : LinePlace) × (u : LineTail) × ParsesWord depth a (sense w) b u t × ParsesLine depth b rest u
+ParsesLine depth a (variation opening inner closing rest) t =
     (p : Board) × (a.before ≡ Some p) × (depth < most_levels) × (sense opening ≡ opens) × (sense closing ≡ closes)
-    × (v : Told) × Tells (depth + 1) (beginning p) inner v × (q : Board) × (v.end.before ≡ Some q)
-    × (u : Told) × Tells depth a rest u × (t ≡ variation_told v u)
+    × (v : LineTail) × ParsesLine (depth + 1) (beginning p) inner v × (q : Board) × (v.end.before ≡ Some q)
+    × (u : LineTail) × ParsesLine depth a rest u × (t ≡ tail_with_variation v u)

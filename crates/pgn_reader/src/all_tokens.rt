@@ -1,11 +1,11 @@
 //! Reading the tokens of a game.
 ghost use Rattle.std.specs.Prelude.{◌≡◌, ◌<◌, ◌≤◌, ◌^◌, ℕ, Bool, List, length, IfOk, MatchOption};
 ghost use Rattle.pgn_reader.specs.Limits.{longest, most_moves};
-ghost use Rattle.pgn_reader.specs.Standing.{fault_at_end};
-ghost use Rattle.pgn_reader.specs.Arranged.{standing_of};
-ghost use Rattle.pgn_reader.specs.Shown.{shown, moves_in, IsLow, StepsOver};
-ghost use Rattle.pgn_reader.specs.Machine.{first as start_state};
-ghost use Rattle.pgn_reader.specs.Reading.{IsReading, IsWhole};
+ghost use Rattle.pgn_reader.specs.ReadingPlace.{fault_at_end};
+ghost use Rattle.pgn_reader.specs.Internal.GameAssembly.{reading_place_of};
+ghost use Rattle.pgn_reader.specs.Internal.ReaderView.{state_of, moves_in, IsLow, StepsOver};
+ghost use Rattle.pgn_reader.specs.Internal.Machine.{first as start_state};
+ghost use Rattle.pgn_reader.specs.Internal.Reading.{IsReading, IsWhole};
 ghost use Rattle.pgn_reader.specs.Verdict.{HasTokenFault};
 ghost use Rattle.pgn_reader.specs.Words.{words_of};
 
@@ -17,7 +17,7 @@ use std::alloc::Global;
 
 // Why the end is a fault, where it is one.
 fn fault_at_end(reader: &Reader) -> Option<Reason>
-    ensures { result ≡ fault_at_end (standing_of (shown reader.now)) }
+    ensures { result ≡ fault_at_end (reading_place_of (state_of reader.now)) }
 {
     match reader.phase {
         Phase::Movetext => {
@@ -34,9 +34,9 @@ fn fault_at_end(reader: &Reader) -> Option<Reason>
 
 // Reads a lexeme; an escape line is passed over.
 fn read_lexeme(reader: &mut Reader, alloc: Global, lexeme: &Lexeme) -> Result<(), Refusal<Reason>>
-    requires low { IsLow (shown reader.old) }
-    requires few { moves_in (shown reader.old) ≤ most_moves }
-    ensures { StepsOver (shown reader.old) lexeme.now.kind lexeme.now.text.now (shown reader.new) result }
+    requires low { IsLow (state_of reader.old) }
+    requires few { moves_in (state_of reader.old) ≤ most_moves }
+    ensures { StepsOver (state_of reader.old) lexeme.now.kind lexeme.now.text.now (state_of reader.new) result }
 {
     match lexeme.kind {
         LexemeKind::EscapeLine => Ok(()),
@@ -57,11 +57,11 @@ pub fn read_tokens(
 {
     let mut reader = Reader::new(alloc);
     let fault = read_all(&mut reader, alloc, bytes, start, first);
-    answer_of(reader, fault)
+    game_or_fault(reader, fault)
 }
 
 // A reader, or the fault that it met.
-fn answer_of(
+fn game_or_fault(
     reader: Reader,
     fault: Result<Option<GameFault>, NoMemory>,
 ) -> Result<Result<Reader, GameFault>, NoMemory>
@@ -85,7 +85,7 @@ fn read_all(
 ) -> Result<Option<GameFault>, NoMemory>
     requires size { length bytes.now ≤ longest }
     requires place { start < 2 ^ 62 }
-    requires new { shown reader.old ≡ start_state }
+    requires new { state_of reader.old ≡ start_state }
     ensures { IfOk result (λ fault. MatchOption fault (IsWhole (words_of start first bytes.now) reader.new)
         (λ f. HasTokenFault start first bytes.now f)) }
 {

@@ -3,10 +3,10 @@ ghost use Rattle.std.specs.Prelude.{◌≡◌, ◌<◌, [], ◌∷◌, ◌++◌,
 ghost use Rattle.cq_position.specs.Games.{IsTree};
 ghost use Rattle.cq_position.specs.Continuations.{node_of};
 ghost use Rattle.pgn_reader.specs.Games.{root};
-ghost use Rattle.pgn_reader.specs.Arranged.{way_on, nodes_by, nodes_of_rows};
-ghost use Rattle.pgn_reader.specs.Building.{IsNext};
+ghost use Rattle.pgn_reader.specs.Internal.GameAssembly.{path_down, nodes_by, nodes_of_rows};
+ghost use Rattle.pgn_reader.specs.Internal.Building.{IsNext};
 
-use crate::row::Row;
+use crate::node_row::NodeRow;
 use cq_common::NoMemory;
 use cq_position::GameResult;
 use pgn_tree::{Game, Tags};
@@ -18,7 +18,7 @@ pub fn game_of_rows(
     alloc: Global,
     tags: Tags,
     ending: GameResult,
-    rows: Vec<Row>,
+    rows: Vec<NodeRow>,
 ) -> Result<Game, NoMemory>
     requires rooted { 0 < length rows.items }
     requires tree { IsTree (nodes_of_rows rows.items) }
@@ -38,7 +38,7 @@ pub fn game_of_rows(
 }
 
 // The game of the root alone, which takes comments and no glyphs.
-fn game_at_root(alloc: Global, tags: Tags, ending: GameResult, first: Row) -> Result<Game, NoMemory>
+fn game_at_root(alloc: Global, tags: Tags, ending: GameResult, first: NodeRow) -> Result<Game, NoMemory>
     ensures { IfOk result (λ g. g ≡ record {
       tags = tags;
       result = ending;
@@ -51,7 +51,7 @@ fn game_at_root(alloc: Global, tags: Tags, ending: GameResult, first: Row) -> Re
 }
 
 // Adds the rows below the root. `way` has the numbers of the nodes on the way down from the root to the last node.
-fn add_rows(alloc: Global, game: &mut Game, rows: IntoIter<Row>) -> Result<(), NoMemory>
+fn add_rows(alloc: Global, game: &mut Game, rows: IntoIter<NodeRow>) -> Result<(), NoMemory>
     requires root { length game.old.nodes ≡ 1 }
     requires tree { IsTree (game.old.nodes ++ nodes_by (0 ∷ []) 1 rows.rest.items) }
     ensures { OnOk result (game.new ≡ record game.old { nodes = game.old.nodes ++ nodes_by (0 ∷ []) 1 rows.rest.items }) }
@@ -65,12 +65,12 @@ fn add_rows(alloc: Global, game: &mut Game, rows: IntoIter<Row>) -> Result<(), N
 }
 
 // Adds a row as the last node.
-fn add_row(game: &mut Game, way: &mut Vec<u32>, row: Row) -> Result<(), NoMemory>
+fn add_row(game: &mut Game, way: &mut Vec<u32>, row: NodeRow) -> Result<(), NoMemory>
     requires { IsNext game.old.nodes (slice_index way.old.items row.level) row.move }
     ensures node { OnOk result (game.new ≡ record game.old {
       nodes = game.old.nodes ++ node_of (slice_index way.old.items row.level) row.move ∷ [];
     }) }
-    ensures way { OnOk result (way.new.items ≡ way_on way.old.items row.level (length game.old.nodes)) }
+    ensures way { OnOk result (way.new.items ≡ path_down way.old.items row.level (length game.old.nodes)) }
 {
     let level = row.level() as usize;
     let (step, position) = (row.step(), *row.position());

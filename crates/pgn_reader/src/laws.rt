@@ -2,7 +2,7 @@
 ghost use Rattle.std.specs.Prelude.{◌≡◌, ◌+◌, ◌↔◌, ℕ, Bool, List, Result, take};
 ghost use Rattle.cq_position.specs.Games.{Game};
 ghost use Rattle.pgn_reader.specs.declared.fault.GameFault.{GameFault};
-ghost use Rattle.pgn_reader.specs.Elsewhere.{moved, AreSameTokens};
+ghost use Rattle.pgn_reader.specs.MovedTokens.{moved, AreSameTokens};
 ghost use Rattle.pgn_reader.specs.Limits.{longest};
 ghost use Rattle.pgn_reader.specs.Verdict.{IsRead};
 
@@ -20,14 +20,14 @@ pub fn games_have_one_outcome()
 {}
 
 /// The tokens decide: as many bytes that stand elsewhere and are the same tokens are the same game, or have the same fault there.
-#[tactic(auto, using(crate::proofs::Elsewhere::decided))]
+#[tactic(auto, using(crate::proofs::MovedTokens::decided))]
 pub fn tokens_decide()
     ensures { (n start : ℕ) (first other_first : Bool) (bytes other : List ℕ) → AreSameTokens n start first bytes other_first other →
         (outcome : Result Game GameFault) → IsRead start first bytes outcome ↔ IsRead (start + n) other_first other (moved n outcome) }
 {}
 
 /// A game is read from its first 2^24 + 1 bytes as from all of them.
-#[tactic(auto, using(crate::proofs::Elsewhere::first_bytes))]
+#[tactic(auto, using(crate::proofs::MovedTokens::first_bytes))]
 pub fn first_bytes_decide()
     ensures { (start : ℕ) (first : Bool) (bytes : List ℕ) (outcome : Result Game GameFault) →
         IsRead start first (take (longest + 1) bytes) outcome ↔ IsRead start first bytes outcome }

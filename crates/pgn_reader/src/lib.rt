@@ -7,7 +7,7 @@ mod fault;
 mod laws;
 mod line;
 mod preface;
-mod row;
+mod node_row;
 mod text;
 mod token_machine;
 mod whole_game;

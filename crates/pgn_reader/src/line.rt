@@ -1,10 +1,10 @@
 //! A line that is being read.
 ghost use Rattle.std.specs.Prelude.{◌≡◌, ◌<◌, ◌+◌, ◌^◌, ◌++◌, OnOk, IfOk};
 ghost use Rattle.pgn_tree.specs.Words.{without_braces};
-ghost use Rattle.pgn_reader.specs.Frame.{begin, begin_game, advance, with_last_kept, with_variations_kept, annotated, remarked, with_variation, node_of_last, whole};
-ghost use Rattle.pgn_reader.specs.LineInside.{backwards};
+ghost use Rattle.pgn_reader.specs.Internal.Frame.{begin, begin_game, advance, with_last_kept, with_variations_kept, with_glyph, with_remark, with_variation, node_of_last, whole};
+ghost use Rattle.pgn_reader.specs.Internal.LineInside.{backwards};
 
-use crate::row::Row;
+use crate::node_row::NodeRow;
 use cq_common::NoMemory;
 use cq_position::{Move, Position};
 use pgn_tree::Notes;
@@ -25,17 +25,17 @@ pub struct Line {
     next: u32,
     last: Option<Move>,
     notes: Notes,
-    moves: Vec<Row>,
-    here: Vec<Row>,
-    earlier: Vec<Vec<Row>>,
+    moves: Vec<NodeRow>,
+    here: Vec<NodeRow>,
+    earlier: Vec<Vec<NodeRow>>,
 }
 
 impl Model for Line {
-    ghost use Rattle.pgn_reader.specs.Frame.{Frame};
+    ghost use Rattle.pgn_reader.specs.Internal.Frame.{Frame};
 
     ghost Value = { Frame };
 
-    ghost use Rattle.pgn_reader.specs.LineInside.{line_inside};
+    ghost use Rattle.pgn_reader.specs.Internal.LineInside.{line_inside};
 
     ghost view = { line_inside };
 }
@@ -94,14 +94,14 @@ impl Line {
 
     /// One glyph more.
     pub fn add_nag(&mut self, nag: u8) -> Result<(), NoMemory>
-        ensures { OnOk result (self.new ≡ annotated self.old nag) }
+        ensures { OnOk result (self.new ≡ with_glyph self.old nag) }
     {
         self.notes.add_nag(nag)
     }
 
     /// One comment more.
     pub fn add_comment(&mut self, text: &[u8]) -> Result<(), NoMemory>
-        ensures { OnOk result (self.new ≡ remarked self.old (without_braces text.now)) }
+        ensures { OnOk result (self.new ≡ with_remark self.old (without_braces text.now)) }
     {
         self.notes.add_comment(text)
     }
@@ -124,7 +124,7 @@ impl Line {
             self.make_room()?;
             let notes = mem::replace(&mut self.notes, Notes::new(alloc));
             self.moves
-                .push(Row::new(self.level, last, self.reached, notes))?;
+                .push(NodeRow::new(self.level, last, self.reached, notes))?;
         }
         Ok(())
     }
@@ -165,7 +165,7 @@ impl Line {
     }
 
     /// Its nodes in preorder.
-    pub fn into_rows(self) -> Result<Vec<Row>, NoMemory>
+    pub fn into_rows(self) -> Result<Vec<NodeRow>, NoMemory>
         ensures { IfOk result (λ rows. rows.items ≡ whole self) }
     {
         let mut rows = self.moves;
@@ -178,7 +178,7 @@ impl Line {
 
 // Adds the node of a line's last move, if it has one.
 fn push_last(
-    rows: &mut Vec<Row>,
+    rows: &mut Vec<NodeRow>,
     level: u32,
     last: Option<Move>,
     reached: Position,
@@ -187,13 +187,13 @@ fn push_last(
     ensures { OnOk result (rows.new.items ≡ rows.old.items ++ node_of_last level last reached notes) }
 {
     if let Some(last) = last {
-        rows.push(Row::new(level, last, reached, notes))?;
+        rows.push(NodeRow::new(level, last, reached, notes))?;
     }
     Ok(())
 }
 
 // Adds all rows.
-fn push_all(rows: &mut Vec<Row>, more: Vec<Row>) -> Result<(), NoMemory>
+fn push_all(rows: &mut Vec<NodeRow>, more: Vec<NodeRow>) -> Result<(), NoMemory>
     ensures { OnOk result (rows.new.items ≡ rows.old.items ++ more.items) }
 {
     for row in more {
@@ -203,7 +203,7 @@ fn push_all(rows: &mut Vec<Row>, more: Vec<Row>) -> Result<(), NoMemory>
 }
 
 // Adds the rows of all groups, those of the last group first.
-fn push_groups(rows: &mut Vec<Row>, groups: Vec<Vec<Row>>) -> Result<(), NoMemory>
+fn push_groups(rows: &mut Vec<NodeRow>, groups: Vec<Vec<NodeRow>>) -> Result<(), NoMemory>
     ensures { OnOk result (rows.new.items ≡ rows.old.items ++ backwards (λ group. group.items) groups.items) }
 {
     for group in groups.into_iter().rev() {

@@ -2,7 +2,7 @@
 ghost use Rattle.std.specs.Prelude.{◌≡◌, []};
 ghost use Rattle.cq_position.specs.Board.{start_board};
 ghost use Rattle.cq_position.specs.Games.{with_tag};
-ghost use Rattle.pgn_reader.specs.Preface.{IsAdded};
+ghost use Rattle.pgn_reader.specs.Internal.Preface.{IsAdded};
 ghost use Rattle.pgn_reader.specs.Tags.{start_of};
 
 use cq_common::{NoMemory, Refusal};
@@ -19,12 +19,12 @@ pub struct Preface {
 }
 
 impl Model for Preface {
-    ghost use Rattle.pgn_reader.specs.Preface.{Preface};
+    ghost use Rattle.pgn_reader.specs.Internal.Preface.{Preface};
 
     ghost Value = { Preface };
 
     ghost use Rattle.std.specs.Prelude.{◌≡◌, Ok};
-    ghost use Rattle.pgn_reader.specs.PrefaceInside.{preface_inside};
+    ghost use Rattle.pgn_reader.specs.Internal.PrefaceInside.{preface_inside};
     ghost use Rattle.pgn_reader.specs.Tags.{start_of};
 
     ghost view = { preface_inside };

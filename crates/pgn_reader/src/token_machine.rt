@@ -11,10 +11,10 @@ ghost use Rattle.pgn_tree.specs.Words.{without_braces};
 ghost use Rattle.pgn_reader.specs.Tags.{start_of, value_of, unescaped};
 ghost use Rattle.pgn_reader.specs.Limits.{most_moves};
 ghost use Rattle.pgn_reader.specs.Line.{led_to};
-ghost use Rattle.pgn_reader.specs.Standing.{fault_at, movetext_fault, move_fault, variation_fault, end_of_variation_fault, misplaced_fault, tag_reason, name_fault, value_fault, closing_fault, marker_fault, san_reason};
-ghost use Rattle.pgn_reader.specs.Machine.{first, feed, on_name, on_value, on_closing, on_move, on_marker, on_opening, on_end, on_bracket, on_sense};
-ghost use Rattle.pgn_reader.specs.Arranged.{standing_of};
-ghost use Rattle.pgn_reader.specs.Shown.{shown, moves_in, IsSenseStep, Steps, IsLow};
+ghost use Rattle.pgn_reader.specs.ReadingPlace.{fault_at, movetext_fault, move_fault, variation_fault, end_of_variation_fault, misplaced_fault, tag_reason, name_fault, value_fault, closing_fault, marker_fault, san_reason};
+ghost use Rattle.pgn_reader.specs.Internal.Machine.{first, feed, on_name, on_value, on_closing, on_move, on_marker, on_opening, on_end, on_bracket, on_sense};
+ghost use Rattle.pgn_reader.specs.Internal.GameAssembly.{reading_place_of};
+ghost use Rattle.pgn_reader.specs.Internal.ReaderView.{state_of, moves_in, IsSenseStep, Steps, IsLow};
 
 use crate::fault::Reason;
 use crate::line::Line;
@@ -113,7 +113,7 @@ fn marker_reason(kind: TokenKind) -> Reason
 impl Reader {
     /// Nothing is read yet.
     pub fn new(alloc: Global) -> Reader
-        ensures { shown result ≡ first }
+        ensures { state_of result ≡ first }
     {
         let preface = Preface::new(alloc);
         let start = *preface.start();
@@ -310,7 +310,7 @@ impl Reader {
         text: &[u8],
     ) -> Result<(), Refusal<Reason>>
         requires phase { self.old.phase ≡ Phase.Opened }
-        ensures { Steps (on_name self.old.preface.tags kind text.now) (name_fault kind) (shown self.new) result }
+        ensures { Steps (on_name self.old.preface.tags kind text.now) (name_fault kind) (state_of self.new) result }
     {
         match kind {
             TokenKind::Symbol => {
@@ -331,7 +331,7 @@ impl Reader {
     ) -> Result<(), Refusal<Reason>>
         requires phase { self.old.phase ≡ Phase.Named }
         ensures { Steps (on_value (with_tag self.old.preface.tags self.old.name.items (value_of text.now)) kind)
-            (value_fault kind (start_of (with_tag self.old.preface.tags self.old.name.items (value_of text.now)))) (shown self.new) result }
+            (value_fault kind (start_of (with_tag self.old.preface.tags self.old.name.items (value_of text.now)))) (state_of self.new) result }
     {
         match kind {
             TokenKind::Text => {
@@ -353,7 +353,7 @@ impl Reader {
     // The bracket that closes a tag pair. The comments before it are dropped.
     fn read_closing(&mut self, alloc: Global, kind: TokenKind) -> Result<(), Refusal<Reason>>
         requires phase { self.old.phase ≡ Phase.Valued }
-        ensures { Steps (on_closing self.old.preface.tags self.old.preface.start kind) (closing_fault kind) (shown self.new) result }
+        ensures { Steps (on_closing self.old.preface.tags self.old.preface.start kind) (closing_fault kind) (state_of self.new) result }
     {
         match kind {
             TokenKind::Close => {
@@ -369,17 +369,17 @@ impl Reader {
     }
 
     /// Reads a token, or answers why no game goes on with it.
-    #[tactic(auto, unfolding(crate::specs::Machine::feed, crate::specs::Words::sense))]
+    #[tactic(auto, unfolding(crate::specs::Internal::Machine::feed, crate::specs::Words::sense))]
     pub fn feed(
         &mut self,
         alloc: Global,
         kind: TokenKind,
         text: &[u8],
     ) -> Result<(), Refusal<Reason>>
-        requires low { IsLow (shown self.old) }
-        requires few { moves_in (shown self.old) ≤ most_moves }
-        ensures { Steps (feed (shown self.old) (record { kind = kind; text = text.now }))
-            (fault_at (standing_of (shown self.old)) (record { kind = kind; text = text.now })) (shown self.new) result }
+        requires low { IsLow (state_of self.old) }
+        requires few { moves_in (state_of self.old) ≤ most_moves }
+        ensures { Steps (feed (state_of self.old) (record { kind = kind; text = text.now }))
+            (fault_at (reading_place_of (state_of self.old)) (record { kind = kind; text = text.now })) (state_of self.new) result }
     {
         match self.phase {
             Phase::Movetext => self.read_movetext(alloc, kind, text),

@@ -2,7 +2,7 @@
 ghost use Rattle.std.specs.Prelude.{◌≡◌, ◌<◌, ◌+◌, ◌^◌, List, length, Err, IfOk};
 ghost use Rattle.pgn_reader.specs.Words.{Word};
 ghost use Rattle.pgn_reader.specs.Tags.{result_of_tags};
-ghost use Rattle.pgn_reader.specs.Reading.{IsWhole, ending_by, game_of};
+ghost use Rattle.pgn_reader.specs.Internal.Reading.{IsWhole, ending_by, game_of};
 ghost use Rattle.cq_common.specs.declared.faults.Refusal.TheVariants.{Fault as IsFault};
 ghost use Rattle.pgn_reader.specs.declared.fault.Reason.TheVariants.{GameTooLong as IsTooLong};
 ghost use Rattle.pgn_reader.specs.Limits.{longest};

@@ -8,10 +8,10 @@ use Rattle.cq_position.specs.declared.moves.Move.{Move}
 use Rattle.cq_position.specs.Games.{Node, node_at, numbers, is_number, is_child_of, children, first_child, is_later_sibling, next_sibling, IsLastSibling, IsTree}
 use Rattle.cq_position.proofs.Trees.{tree_first}
 use Rattle.pgn_tree.proofs.Found.{find_none, find_some}
-use Rattle.pgn_tree.specs.Links.{Linked, linked_at, nodes_of, IsLinkedTree}
+use Rattle.pgn_tree.specs.Links.{LinkedNode, linked_at, nodes_of, IsLinkedTree}
 use Rattle.pgn_tree.proofs.Linking.{node_of}
 use Rattle.pgn_tree.proofs.Changed.{within_items}
-use Rattle.pgn_tree.proofs.Linked.{number_is, child_within, read_at}
+use Rattle.pgn_tree.proofs.LinkedNode.{number_is, child_within, read_at}
 
 root_or_not : (k : ℕ) → (k ≡ 0) ⊎ (0 < k)
 root_or_not k = grind arith
@@ -110,7 +110,7 @@ module _ (nodes : List Node) (tree : IsTree nodes) where
       )
 
 -- what is read at a node
-module _ (items : List Linked) (nodes : List Node) (same : nodes_of items ≡ nodes) (kept : IsLinkedTree items) (k : ℕ) (h : k < length nodes) (y : Linked) (y_is : y ≡ get_or items k y) where
+module _ (items : List LinkedNode) (nodes : List Node) (same : nodes_of items ≡ nodes) (kept : IsLinkedTree items) (k : ℕ) (h : k < length nodes) (y : LinkedNode) (y_is : y ≡ get_or items k y) where
   tree_is : IsTree nodes
   tree_is = subst IsTree same kept.tree
 

@@ -7,12 +7,12 @@ use Rattle.std.proofs.Math.ListN.{length-set}
 use Rattle.cq_position.specs.Games.{Node, node_at, is_number, is_child_of, first_child, is_later_sibling, next_sibling, is_first_child_of, is_main, with_node, IsSamePlace}
 use Rattle.cq_position.proofs.Ancestors.{way_same}
 use Rattle.cq_position.proofs.Trees.{same_tree, same_place, tree_first}
-use Rattle.pgn_tree.specs.Links.{Linked, linked_at, nodes_of, IsSameLinked, IsLastChild, IsLinkedTree}
+use Rattle.pgn_tree.specs.Links.{LinkedNode, linked_at, nodes_of, IsSameLinked, IsLastChild, IsLinkedTree}
 use Rattle.pgn_tree.proofs.Linking.{nodes_of_set, length_nodes_of, node_of, same_or_not}
 use Rattle.pgn_tree.proofs.MainLine.{in_line}
-use Rattle.pgn_tree.proofs.Linked.{read_at}
+use Rattle.pgn_tree.proofs.LinkedNode.{read_at}
 
-module _ (a b : List Linked) (len : length a ≡ length b) (same : (m : ℕ) → IsSameLinked (linked_at a m) (linked_at b m)) (kept : IsLinkedTree a) where
+module _ (a b : List LinkedNode) (len : length a ≡ length b) (same : (m : ℕ) → IsSameLinked (linked_at a m) (linked_at b m)) (kept : IsLinkedTree a) where
   counts : length (nodes_of a) ≡ length (nodes_of b)
   counts = length_nodes_of a ∙ len ∙ sym (length_nodes_of b)
 
@@ -59,7 +59,7 @@ module _ (a b : List Linked) (len : length a ≡ length b) (same : (m : ℕ) →
     };
   }
 
-same_linked : (x y : Linked) → x ≡ y → IsSameLinked x y
+same_linked : (x y : LinkedNode) → x ≡ y → IsSameLinked x y
 same_linked x y is = record {
   place = same_place x.node y.node (ap (λ z. z.node) is);
   first_child = ap (λ z. z.first_child) is;
@@ -69,7 +69,7 @@ same_linked x y is = record {
 }
 
 -- one node that changes so
-pub kept_set : (items : List Linked) (k : ℕ) (old new : Linked) → k < length items → old ≡ get_or items k old → IsSameLinked old new → IsLinkedTree items → IsLinkedTree (slice_set items k new)
+pub kept_set : (items : List LinkedNode) (k : ℕ) (old new : LinkedNode) → k < length items → old ≡ get_or items k old → IsSameLinked old new → IsLinkedTree items → IsLinkedTree (slice_set items k new)
 kept_set items k old new h old_is same kept =
     kept_same items (slice_set items k new) (sym (length-set items k new))
     (λ m. ⊎_elim
@@ -79,11 +79,11 @@ kept_set items k old new h old_is same kept =
     (same_or_not m k))
     kept
 
-pub within_items : (items : List Linked) (k : ℕ) → {nodes : List Node} → nodes_of items ≡ nodes → k < length nodes → k < length items
+pub within_items : (items : List LinkedNode) (k : ℕ) → {nodes : List Node} → nodes_of items ≡ nodes → k < length nodes → k < length items
 within_items items k same h = let len = length_nodes_of items in let counts = ap length same in omega (arith, h, len, counts)
 
 -- the nodes after a change of one
-pub nodes_set : (items : List Linked) (k : ℕ) (old new : Linked) (change : Node → Node) → {nodes : List Node} → nodes_of items ≡ nodes
+pub nodes_set : (items : List LinkedNode) (k : ℕ) (old new : LinkedNode) (change : Node → Node) → {nodes : List Node} → nodes_of items ≡ nodes
     → k < length nodes → old ≡ get_or items k old → new.node ≡ change old.node
     → nodes_of (slice_set items k new) ≡ with_node nodes k change
 nodes_set items k old new change same h old_is new_is =

@@ -4,7 +4,7 @@ pub mod Found
 pub mod Children
 pub mod MainLine
 pub mod Linking
-pub mod Linked
+pub mod LinkedNode
 pub mod Changed
 pub mod Words
 pub mod Parts

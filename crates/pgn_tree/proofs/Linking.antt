@@ -4,23 +4,23 @@ use Rattle.std.specs.Prelude.{slice_set}
 use Rattle.std.proofs.lemmas.List.{get_or-set_same, get_or-set_other}
 use Rattle.std.proofs.Math.ListN.{length-set}
 use Rattle.cq_position.specs.Games.{no_node, node_at}
-use Rattle.pgn_tree.specs.Links.{Linked, linked_at, nodes_of, with_linked, with_first_child, with_last_child, with_next_sibling, with_link}
+use Rattle.pgn_tree.specs.Links.{LinkedNode, linked_at, nodes_of, with_linked, with_first_child, with_last_child, with_next_sibling, with_link}
 
-pub length_nodes_of : (items : List Linked) → length (nodes_of items) ≡ length items
+pub length_nodes_of : (items : List LinkedNode) → length (nodes_of items) ≡ length items
 length_nodes_of [] = refl
 length_nodes_of (x ∷ xs) = ap suc (length_nodes_of xs)
 
-pub node_of : (items : List Linked) (k : ℕ) → node_at (nodes_of items) k ≡ (linked_at items k).node
+pub node_of : (items : List LinkedNode) (k : ℕ) → node_at (nodes_of items) k ≡ (linked_at items k).node
 node_of [] k = refl
 node_of (x ∷ xs) zero = refl
 node_of (x ∷ xs) (suc k) = node_of xs k
 
-pub nodes_of_set : (items : List Linked) (k : ℕ) (x : Linked) → nodes_of (slice_set items k x) ≡ slice_set (nodes_of items) k x.node
+pub nodes_of_set : (items : List LinkedNode) (k : ℕ) (x : LinkedNode) → nodes_of (slice_set items k x) ≡ slice_set (nodes_of items) k x.node
 nodes_of_set [] k x = refl
 nodes_of_set (y ∷ ys) zero x = refl
 nodes_of_set (y ∷ ys) (suc k) x = ap (λ l. y.node ∷ l) (nodes_of_set ys k x)
 
-pub nodes_of_push : (items : List Linked) (x : Linked) → nodes_of (items ++ x ∷ []) ≡ nodes_of items ++ x.node ∷ []
+pub nodes_of_push : (items : List LinkedNode) (x : LinkedNode) → nodes_of (items ++ x ∷ []) ≡ nodes_of items ++ x.node ∷ []
 nodes_of_push [] x = refl
 nodes_of_push (y ∷ ys) x = ap (λ l. y.node ∷ l) (nodes_of_push ys x)
 
@@ -30,13 +30,13 @@ set_same (x ∷ xs) zero d = refl
 set_same (x ∷ xs) (suc i) d = ap (λ l. x ∷ l) (set_same xs i d)
 
 -- a change of links leaves the nodes
-nodes_stay : (items : List Linked) (k : ℕ) (change : Linked → Linked) → ((y : Linked) → (change y).node ≡ y.node) → nodes_of (with_linked items k change) ≡ nodes_of items
+nodes_stay : (items : List LinkedNode) (k : ℕ) (change : LinkedNode → LinkedNode) → ((y : LinkedNode) → (change y).node ≡ y.node) → nodes_of (with_linked items k change) ≡ nodes_of items
 nodes_stay items k change same =
     nodes_of_set items k (change (linked_at items k))
     ∙ ap (slice_set (nodes_of items) k) (same (linked_at items k) ∙ sym (node_of items k))
     ∙ set_same (nodes_of items) k no_node
 
-pub linked_nodes : (items : List Linked) (o : Option ℕ) (parent k : ℕ) → nodes_of (with_linked (with_link items o parent k) parent (with_last_child k)) ≡ nodes_of items
+pub linked_nodes : (items : List LinkedNode) (o : Option ℕ) (parent k : ℕ) → nodes_of (with_linked (with_link items o parent k) parent (with_last_child k)) ≡ nodes_of items
 linked_nodes items None parent k =
     nodes_stay (with_link items None parent k) parent (with_last_child k) (λ y. refl) ∙ nodes_stay items parent (with_first_child k) (λ y. refl)
 linked_nodes items (Some l) parent k =
@@ -46,29 +46,29 @@ pub same_or_not : (k j : ℕ) → (k ≡ j) ⊎ (k ≢ j)
 same_or_not k j = grind arith
 
 -- at the place of a change, and elsewhere
-changed : (items : List Linked) (k : ℕ) (change : Linked → Linked) → k < length items → linked_at (with_linked items k change) k ≡ change (linked_at items k)
+changed : (items : List LinkedNode) (k : ℕ) (change : LinkedNode → LinkedNode) → k < length items → linked_at (with_linked items k change) k ≡ change (linked_at items k)
 changed items k change h = get_or-set_same items k (change (linked_at items k)) _ h
 
-unchanged : (items : List Linked) (k m : ℕ) (change : Linked → Linked) → m ≢ k → linked_at (with_linked items k change) m ≡ linked_at items m
+unchanged : (items : List LinkedNode) (k m : ℕ) (change : LinkedNode → LinkedNode) → m ≢ k → linked_at (with_linked items k change) m ≡ linked_at items m
 unchanged items k m change differ = get_or-set_other items k m (change (linked_at items k)) _ differ
 
 -- a field that the change leaves
-left : {X : Type 0} (field : Linked → X) (items : List Linked) (k m : ℕ) (change : Linked → Linked) → ((y : Linked) → field (change y) ≡ field y) → k < length items
+left : {X : Type 0} (field : LinkedNode → X) (items : List LinkedNode) (k m : ℕ) (change : LinkedNode → LinkedNode) → ((y : LinkedNode) → field (change y) ≡ field y) → k < length items
     → field (linked_at (with_linked items k change) m) ≡ field (linked_at items m)
 left field items k m change same h = ⊎_elim
     (λ at. ap (λ i. field (linked_at (with_linked items k change) i)) at ∙ ap field (changed items k change h) ∙ same (linked_at items k) ∙ ap (λ i. field (linked_at items i)) (sym at))
     (λ differ. ap field (unchanged items k m change differ))
     (same_or_not m k)
 
-length_with : (items : List Linked) (k : ℕ) (change : Linked → Linked) → length (with_linked items k change) ≡ length items
+length_with : (items : List LinkedNode) (k : ℕ) (change : LinkedNode → LinkedNode) → length (with_linked items k change) ≡ length items
 length_with items k change = length-set items k (change (linked_at items k))
 
-length_link : (items : List Linked) (o : Option ℕ) (parent k : ℕ) → length (with_link items o parent k) ≡ length items
+length_link : (items : List LinkedNode) (o : Option ℕ) (parent k : ℕ) → length (with_link items o parent k) ≡ length items
 length_link items None parent k = length_with items parent (with_first_child k)
 length_link items (Some l) parent k = length_with items l (with_next_sibling k)
 
-module _ (items : List Linked) (parent k : ℕ) (h : parent < length items) where
-  unfoldable pub after : Option ℕ → List Linked
+module _ (items : List LinkedNode) (parent k : ℕ) (h : parent < length items) where
+  unfoldable pub after : Option ℕ → List LinkedNode
   after o = with_linked (with_link items o parent k) parent (with_last_child k)
 
   in_link : (o : Option ℕ) → parent < length (with_link items o parent k)

@@ -7,7 +7,7 @@ use Rattle.std.proofs.Math.Seq.{drop-append_seam}
 use Rattle.cq_position.specs.Comments.{words, comment_of}
 use Rattle.cq_position.specs.Games.{IsComment}
 use Rattle.cq_position.proofs.Comments.{comments_kept}
-use Rattle.pgn_tree.specs.Comments.{parts, start_of, AreEnds, AreComments}
+use Rattle.pgn_tree.specs.Internal.Comments.{parts, start_of, AreEnds, AreComments}
 use Rattle.pgn_tree.specs.Words.{without_braces}
 use Rattle.pgn_tree.proofs.Words.{no_comment, one_comment, no_brace_left}
 

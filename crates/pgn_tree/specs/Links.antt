@@ -3,7 +3,7 @@ use Rattle.std.specs.Prelude.{◌≡◌, ℕ, ◌<◌, ◌≤◌, Bool, true, fa
 use Rattle.cq_position.specs.Games.{Node, no_node, IsSamePlace, IsTree, HaveNotes, is_child_of, first_child, next_sibling, is_main}
 
 -- a node with its first and its last child, its next sibling, and whether it is of the main line
-pub record Linked : Type 0 where
+pub record LinkedNode : Type 0 where
   pub node : Node
   pub first_child : Option ℕ
   pub last_child : Option ℕ
@@ -11,17 +11,17 @@ pub record Linked : Type 0 where
   pub main : Bool
 
 -- a node without children and siblings
-abbrev pub unlinked : Node → Bool → Linked
+abbrev pub unlinked : Node → Bool → LinkedNode
 unlinked node main = record { node = node; first_child = None; last_child = None; next_sibling = None; main = main }
 
-abbrev pub linked_at : List Linked → ℕ → Linked
+abbrev pub linked_at : List LinkedNode → ℕ → LinkedNode
 linked_at items n = slice_index_or items n (unlinked no_node false)
 
-abbrev pub nodes_of : List Linked → List Node
+abbrev pub nodes_of : List LinkedNode → List Node
 nodes_of items = map (λ x. x.node) items
 
 -- the same but for numeric annotation glyphs and comments
-pub record IsSameLinked (a b : Linked) : Type 0 where
+pub record IsSameLinked (a b : LinkedNode) : Type 0 where
   pub place : IsSamePlace a.node b.node
   pub first_child : a.first_child ≡ b.first_child
   pub last_child : a.last_child ≡ b.last_child
@@ -34,39 +34,39 @@ pub record IsLastChild (nodes : List Node) (n : ℕ) (last : Option ℕ) : Type 
   pub after : (k : ℕ) → is_child_of nodes n k ≡ true → (l : ℕ) × (last ≡ Some l) × (k ≤ l)
 
 -- the links are those of the nodes
-pub record AreLinks (items : List Linked) : Type 0 where
+pub record AreLinks (items : List LinkedNode) : Type 0 where
   pub first_child : (n : ℕ) → n < length items → (linked_at items n).first_child ≡ first_child (nodes_of items) n
   pub last_child : (n : ℕ) → n < length items → IsLastChild (nodes_of items) n (linked_at items n).last_child
   pub next_sibling : (n : ℕ) → n < length items → (linked_at items n).next_sibling ≡ next_sibling (nodes_of items) n
   pub main : (n : ℕ) → n < length items → (linked_at items n).main ≡ is_main (nodes_of items) n
 
 -- the nodes are a tree, and the links theirs
-pub record IsLinkedTree (items : List Linked) : Type 0 where
+pub record IsLinkedTree (items : List LinkedNode) : Type 0 where
   pub tree : IsTree (nodes_of items)
   pub links : AreLinks items
 
 -- and the notes of each node are those that a game keeps
-pub record IsKept (items : List Linked) : Type 0 where
+pub record HasKeptAnnotations (items : List LinkedNode) : Type 0 where
   pub linked : IsLinkedTree items
   pub notes : HaveNotes (nodes_of items)
 
 -- one node changes
-abbrev pub with_linked : List Linked → ℕ → (Linked → Linked) → List Linked
+abbrev pub with_linked : List LinkedNode → ℕ → (LinkedNode → LinkedNode) → List LinkedNode
 with_linked items n change = slice_set items n (change (linked_at items n))
 
-abbrev pub with_first_child : ℕ → Linked → Linked
+abbrev pub with_first_child : ℕ → LinkedNode → LinkedNode
 with_first_child k x = record x { first_child = Some k }
 
-abbrev pub with_last_child : ℕ → Linked → Linked
+abbrev pub with_last_child : ℕ → LinkedNode → LinkedNode
 with_last_child k x = record x { last_child = Some k }
 
-abbrev pub with_next_sibling : ℕ → Linked → Linked
+abbrev pub with_next_sibling : ℕ → LinkedNode → LinkedNode
 with_next_sibling k x = record x { next_sibling = Some k }
 
 -- a new last node, number k, is the next sibling of the last child before it, or else the first child of its parent
-abbrev pub with_link : List Linked → Option ℕ → (parent k : ℕ) → List Linked
+abbrev pub with_link : List LinkedNode → Option ℕ → (parent k : ℕ) → List LinkedNode
 with_link items None parent k = with_linked items parent (with_first_child k)
 with_link items (Some last) parent k = with_linked items last (with_next_sibling k)
 
-abbrev pub linked : List Linked → (parent k : ℕ) → List Linked
+abbrev pub linked : List LinkedNode → (parent k : ℕ) → List LinkedNode
 linked items parent k = with_linked (with_link items (linked_at items parent).last_child parent k) parent (with_last_child k)

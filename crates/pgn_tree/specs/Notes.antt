@@ -5,16 +5,16 @@ use Rattle.cq_position.specs.Board.{Board}
 use Rattle.cq_position.specs.Games.{Node, glyph_numbers, IsComment}
 
 -- numeric annotation glyphs and comments
-pub record Noted : Type 0 where
+pub record Annotations : Type 0 where
   pub nags : List ℕ
   pub comments : List (List ℕ)
 
 -- what a game keeps of them
-pub record AreKept (n : Noted) : Type 0 where
+pub record AreKeptAnnotations (n : Annotations) : Type 0 where
   pub nags : All (λ nag. nag < glyph_numbers) n.nags
   pub comments : All IsComment n.comments
 
 -- a node with its notes
-abbrev pub noted_node : Option ℕ → Option Move → Board → Noted → Node
-noted_node parent led_by position notes =
+abbrev pub annotated_node : Option ℕ → Option Move → Board → Annotations → Node
+annotated_node parent led_by position notes =
     record { parent = parent; led_by = led_by; position = position; nags = notes.nags; comments = notes.comments }

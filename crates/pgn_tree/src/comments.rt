@@ -2,10 +2,10 @@
 ghost use Rattle.std.specs.Prelude.{◌≡◌, ◌<◌, [], ◌++◌, length, slice_index_or, All, IfOk, OnOk, OnErr};
 ghost use Rattle.cq_position.specs.Comments.{words, comment_of};
 ghost use Rattle.cq_position.specs.Games.{IsComment};
-ghost use Rattle.pgn_tree.specs.Comments.{start_of};
+ghost use Rattle.pgn_tree.specs.Internal.Comments.{start_of};
 ghost use Rattle.pgn_tree.specs.Words.{without_braces};
 
-use crate::comment::push_words;
+use crate::comment_words::push_words;
 use cq_common::NoMemory;
 use std::alloc::Global;
 use std::marker::Model;
@@ -22,7 +22,7 @@ impl Model for Comments {
 
     ghost Value = { List (List ℕ) };
 
-    ghost use Rattle.pgn_tree.specs.Comments.{comments_inside, AreComments};
+    ghost use Rattle.pgn_tree.specs.Internal.Comments.{comments_inside, AreComments};
 
     ghost view = { comments_inside };
 

@@ -8,7 +8,7 @@ ghost use Rattle.cq_position.specs.Games.{most_positions, node_at, bare_node, wi
 ghost use Rattle.cq_position.specs.Men.{man_number};
 ghost use Rattle.cq_position.specs.Search.{IsDownPath, has_man, has_man_in};
 ghost use Rattle.pgn_tree.specs.Links.{linked_at, with_link, linked};
-ghost use Rattle.pgn_tree.specs.Notes.{noted_node};
+ghost use Rattle.pgn_tree.specs.Notes.{annotated_node};
 
 use crate::node::Node;
 use crate::notes::Notes;
@@ -41,11 +41,11 @@ impl Model for Game {
     ghost Value = { Game };
 
     ghost use Rattle.pgn_tree.specs.GameInside.{game_inside};
-    ghost use Rattle.pgn_tree.specs.Links.{IsKept};
+    ghost use Rattle.pgn_tree.specs.Links.{HasKeptAnnotations};
 
     ghost view = { game_inside };
 
-    ghost invariant = { λ g. IsKept g.nodes.items };
+    ghost invariant = { λ g. HasKeptAnnotations g.nodes.items };
 }
 
 impl Game {
@@ -69,7 +69,7 @@ impl Game {
         start: Position,
         notes: Notes,
     ) -> Result<Game, NoMemory>
-        ensures { IfOk result (λ g. g ≡ record { tags = tags; result = ending; nodes = noted_node None None start notes ∷ [] }) }
+        ensures { IfOk result (λ g. g ≡ record { tags = tags; result = ending; nodes = annotated_node None None start notes ∷ [] }) }
     {
         prove!(notes.are_kept());
         let mut nodes = Vec::new(alloc);
@@ -236,7 +236,7 @@ impl Game {
         requires preorder { Contains (way_up self.old.nodes (length self.old.nodes - 1)) parent }
         requires leads { Leads (node_at self.old.nodes parent).position m p }
         requires few { length self.old.nodes < most_positions }
-        ensures ok { OnOk result (self.new ≡ record self.old { nodes = self.old.nodes ++ noted_node (Some parent) (Some m) p notes ∷ [] }) }
+        ensures ok { OnOk result (self.new ≡ record self.old { nodes = self.old.nodes ++ annotated_node (Some parent) (Some m) p notes ∷ [] }) }
         ensures number { IfOk result (λ k. k ≡ length self.old.nodes) }
         ensures err { OnErr result (self.new ≡ self.old) }
     {

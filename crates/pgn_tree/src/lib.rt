@@ -3,18 +3,18 @@
 //! `cq_position/specs/Games` has what contracts see of a game, `specs/Links` what a game keeps besides.
 #![tactic(auto)]
 
-mod comment;
+mod comment_words;
 mod comments;
-mod ending;
+mod result_marker;
 mod game;
 pub mod laws;
 mod node;
 mod notes;
 mod tags;
 
-pub use comment::{first_word, single_spaced};
+pub use comment_words::{first_word, single_spaced};
 pub use cq_position::GameResult;
-pub use ending::result_text;
+pub use result_marker::result_text;
 pub use game::Game;
 pub use notes::Notes;
 pub use tags::Tags;

@@ -2,7 +2,7 @@
 ghost use Rattle.std.specs.Prelude.{◌≡◌, ◌<◌, [], length, slice_index_or, IfOk, OnOk, OnErr, IsOk};
 ghost use Rattle.cq_position.specs.Games.{with_nag, with_comment};
 ghost use Rattle.pgn_tree.specs.Links.{IsSameLinked, unlinked, with_first_child, with_last_child, with_next_sibling};
-ghost use Rattle.pgn_tree.specs.Notes.{noted_node};
+ghost use Rattle.pgn_tree.specs.Notes.{annotated_node};
 ghost use Rattle.pgn_tree.specs.Words.{without_braces};
 
 use crate::notes::Notes;
@@ -26,9 +26,9 @@ pub struct Node {
 }
 
 impl Model for Node {
-    ghost use Rattle.pgn_tree.specs.Links.{Linked};
+    ghost use Rattle.pgn_tree.specs.Links.{LinkedNode};
 
-    ghost Value = { Linked };
+    ghost Value = { LinkedNode };
 
     ghost use Rattle.pgn_tree.specs.Inside.{node_inside};
 
@@ -44,7 +44,7 @@ impl Node {
         notes: Notes,
         main: bool,
     ) -> Node
-        ensures { result ≡ unlinked (noted_node parent led_by position notes) main }
+        ensures { result ≡ unlinked (annotated_node parent led_by position notes) main }
     {
         Node {
             parent,

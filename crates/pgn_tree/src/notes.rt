@@ -2,7 +2,7 @@
 ghost use Rattle.std.specs.Prelude.{◌≡◌, ◌<◌, true, [], ◌∷◌, ◌++◌, length, slice_index_or, IfOk, OnOk, OnErr, IsOk};
 ghost use Rattle.cq_position.specs.Comments.{words, comment_of};
 ghost use Rattle.pgn_tree.specs.Words.{without_braces};
-ghost use Rattle.pgn_tree.specs.Notes.{AreKept};
+ghost use Rattle.pgn_tree.specs.Notes.{AreKeptAnnotations};
 
 use crate::comments::Comments;
 use cq_common::NoMemory;
@@ -18,15 +18,15 @@ pub struct Notes {
 }
 
 impl Model for Notes {
-    ghost use Rattle.pgn_tree.specs.Notes.{Noted};
+    ghost use Rattle.pgn_tree.specs.Notes.{Annotations};
 
-    ghost Value = { Noted };
+    ghost Value = { Annotations };
 
-    ghost use Rattle.pgn_tree.specs.NotesInside.{notes_inside, IsInside};
+    ghost use Rattle.pgn_tree.specs.NotesInside.{notes_inside, HaveRoom};
 
     ghost view = { notes_inside };
 
-    ghost invariant = { IsInside };
+    ghost invariant = { HaveRoom };
 }
 
 impl Notes {
@@ -43,7 +43,7 @@ impl Notes {
     /// The clause is what notes always keep.
     pub fn are_kept(&self) -> bool
         ensures value { result ≡ true }
-        ensures kept { AreKept self.now }
+        ensures kept { AreKeptAnnotations self.now }
     {
         // read for the proof alone
         let _comments = self.comments.len();

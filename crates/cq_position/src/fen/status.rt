@@ -9,7 +9,7 @@ ghost use Rattle.cq_position.specs.Reading.{SomeIfTrue};
 ghost use Rattle.cq_position.specs.declared.men.Man.TheVariants.{Empty};
 
 use crate::fen::bytes::{DASH, right_letter, side_letter};
-use crate::home::{king_home, rook_home};
+use crate::home_squares::{king_home, rook_home};
 use crate::men::{Man, Side, king_of, rook_of};
 use crate::position::Rights;
 use cq_geometry::{Square, rank, square_at};

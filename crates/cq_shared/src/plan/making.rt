@@ -4,19 +4,19 @@ ghost use Rattle.std.specs.List.{list_all};
 ghost use Rattle.cql_plan.specs.Plans.{query_of};
 ghost use Rattle.cql_syntax.specs.Flat.{flat_query};
 ghost use Rattle.cql_syntax.specs.TreeOf.{filter_tree, query_tree};
-ghost use Rattle.cq_shared.specs.Alone.{stands_alone};
-ghost use Rattle.cq_shared.specs.Askers.{asked_query, IsAsker, AreAskers};
-ghost use Rattle.cq_shared.specs.Known.{all_shown, is_asked, with_parts};
+ghost use Rattle.cq_shared.specs.StandaloneFilters.{stands_alone};
+ghost use Rattle.cq_shared.specs.PartOwners.{owner_query, IsOwner, AreOwners};
+ghost use Rattle.cq_shared.specs.Interning.{all_shown, is_owned, with_parts};
 ghost use Rattle.cq_shared.specs.Parts.{parts_in, parts_in_all, parts_with, top_parts, different, equal_parts, Keeps};
-ghost use Rattle.cq_shared.specs.Places.{IsTable, is_among};
+ghost use Rattle.cq_shared.specs.PartTables.{IsTable, is_among};
 ghost use Rattle.cql_syntax.specs.QueryTrees.{trees_of};
-ghost use Rattle.cq_shared.specs.Plans.{askers_of, each_part_of, queries_of, plan_parts};
+ghost use Rattle.cq_shared.specs.Plans.{owners_of, each_part_of, queries_of, plan_parts};
 
 use crate::finding::{add_sorts, add_top, count_top};
-use crate::known::add_all;
-use crate::part::{Asker, Listed, Part};
+use crate::interning::add_all;
+use crate::part::{PartOwner, QueryParts, Part};
 use crate::plan::SharedPlan;
-use crate::table::{Place, empty_places};
+use crate::table::{PartBucket, empty_buckets};
 use cq_common::NoMemory;
 use cql_plan::Plan;
 use cql_rewrite::expand;
@@ -33,17 +33,17 @@ impl SharedPlan {
         requires few { length queries.now ≤ 16 }
         ensures { IfOk result (λ plan. trees_of (queries_of plan) ≡ trees_of queries.now) }
     {
-        let mut places = empty_places(alloc, count_all(queries))?;
+        let mut places = empty_buckets(alloc, count_all(queries))?;
         let mut parts = Vec::new(alloc);
-        let mut askers = Vec::new(alloc);
+        let mut owners = Vec::new(alloc);
         for q in 0..queries.len() {
-            let asker = asker_of(alloc, &queries[q], q as u32, &mut parts, &mut places)?;
-            askers.push(asker)?;
+            let owner = owner_of(alloc, &queries[q], q as u32, &mut parts, &mut places)?;
+            owners.push(owner)?;
         }
         if parts.len() > u32::MAX as usize {
             return Err(NoMemory);
         }
-        let plan = SharedPlan { askers, parts };
+        let plan = SharedPlan { owners, parts };
         Ok(plan)
     }
 
@@ -51,7 +51,7 @@ impl SharedPlan {
     pub fn len(&self) -> u32
         ensures { result ≡ length (queries_of self.now) }
     {
-        self.askers.len() as u32
+        self.owners.len() as u32
     }
 
     /// The query of a number, of those that it was made from.
@@ -59,7 +59,7 @@ impl SharedPlan {
         requires { query < length (queries_of self.now) }
         ensures { result.now ≡ get_or (queries_of self.now) query result.now }
     {
-        self.askers[query as usize].plan.query()
+        self.owners[query as usize].plan.query()
     }
 
     /// How many different parts the queries have.
@@ -70,18 +70,18 @@ impl SharedPlan {
     }
 
     /// The queries, each with the numbers of its parts.
-    pub fn askers(&self) -> &[Asker]
-        ensures value { result.now ≡ askers_of self.now }
-        ensures parts { AreAskers (each_part_of self.now) (askers_of self.now) }
+    pub fn owners(&self) -> &[PartOwner]
+        ensures value { result.now ≡ owners_of self.now }
+        ensures parts { AreOwners (each_part_of self.now) (owners_of self.now) }
     {
-        self.askers.as_slice()
+        self.owners.as_slice()
     }
 
     /// The different parts, by their numbers.
     pub fn each_part(&self) -> &[Part]
         ensures value { result.now ≡ each_part_of self.now }
         ensures different { equal_parts (all_shown (each_part_of self.now))
-            (different (parts_in_all (map (λ a. asked_query a) (askers_of self.now)))) ≡ true }
+            (different (parts_in_all (map (λ a. owner_query a) (owners_of self.now)))) ≡ true }
     {
         self.parts.as_slice()
     }
@@ -99,36 +99,36 @@ fn count_all(queries: &[TypedQuery]) -> usize
 }
 
 // A query, whose parts are added to those of the queries before it.
-fn asker_of(
+fn owner_of(
     alloc: Global,
     query: &TypedQuery,
     number: u32,
     parts: &mut Vec<Part>,
-    places: &mut Vec<Place>,
-) -> Result<Asker, NoMemory>
+    places: &mut Vec<PartBucket>,
+) -> Result<PartOwner, NoMemory>
     requires table { IsTable places.old.items (all_shown parts.old.items) }
-    requires fresh { (k : ℕ) → is_asked parts.old.items k number ≡ false }
+    requires fresh { (k : ℕ) → is_owned parts.old.items k number ≡ false }
     ensures table { OnOk result (IsTable places.new.items (all_shown parts.new.items)) }
     ensures parts { OnOk result (all_shown parts.new.items
         ≡ with_parts (all_shown parts.old.items) (parts_in (query_tree query.now.query))) }
     ensures kept { OnOk result (Keeps (all_shown parts.old.items) (all_shown parts.new.items)) }
-    ensures query { IfOk result (λ a. asked_query a ≡ query_tree query.now.query) }
-    ensures asker { IfOk result (λ a. IsAsker parts.new.items number a) }
-    ensures asked { IfOk result (λ a. (k q : ℕ) → is_asked parts.new.items k q
-        ≡ (is_asked parts.old.items k q || (is_among k a.numbers.items && (number == q)))) }
+    ensures query { IfOk result (λ a. owner_query a ≡ query_tree query.now.query) }
+    ensures owner { IfOk result (λ a. IsOwner parts.new.items number a) }
+    ensures asked { IfOk result (λ a. (k q : ℕ) → is_owned parts.new.items k q
+        ≡ (is_owned parts.old.items k q || (is_among k a.numbers.items && (number == q)))) }
 {
-    let listed = listed(alloc, query)?;
-    let filters = listed.filters.as_slice();
-    let numbers = add_all(alloc, filters, listed.variations, number, parts, places)?;
-    Ok(Asker {
-        plan: listed.plan,
+    let parts_of_query = parts_of_query(alloc, query)?;
+    let filters = parts_of_query.filters.as_slice();
+    let numbers = add_all(alloc, filters, parts_of_query.variations, number, parts, places)?;
+    Ok(PartOwner {
+        plan: parts_of_query.plan,
         numbers,
-        sorts: listed.sorts,
+        sorts: parts_of_query.sorts,
     })
 }
 
 // The parts of a query.
-fn listed(alloc: Global, query: &TypedQuery) -> Result<Listed, NoMemory>
+fn parts_of_query(alloc: Global, query: &TypedQuery) -> Result<QueryParts, NoMemory>
     ensures query { IfOk result (λ l. query_tree (query_of l.plan).query ≡ query_tree query.now.query) }
     ensures parts { IfOk result (λ l. parts_with l.variations (map filter_tree l.filters.items)
         ≡ parts_in (query_tree query.now.query)) }
@@ -143,7 +143,7 @@ fn listed(alloc: Global, query: &TypedQuery) -> Result<Listed, NoMemory>
     let variations = flat.variations;
     drop(flat);
     let plan = Plan::make(alloc, query)?;
-    Ok(Listed {
+    Ok(QueryParts {
         plan,
         filters,
         sorts,

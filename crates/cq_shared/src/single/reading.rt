@@ -2,13 +2,13 @@
 ghost use Rattle.std.specs.Prelude.{◌≡◌, ◌<◌, true, IfOk};
 ghost use Rattle.cql_syntax.specs.Leaves as leaves;
 ghost use Rattle.cql_syntax.specs.TreeOf.{filter_tree, filters_tree};
-ghost use Rattle.cq_shared.specs.Alone.{stands_alone};
+ghost use Rattle.cq_shared.specs.StandaloneFilters.{stands_alone};
 ghost use Rattle.cq_shared.specs.Parts.{first_of, same_part};
-ghost use Rattle.cq_shared.specs.Places.{place_of};
+ghost use Rattle.cq_shared.specs.PartTables.{bucket_of};
 ghost use Rattle.cq_shared.specs.Singles.{part_tree, shown};
 
 use crate::single::Single;
-use crate::table::mixed_of;
+use crate::table::hash_of;
 use cq_common::NoMemory;
 use cql_plan::join;
 use cql_rewrite::{flat_text, same_unplaced};
@@ -54,13 +54,13 @@ fn same_flag(a: bool, b: bool) -> bool
 }
 
 /// The place of a filter in a table of so many places.
-#[tactic(auto, unfolding(crate::specs::Places::place_of))]
+#[tactic(auto, unfolding(crate::specs::PartTables::bucket_of))]
 pub(crate) fn place(alloc: Global, single: &Single, many: usize) -> Result<usize, NoMemory>
     requires { 0 < many }
-    ensures value { IfOk result (λ at. at ≡ place_of many (shown single.now)) }
+    ensures value { IfOk result (λ at. at ≡ bucket_of many (shown single.now)) }
     ensures below { IfOk result (λ at. at < many) }
 {
     let text = flat_text(alloc, &single.query)?;
-    let mixed = mixed_of(text.as_slice());
+    let mixed = hash_of(text.as_slice());
     Ok(mixed as usize % many)
 }

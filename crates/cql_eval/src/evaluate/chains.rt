@@ -4,12 +4,12 @@ ghost use Rattle.cq_position.specs.Games.{IsTree};
 ghost use Rattle.cql_syntax.specs.Meaning as meaning;
 ghost use Rattle.cql_syntax.specs.TreeOf.{filter_tree, filters_tree, filters_in, terms_tree};
 ghost use Rattle.cql_syntax.specs.Values as spec;
-ghost use Rattle.cql_columns.specs.Columns.{AreAsked, IsColumn, Where, all_shown, terms_shown};
+ghost use Rattle.cql_columns.specs.Columns.{IsNodeSet, IsColumn, Where, all_shown, terms_shown};
 ghost use Rattle.cql_columns.specs.Costs.{filters_cost, terms_cost, searched_len};
 ghost use Rattle.cql_columns.specs.FlatTrees.{IsFlat, AreFlat, AreFlatTerms};
 ghost use Rattle.cql_columns.specs.Scopes.{tree_in, values_in};
-ghost use Rattle.cql_pruning.specs.Classes.{is_of, is_before, is_so_if, are_so, cost_if, cost_of, AreAmong, IsLeft};
-ghost use Rattle.cql_pruning.specs.Ever.{AreEver};
+ghost use Rattle.cql_pruning.specs.Classes.{is_of, is_before, is_as_wanted_if, are_as_wanted, cost_if, cost_of, CoverClasses, IsLeft};
+ghost use Rattle.cql_pruning.specs.Occupancy.{AreOccupancies};
 
 use super::columns::negated_column;
 use super::evaluate;
@@ -18,9 +18,9 @@ use cql_columns::filter_column::FilterColumn;
 use cql_columns::nodes::same;
 use cql_columns::scope::Scope;
 use cql_operators::narrow::narrow;
-use cql_pruning::ever::{Asking, evers_of, fails_anyway};
+use cql_pruning::ever_standing::{ImageScope, occupancies_of, fails_everywhere};
 use cql_pruning::order::{CLASSES, classes_of, is_of_class, may_have};
-use cql_pruning::told::{conjuncts, told_column};
+use cql_pruning::by_occupancy::{conjuncts, occupancy_column};
 use cql_syntax::{Filter, Filters, Terms};
 use std::alloc::Global;
 use std::sync::ledger::Ledger;
@@ -35,7 +35,7 @@ pub(super) fn some_column<L: Ledger>(
     steps: &mut Steps<L>,
 ) -> Result<FilterColumn, NoMemory>
     requires tree { IsTree scope.now.game.now.nodes }
-    requires asked { AreAsked (tree_in scope.now) live.now }
+    requires asked { IsNodeSet (tree_in scope.now) live.now }
     requires flat { AreFlat (filters_tree filters.now) }
     ensures value { IfOk result (λ c. IsColumn c live.now
         (λ n. spec.some_holds (values_in scope.now (filters_tree filters.now) n))) }
@@ -59,80 +59,80 @@ pub(crate) fn left_by<L: Ledger>(
     steps: &mut Steps<L>,
 ) -> Result<Vec<bool>, NoMemory>
     requires tree { IsTree scope.now.game.now.nodes }
-    requires asked { AreAsked (tree_in scope.now) live.now }
+    requires asked { IsNodeSet (tree_in scope.now) live.now }
     requires flat { AreFlat (filters_tree filters.now) }
     ensures left { IfOk result (λ left. IsLeft (tree_in scope.now) live.now
-        (are_so (is_before past) (tree_in scope.now) scope.now.names.now want (filters_tree filters.now)) left.items) }
+        (are_as_wanted (is_before past) (tree_in scope.now) scope.now.names.now want (filters_tree filters.now)) left.items) }
     ensures cost { steps.new ≤ steps.old
         + cost_of (is_before past) (searched_len (tree_in scope.now)) (filters_tree filters.now) }
     ensures rises { steps.old ≤ steps.new }
 {
-    let evers = evers_of(alloc, want, filters, scope, live)?;
-    let evers = evers.as_slice();
+    let occupancies = occupancies_of(alloc, want, filters, scope, live)?;
+    let occupancies = occupancies.as_slice();
     let all = filters.as_slice();
     let classes = classes_of(all);
-    let asking = Asking {
+    let image_scope = ImageScope {
         want,
-        evers,
+        occupancies,
         classes,
     };
     let mut left = same(alloc, live)?;
     for class in 0..past {
-        ask_class(alloc, class, &asking, filters, scope, &mut left, steps)?;
+        narrow_by_class(alloc, class, &image_scope, filters, scope, &mut left, steps)?;
     }
     Ok(left)
 }
 
 // Takes the nodes out of a set at which a filter of a class isn't as it is wanted.
 #[cycle(evaluate)]
-fn ask_class<L: Ledger>(
+fn narrow_by_class<L: Ledger>(
     alloc: Global,
     class: u32,
-    asking: &Asking,
+    image_scope: &ImageScope,
     filters: &Filters,
     scope: &Scope,
     left: &mut [bool],
     steps: &mut Steps<L>,
 ) -> Result<(), NoMemory>
     requires tree { IsTree scope.now.game.now.nodes }
-    requires asked { AreAsked (tree_in scope.now) left.old }
-    requires evers { AreEver (tree_in scope.now) left.old asking.now.evers.now }
-    requires classes { AreAmong asking.now.classes (filters_in filters.now) }
+    requires asked { IsNodeSet (tree_in scope.now) left.old }
+    requires occupancies { AreOccupancies (tree_in scope.now) left.old image_scope.now.occupancies.now }
+    requires classes { CoverClasses image_scope.now.classes (filters_in filters.now) }
     requires flat { AreFlat (filters_tree filters.now) }
     ensures len { length left.new ≡ length left.old }
     ensures left { OnOk result (IsLeft (tree_in scope.now) left.old
-        (are_so (is_of class) (tree_in scope.now) scope.now.names.now asking.now.want (filters_tree filters.now)) left.new) }
+        (are_as_wanted (is_of class) (tree_in scope.now) scope.now.names.now image_scope.now.want (filters_tree filters.now)) left.new) }
     ensures cost { steps.new ≤ steps.old
         + cost_of (is_of class) (searched_len (tree_in scope.now)) (filters_tree filters.now) }
     ensures rises { steps.old ≤ steps.new }
 {
-    if !may_have(asking.classes, class) {
+    if !may_have(image_scope.classes, class) {
         return Ok(());
     }
     for filter in filters.as_slice() {
-        ask_if(alloc, class, asking, filter, scope, left, steps)?;
+        narrow_if_of_class(alloc, class, image_scope, filter, scope, left, steps)?;
     }
     Ok(())
 }
 
 // The same for one filter, if it is of the class.
 #[cycle(evaluate)]
-fn ask_if<L: Ledger>(
+fn narrow_if_of_class<L: Ledger>(
     alloc: Global,
     class: u32,
-    asking: &Asking,
+    image_scope: &ImageScope,
     filter: &Filter,
     scope: &Scope,
     left: &mut [bool],
     steps: &mut Steps<L>,
 ) -> Result<(), NoMemory>
     requires tree { IsTree scope.now.game.now.nodes }
-    requires asked { AreAsked (tree_in scope.now) left.old }
-    requires evers { AreEver (tree_in scope.now) left.old asking.now.evers.now }
+    requires asked { IsNodeSet (tree_in scope.now) left.old }
+    requires occupancies { AreOccupancies (tree_in scope.now) left.old image_scope.now.occupancies.now }
     requires flat { IsFlat (filter_tree filter.now) }
     ensures len { length left.new ≡ length left.old }
     ensures left { OnOk result (IsLeft (tree_in scope.now) left.old
-        (is_so_if (is_of class) (tree_in scope.now) scope.now.names.now asking.now.want (filter_tree filter.now)) left.new) }
+        (is_as_wanted_if (is_of class) (tree_in scope.now) scope.now.names.now image_scope.now.want (filter_tree filter.now)) left.new) }
     ensures cost { steps.new ≤ steps.old
         + cost_if (is_of class) (searched_len (tree_in scope.now)) (filter_tree filter.now) }
     ensures rises { steps.old ≤ steps.new }
@@ -140,18 +140,18 @@ fn ask_if<L: Ledger>(
     if !is_of_class(filter, class) {
         return Ok(());
     }
-    if fails_anyway(asking, filter) {
+    if fails_everywhere(image_scope, filter) {
         return Ok(());
     }
     let parts = conjuncts(filter);
-    let told = told_column(alloc, asking, parts, left)?;
+    let told = occupancy_column(alloc, image_scope, parts, left)?;
     if let Some(column) = told {
-        narrow(left, &column, asking.want);
+        narrow(left, &column, image_scope.want);
         drop(column);
         return Ok(());
     }
     let column = evaluate(alloc, filter, scope, left, steps)?;
-    narrow(left, &column, asking.want);
+    narrow(left, &column, image_scope.want);
     drop(column);
     Ok(())
 }
@@ -167,7 +167,7 @@ pub(super) fn columns_of<L: Ledger>(
     steps: &mut Steps<L>,
 ) -> Result<Vec<FilterColumn>, NoMemory>
     requires tree { IsTree scope.now.game.now.nodes }
-    requires asked { AreAsked (tree_in scope.now) live.now }
+    requires asked { IsNodeSet (tree_in scope.now) live.now }
     requires flat { AreFlat (filters_tree filters.now) }
     ensures value { IfOk result (λ columns. Where live.now (λ n. all_shown columns.items n
         ≡ values_in scope.now (filters_tree filters.now) n)) }
@@ -193,7 +193,7 @@ pub(super) fn terms_of<L: Ledger>(
     steps: &mut Steps<L>,
 ) -> Result<Vec<(bool, FilterColumn)>, NoMemory>
     requires tree { IsTree scope.now.game.now.nodes }
-    requires asked { AreAsked (tree_in scope.now) live.now }
+    requires asked { IsNodeSet (tree_in scope.now) live.now }
     requires flat { AreFlatTerms (terms_tree terms.now) }
     ensures value { IfOk result (λ columns. Where live.now (λ n. terms_shown columns.items n
         ≡ meaning.term_values (tree_in scope.now) [] scope.now.names.now (terms_tree terms.now) n)) }

@@ -3,22 +3,22 @@ ghost use Rattle.std.specs.Prelude.{◌≡◌, ℕ, ◌&&◌, Bool, List, not, t
 ghost use Rattle.cq_position.specs.Games.{IsTree, node_at};
 ghost use Rattle.cql_syntax.specs.Meaning as meaning;
 ghost use Rattle.cql_syntax.specs.Values as spec;
-ghost use Rattle.cql_values.specs.Asked.{of_value};
-ghost use Rattle.cql_columns.specs.Columns.{AreAsked, IsColumn, is_live, shown, all_shown, terms_shown};
+ghost use Rattle.cql_values.specs.FilterValues.{unary_result};
+ghost use Rattle.cql_columns.specs.Columns.{IsNodeSet, IsColumn, is_live, shown, all_shown, terms_shown};
 ghost use Rattle.cql_columns.specs.Scopes.{tree_in};
-ghost use Rattle.cql_operators.specs.Elsewhere.{asks_elsewhere, AreLookedAt};
-ghost use Rattle.cql_pruning.specs.Moved.{is_as_asked};
+ghost use Rattle.cql_operators.specs.OtherNodes.{is_from_other_nodes, CoverSourceNodes};
+ghost use Rattle.cql_pruning.specs.MoveTargets.{is_as_asked};
 
 use cq_common::NoMemory;
 use cq_geometry::Compass;
 use cql_columns::filter_column::FilterColumn;
-use cql_columns::leaves::standing_sets;
+use cql_columns::standing_squares::standing_sets;
 use cql_columns::scope::Scope;
 use cql_operators::combine::{
-    any_values, chain_values, chosen, negated, numbered, pair_column, reached_values, sum_values,
+    any_values, chain_values, if_truths, negated_truths, numbered, pair_column, reached_values, sum_values,
     unary_values,
 };
-use cql_operators::elsewhere::found_from;
+use cql_operators::from_other_nodes::nodes_that_find;
 use cql_operators::narrow::narrowed;
 use cql_operators::words::word_values;
 use cql_pruning::moves::{PartColumns, moves_met};
@@ -32,7 +32,7 @@ pub(super) fn standing_column(
     scope: &Scope,
     live: &[bool],
 ) -> Result<FilterColumn, NoMemory>
-    requires asked { AreAsked (tree_in scope.now) live.now }
+    requires asked { IsNodeSet (tree_in scope.now) live.now }
     ensures { IfOk result (λ c. IsColumn c live.now
         (λ n. meaning.standing_of (node_at scope.now.game.now.nodes n).position.men (Some d.now))) }
 {
@@ -48,7 +48,7 @@ pub(super) fn word_column(
     live: &[bool],
 ) -> Result<FilterColumn, NoMemory>
     requires tree { IsTree scope.now.game.now.nodes }
-    requires asked { AreAsked (tree_in scope.now) live.now }
+    requires asked { IsNodeSet (tree_in scope.now) live.now }
     ensures { IfOk result (λ c. IsColumn c live.now (meaning.word_of (tree_in scope.now) word)) }
 {
     let values = word_values(alloc, word, scope, live)?;
@@ -63,9 +63,9 @@ pub(super) fn here_column(
     column: FilterColumn,
     live: &[bool],
 ) -> Result<FilterColumn, NoMemory>
-    requires asked { AreAsked (tree_in scope.now) live.now }
+    requires asked { IsNodeSet (tree_in scope.now) live.now }
     ensures { IfOk result (λ c. IsColumn c live.now
-        (λ n. of_value (node_at scope.now.game.now.nodes n).position.men word (shown column n))) }
+        (λ n. unary_result (node_at scope.now.game.now.nodes n).position.men word (shown column n))) }
 {
     match word {
         Unary::Not => negated_column(alloc, column, live),
@@ -80,9 +80,9 @@ fn unary_values_column(
     column: FilterColumn,
     live: &[bool],
 ) -> Result<FilterColumn, NoMemory>
-    requires asked { AreAsked (tree_in scope.now) live.now }
+    requires asked { IsNodeSet (tree_in scope.now) live.now }
     ensures { IfOk result (λ c. IsColumn c live.now
-        (λ n. of_value (node_at scope.now.game.now.nodes n).position.men word (shown column n))) }
+        (λ n. unary_result (node_at scope.now.game.now.nodes n).position.men word (shown column n))) }
 {
     let values = unary_values(alloc, word, scope, &column, live);
     drop(column);
@@ -98,15 +98,15 @@ pub(super) fn found_column(
     column: FilterColumn,
 ) -> Result<FilterColumn, NoMemory>
     requires tree { IsTree scope.now.game.now.nodes }
-    requires asked { AreAsked (tree_in scope.now) wide.now }
-    requires word { asks_elsewhere word ≡ true }
+    requires asked { IsNodeSet (tree_in scope.now) wide.now }
+    requires word { is_from_other_nodes word ≡ true }
     ensures { IfOk result (λ c. (v : ℕ → spec.Value) → IsColumn column wide.now v
-        → (live : List Bool) → AreAsked (tree_in scope.now) live → AreLookedAt (tree_in scope.now) word live wide.now
+        → (live : List Bool) → IsNodeSet (tree_in scope.now) live → CoverSourceNodes (tree_in scope.now) word live wide.now
         → IsColumn c live (meaning.unary_of (tree_in scope.now) word v)) }
 {
     let set = narrowed(alloc, wide, &column, true)?;
     drop(column);
-    let found = found_from(alloc, word, scope.game, set)?;
+    let found = nodes_that_find(alloc, word, scope.game, set)?;
     Ok(FilterColumn::Truths(found))
 }
 
@@ -119,7 +119,7 @@ pub(super) fn met_column(
     live: &[bool],
 ) -> Result<FilterColumn, NoMemory>
     requires tree { IsTree scope.now.game.now.nodes }
-    requires asked { AreAsked (tree_in scope.now) live.now }
+    requires asked { IsNodeSet (tree_in scope.now) live.now }
     ensures { IfOk result (λ c. (n : ℕ) → shown c n ≡ spec.as_truth
         (is_live live.now n && is_as_asked (tree_in scope.now) parts (option_map (λ c. shown c n) goal) n)) }
 {
@@ -137,7 +137,7 @@ pub(super) fn negated_column(
 ) -> Result<FilterColumn, NoMemory>
     ensures { IfOk result (λ c. IsColumn c live.now (λ n. spec.as_truth (not (spec.holds (shown column n))))) }
 {
-    let truths = negated(alloc, &column, live);
+    let truths = negated_truths(alloc, &column, live);
     drop(column);
     Ok(FilterColumn::Truths(truths?))
 }
@@ -166,7 +166,7 @@ pub(super) fn chosen_column(
     ensures { IfOk result (λ c. IsColumn c live.now
         (λ n. spec.if_of (shown first n) (shown second n) (shown third n))) }
 {
-    let truths = chosen(alloc, &first, &second, &third, live);
+    let truths = if_truths(alloc, &first, &second, &third, live);
     drop(first);
     drop(second);
     drop(third);
@@ -182,7 +182,7 @@ pub(super) fn paired_column(
     second: FilterColumn,
     live: &[bool],
 ) -> Result<FilterColumn, NoMemory>
-    requires asked { AreAsked (tree_in scope.now) live.now }
+    requires asked { IsNodeSet (tree_in scope.now) live.now }
     ensures { IfOk result (λ c. IsColumn c live.now
         (λ n. spec.pair_of (node_at scope.now.game.now.nodes n).position.men pair (shown first n) (shown second n))) }
 {

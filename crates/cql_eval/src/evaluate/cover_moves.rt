@@ -4,21 +4,21 @@ ghost use Rattle.cq_position.specs.Games.{IsTree};
 ghost use Rattle.cql_syntax.specs.Meaning as meaning;
 ghost use Rattle.cql_syntax.specs.TreeOf.{played_tree, written_tree};
 ghost use Rattle.cql_syntax.specs.Values as spec;
-ghost use Rattle.cql_columns.specs.Columns.{AreAsked, shown};
+ghost use Rattle.cql_columns.specs.Columns.{IsNodeSet, shown};
 ghost use Rattle.cql_columns.specs.FlatTrees.{IsFlatMove, IsFlatPart};
 ghost use Rattle.cql_columns.specs.Scopes.{tree_in};
-ghost use Rattle.cql_pruning.specs.Covers.{AreCut, AsksNoMore};
-ghost use Rattle.cql_pruning.specs.Moved.{is_as_asked};
-ghost use Rattle.cql_eval.specs.Trials.{AskNoMore, LeavesHolding};
+ghost use Rattle.cql_pruning.specs.Covers.{AreCut, IsNecessaryPart};
+ghost use Rattle.cql_pruning.specs.MoveTargets.{is_as_asked};
+ghost use Rattle.cql_eval.specs.Internal.Trials.{AreNecessaryParts, LeavesHolding};
 
 use super::played::written_column;
 use super::trial::Trial;
 use cq_common::{NoMemory, Steps};
 use cql_columns::filter_column::FilterColumn;
 use cql_columns::scope::Scope;
-use cql_operators::tree::befores;
+use cql_operators::tree::nodes_before;
 use cql_pruning::covers::{cut_moves, cut_where_fails, with_squares};
-use cql_pruning::free::{is_free_and_written, is_own_part};
+use cql_pruning::independent::{is_independent_and_written, part_gives_only_name};
 use cql_pruning::moves::{PartColumns, moves_met};
 use cql_syntax::{Filter, Played};
 use cql_values::names::Names;
@@ -37,7 +37,7 @@ pub(super) fn cover_played<L: Ledger>(
     steps: &mut Steps<L>,
 ) -> Result<(), NoMemory>
     requires tree { IsTree trial.now.scope.now.game.now.nodes }
-    requires asked { AreAsked (tree_in trial.now.scope.now) trial.now.live.now }
+    requires asked { IsNodeSet (tree_in trial.now.scope.now) trial.now.live.now }
     requires count { length sets.old ≡ length trial.now.live.now }
     requires flat { IsFlatMove (played_tree played.now) }
     ensures cut { OnOk result (LeavesHolding trial.now
@@ -45,17 +45,17 @@ pub(super) fn cover_played<L: Ledger>(
     ensures len { length sets.new ≡ length sets.old }
     ensures cost { steps.new ≡ steps.old }
 {
-    let origin = is_own_part(trial.name, &played.origin);
-    let goal = is_own_part(trial.name, &played.goal);
-    let taken = is_own_part(trial.name, &played.taken);
+    let origin = part_gives_only_name(trial.name, &played.origin);
+    let goal = part_gives_only_name(trial.name, &played.goal);
+    let taken = part_gives_only_name(trial.name, &played.taken);
     cut_moves(sets, trial.live, trial.scope, origin, goal, taken);
     if !asks_without(trial.opened, played) {
         return Ok(());
     }
     let some = with_squares(alloc, trial.scope, trial.live, sets)?;
     let some = some.as_slice();
-    let parts = free_columns(alloc, trial, played, some, steps)?;
-    let goal = free_column(alloc, trial, &played.goal, some, steps)?;
+    let parts = independent_columns(alloc, trial, played, some, steps)?;
+    let goal = independent_column(alloc, trial, &played.goal, some, steps)?;
     cut_unmet(alloc, trial.scope, parts, goal, some, sets)
 }
 
@@ -69,7 +69,7 @@ fn cut_unmet(
     sets: &mut [u64],
 ) -> Result<(), NoMemory>
     requires tree { IsTree scope.now.game.now.nodes }
-    requires asked { AreAsked (tree_in scope.now) live.now }
+    requires asked { IsNodeSet (tree_in scope.now) live.now }
     requires count { length sets.old ≡ length live.now }
     ensures cut { OnOk result (AreCut live.now
         (λ n s. is_as_asked (tree_in scope.now) parts (option_map (λ c. shown c n) goal) n ≡ true) sets.old sets.new) }
@@ -87,7 +87,7 @@ fn cut_unmet(
 // The columns of the parts of a move, its goal aside, for the moves that led to the nodes of a set: of those in which no open name stands.
 #[cycle(evaluate)]
 #[tactic(auto, unfolding(cql_columns::specs::FlatTrees::unflat))]
-fn free_columns<L: Ledger>(
+fn independent_columns<L: Ledger>(
     alloc: Global,
     trial: &Trial,
     played: &Played,
@@ -95,17 +95,17 @@ fn free_columns<L: Ledger>(
     steps: &mut Steps<L>,
 ) -> Result<PartColumns, NoMemory>
     requires tree { IsTree trial.now.scope.now.game.now.nodes }
-    requires asked { AreAsked (tree_in trial.now.scope.now) live.now }
+    requires asked { IsNodeSet (tree_in trial.now.scope.now) live.now }
     requires flat { IsFlatMove (played_tree played.now) }
     ensures asks { IfOk result
-        (AskNoMore (tree_in trial.now.scope.now) trial.now.opened.now trial.now.scope.now.names.now played.now live.now) }
+        (AreNecessaryParts (tree_in trial.now.scope.now) trial.now.opened.now trial.now.scope.now.names.now played.now live.now) }
     ensures cost { steps.new ≡ steps.old }
 {
-    let wide = befores(alloc, trial.scope, live)?;
+    let wide = nodes_before(alloc, trial.scope, live)?;
     let wide = wide.as_slice();
-    let origin = free_column(alloc, trial, &played.origin, wide, steps)?;
-    let taken = free_column(alloc, trial, &played.taken, wide, steps)?;
-    let promoted = free_column(alloc, trial, &played.promoted, live, steps)?;
+    let origin = independent_column(alloc, trial, &played.origin, wide, steps)?;
+    let taken = independent_column(alloc, trial, &played.taken, wide, steps)?;
+    let promoted = independent_column(alloc, trial, &played.promoted, live, steps)?;
     Ok(PartColumns {
         origin,
         taken,
@@ -115,15 +115,15 @@ fn free_columns<L: Ledger>(
 
 // Whether in some part that is written no open name stands; where there is none nothing need be asked.
 fn asks_without(opened: &Names, played: &Played) -> bool {
-    is_free_and_written(opened, &played.origin)
-        || is_free_and_written(opened, &played.goal)
-        || is_free_and_written(opened, &played.taken)
-        || is_free_and_written(opened, &played.promoted)
+    is_independent_and_written(opened, &played.origin)
+        || is_independent_and_written(opened, &played.goal)
+        || is_independent_and_written(opened, &played.taken)
+        || is_independent_and_written(opened, &played.promoted)
 }
 
 // The column at these nodes of a part in which no open name stands; of another part nothing is asked.
 #[cycle(evaluate)]
-fn free_column<L: Ledger>(
+fn independent_column<L: Ledger>(
     alloc: Global,
     trial: &Trial,
     written: &Option<Box<Filter>>,
@@ -131,13 +131,13 @@ fn free_column<L: Ledger>(
     steps: &mut Steps<L>,
 ) -> Result<Option<FilterColumn>, NoMemory>
     requires tree { IsTree trial.now.scope.now.game.now.nodes }
-    requires asked { AreAsked (tree_in trial.now.scope.now) live.now }
+    requires asked { IsNodeSet (tree_in trial.now.scope.now) live.now }
     requires flat { IsFlatPart (written_tree written.now) }
-    ensures asks { IfOk result (AsksNoMore (tree_in trial.now.scope.now) trial.now.opened.now trial.now.scope.now.names.now
+    ensures asks { IfOk result (IsNecessaryPart (tree_in trial.now.scope.now) trial.now.opened.now trial.now.scope.now.names.now
         (written_tree written.now) live.now) }
     ensures cost { steps.new ≡ steps.old }
 {
-    if !is_free_and_written(trial.opened, written) {
+    if !is_independent_and_written(trial.opened, written) {
         return Ok(None);
     }
     written_column(alloc, written, trial.scope, live, steps)

@@ -3,11 +3,11 @@ ghost use Rattle.std.specs.Prelude.{◌≡◌, ℕ, length, OnOk};
 ghost use Rattle.cq_position.specs.Games.{IsTree};
 ghost use Rattle.cql_syntax.specs.TreeOf.{filter_tree, filters_tree};
 ghost use Rattle.cql_syntax.specs.Values as spec;
-ghost use Rattle.cql_columns.specs.Columns.{AreAsked};
+ghost use Rattle.cql_columns.specs.Columns.{IsNodeSet};
 ghost use Rattle.cql_columns.specs.FlatTrees.{IsFlat, AreFlat};
 ghost use Rattle.cql_columns.specs.Scopes.{tree_in, value_with, values_with};
 ghost use Rattle.cql_pruning.specs.Covers.{AreAdded, MayHold};
-ghost use Rattle.cql_eval.specs.Trials.{LeavesHolding};
+ghost use Rattle.cql_eval.specs.Internal.Trials.{LeavesHolding};
 
 use super::covers::cover;
 use super::trial::Trial;
@@ -28,7 +28,7 @@ pub(super) fn cover_some<L: Ledger>(
     steps: &mut Steps<L>,
 ) -> Result<(), NoMemory>
     requires tree { IsTree trial.now.scope.now.game.now.nodes }
-    requires asked { AreAsked (tree_in trial.now.scope.now) trial.now.live.now }
+    requires asked { IsNodeSet (tree_in trial.now.scope.now) trial.now.live.now }
     requires count { length sets.old ≡ length trial.now.live.now }
     requires flat { AreFlat (filters_tree parts.now) }
     ensures cut { OnOk result (LeavesHolding trial.now
@@ -57,7 +57,7 @@ fn add_covered<L: Ledger>(
     steps: &mut Steps<L>,
 ) -> Result<(), NoMemory>
     requires tree { IsTree trial.now.scope.now.game.now.nodes }
-    requires asked { AreAsked (tree_in trial.now.scope.now) trial.now.live.now }
+    requires asked { IsNodeSet (tree_in trial.now.scope.now) trial.now.live.now }
     requires count { length sets.now ≡ length trial.now.live.now }
     requires kept { length kept.old ≡ length trial.now.live.now }
     requires flat { IsFlat (filter_tree part.now) }

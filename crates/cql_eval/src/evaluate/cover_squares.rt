@@ -5,10 +5,10 @@ ghost use Rattle.cq_position.specs.Games.{IsTree};
 ghost use Rattle.cql_syntax.specs.Meaning as meaning;
 ghost use Rattle.cql_syntax.specs.TreeOf.{filter_tree};
 ghost use Rattle.cql_syntax.specs.Values as spec;
-ghost use Rattle.cql_columns.specs.Columns.{AreAsked};
+ghost use Rattle.cql_columns.specs.Columns.{IsNodeSet};
 ghost use Rattle.cql_columns.specs.FlatTrees.{IsFlat};
 ghost use Rattle.cql_columns.specs.Scopes.{tree_in, value_with};
-ghost use Rattle.cql_eval.specs.Trials.{LeavesHolding};
+ghost use Rattle.cql_eval.specs.Internal.Trials.{LeavesHolding};
 
 use super::covers::cover;
 use super::evaluate;
@@ -16,7 +16,7 @@ use super::trial::Trial;
 use cq_common::{NoMemory, Steps};
 use cq_geometry::Square;
 use cql_pruning::covers::with_squares;
-use cql_pruning::free::{is_free, is_other};
+use cql_pruning::independent::{is_independent, is_other};
 use cql_pruning::pairs::{PairTrial, asks_pair, cut_paired};
 use cql_syntax::{Filter, Form};
 use std::alloc::Global;
@@ -33,7 +33,7 @@ pub(super) fn cover_square<L: Ledger>(
     steps: &mut Steps<L>,
 ) -> Result<(), NoMemory>
     requires tree { IsTree trial.now.scope.now.game.now.nodes }
-    requires asked { AreAsked (tree_in trial.now.scope.now) trial.now.live.now }
+    requires asked { IsNodeSet (tree_in trial.now.scope.now) trial.now.live.now }
     requires count { length sets.old ≡ length trial.now.live.now }
     requires flat { IsFlat (filter_tree asked.now) }
     ensures cut { OnOk result (LeavesHolding trial.now
@@ -65,7 +65,7 @@ fn cover_inner<L: Ledger>(
     steps: &mut Steps<L>,
 ) -> Result<(), NoMemory>
     requires tree { IsTree trial.now.scope.now.game.now.nodes }
-    requires asked { AreAsked (tree_in trial.now.scope.now) trial.now.live.now }
+    requires asked { IsNodeSet (tree_in trial.now.scope.now) trial.now.live.now }
     requires count { length sets.old ≡ length trial.now.live.now }
     requires flat { IsFlat (filter_tree part.now) }
     requires other { bytes_eq inner.now trial.now.name.now ≡ false }
@@ -96,7 +96,7 @@ fn cover_pair<L: Ledger>(
     steps: &mut Steps<L>,
 ) -> Result<(), NoMemory>
     requires tree { IsTree trial.now.scope.now.game.now.nodes }
-    requires asked { AreAsked (tree_in trial.now.scope.now) trial.now.live.now }
+    requires asked { IsNodeSet (tree_in trial.now.scope.now) trial.now.live.now }
     requires count { length sets.old ≡ length trial.now.live.now }
     requires flat { IsFlat (filter_tree squares.now) }
     requires other { bytes_eq inner.now trial.now.name.now ≡ false }
@@ -109,7 +109,7 @@ fn cover_pair<L: Ledger>(
     if !asks_pair(trial.name, inner, part) {
         return Ok(());
     }
-    if !is_free(trial.opened, squares) {
+    if !is_independent(trial.opened, squares) {
         return Ok(());
     }
     let some = with_squares(alloc, trial.scope, trial.live, sets)?;

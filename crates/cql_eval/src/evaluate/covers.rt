@@ -5,11 +5,11 @@ ghost use Rattle.cql_syntax.specs.Meaning as meaning;
 ghost use Rattle.cql_syntax.specs.TreeOf.{filter_tree, filters_tree};
 ghost use Rattle.cql_syntax.specs.Values as spec;
 ghost use Rattle.cql_syntax.specs.declared.leaves.Pair.TheVariants.{Attacks, AttackedBy};
-ghost use Rattle.cql_columns.specs.Columns.{AreAsked};
+ghost use Rattle.cql_columns.specs.Columns.{IsNodeSet};
 ghost use Rattle.cql_columns.specs.FlatTrees.{IsFlat, AreFlat};
 ghost use Rattle.cql_columns.specs.Scopes.{tree_in, value_with, values_with};
-ghost use Rattle.cql_pruning.specs.Covers.{IsFree};
-ghost use Rattle.cql_eval.specs.Trials.{LeavesHolding, LeavesHaving};
+ghost use Rattle.cql_pruning.specs.Covers.{IsIndependent};
+ghost use Rattle.cql_eval.specs.Internal.Trials.{LeavesHolding, LeavesHaving};
 
 use super::cover_moves::cover_played;
 use super::cover_some::cover_some;
@@ -18,11 +18,11 @@ use super::evaluate;
 use super::trial::Trial;
 use cq_common::{NoMemory, Steps};
 use cql_columns::filter_column::FilterColumn;
-use cql_operators::elsewhere::{brought_back, looked_at, looks_elsewhere};
+use cql_operators::from_other_nodes::{squares_of_sources, source_nodes, reads_other_nodes};
 use cql_pruning::covers::{
-    any_left, any_squares, cut, cut_related, cut_where_fails, everywhere, with_squares,
+    any_left, any_squares, cut, cut_related, cut_where_fails, uniform_sets, with_squares,
 };
-use cql_pruning::free::{is_all, is_attack, is_free, is_intersection, is_or, is_own, turned};
+use cql_pruning::independent::{is_all, is_attack, is_independent, is_intersection, is_or, gives_only_name, converse};
 use cql_pruning::order::{SORTS, is_of_class};
 use cql_syntax::{Filter, Filters, Form, Pair, Unary};
 use std::alloc::Global;
@@ -39,7 +39,7 @@ pub(super) fn cover<L: Ledger>(
     steps: &mut Steps<L>,
 ) -> Result<(), NoMemory>
     requires tree { IsTree trial.now.scope.now.game.now.nodes }
-    requires asked { AreAsked (tree_in trial.now.scope.now) trial.now.live.now }
+    requires asked { IsNodeSet (tree_in trial.now.scope.now) trial.now.live.now }
     requires count { length sets.old ≡ length trial.now.live.now }
     requires flat { IsFlat (filter_tree asked.now) }
     ensures cut { OnOk result (LeavesHolding trial.now
@@ -50,10 +50,10 @@ pub(super) fn cover<L: Ledger>(
     if !any_left(sets) {
         return Ok(());
     }
-    if is_free(trial.opened, asked) {
-        return cover_free(alloc, trial, asked, sets, steps);
+    if is_independent(trial.opened, asked) {
+        return cover_independent(alloc, trial, asked, sets, steps);
     }
-    if is_own(trial.name, asked) {
+    if gives_only_name(trial.name, asked) {
         return cover_set(alloc, trial, asked, sets, steps);
     }
     match &asked.form {
@@ -67,17 +67,17 @@ pub(super) fn cover<L: Ledger>(
             cover_all(alloc, trial, parts, sets, steps)
         }
         Form::Square(..) => cover_square(alloc, trial, asked, sets, steps),
-        Form::Unary(word, part) => cover_elsewhere(alloc, trial, *word, part, sets, steps),
+        Form::Unary(word, part) => cover_other_nodes(alloc, trial, *word, part, sets, steps),
         Form::Played(played) => cover_played(alloc, trial, played, sets, steps),
         // Of a set whose men attack the square, or are attacked from it.
         Form::Pair(pair, first, second) => {
             if !is_attack(*pair) {
                 return Ok(());
             }
-            if !is_own(trial.name, second) {
+            if !gives_only_name(trial.name, second) {
                 return Ok(());
             }
-            cover_related(alloc, trial, turned(*pair), first, sets, steps)
+            cover_related(alloc, trial, converse(*pair), first, sets, steps)
         }
         _ => Ok(()),
     }
@@ -85,7 +85,7 @@ pub(super) fn cover<L: Ledger>(
 
 // Of a filter in which no name that is open stands.
 #[cycle(evaluate)]
-fn cover_free<L: Ledger>(
+fn cover_independent<L: Ledger>(
     alloc: Global,
     trial: &Trial,
     asked: &Filter,
@@ -93,10 +93,10 @@ fn cover_free<L: Ledger>(
     steps: &mut Steps<L>,
 ) -> Result<(), NoMemory>
     requires tree { IsTree trial.now.scope.now.game.now.nodes }
-    requires asked { AreAsked (tree_in trial.now.scope.now) trial.now.live.now }
+    requires asked { IsNodeSet (tree_in trial.now.scope.now) trial.now.live.now }
     requires count { length sets.old ≡ length trial.now.live.now }
     requires flat { IsFlat (filter_tree asked.now) }
-    requires free { IsFree trial.now.opened.now (filter_tree asked.now) }
+    requires free { IsIndependent trial.now.opened.now (filter_tree asked.now) }
     ensures cut { OnOk result (LeavesHolding trial.now
         (value_with trial.now.scope.now (filter_tree asked.now)) sets.old sets.new) }
     ensures len { length sets.new ≡ length sets.old }
@@ -119,7 +119,7 @@ fn cover_all<L: Ledger>(
     steps: &mut Steps<L>,
 ) -> Result<(), NoMemory>
     requires tree { IsTree trial.now.scope.now.game.now.nodes }
-    requires asked { AreAsked (tree_in trial.now.scope.now) trial.now.live.now }
+    requires asked { IsNodeSet (tree_in trial.now.scope.now) trial.now.live.now }
     requires count { length sets.old ≡ length trial.now.live.now }
     requires flat { AreFlat (filters_tree parts.now) }
     ensures cut { OnOk result (LeavesHolding trial.now
@@ -144,7 +144,7 @@ fn cover_class<L: Ledger>(
     steps: &mut Steps<L>,
 ) -> Result<(), NoMemory>
     requires tree { IsTree trial.now.scope.now.game.now.nodes }
-    requires asked { AreAsked (tree_in trial.now.scope.now) trial.now.live.now }
+    requires asked { IsNodeSet (tree_in trial.now.scope.now) trial.now.live.now }
     requires count { length sets.old ≡ length trial.now.live.now }
     requires flat { AreFlat (filters_tree parts.now) }
     ensures cut { OnOk result (LeavesHolding trial.now
@@ -169,7 +169,7 @@ fn cover_if<L: Ledger>(
     steps: &mut Steps<L>,
 ) -> Result<(), NoMemory>
     requires tree { IsTree trial.now.scope.now.game.now.nodes }
-    requires asked { AreAsked (tree_in trial.now.scope.now) trial.now.live.now }
+    requires asked { IsNodeSet (tree_in trial.now.scope.now) trial.now.live.now }
     requires count { length sets.old ≡ length trial.now.live.now }
     requires flat { IsFlat (filter_tree part.now) }
     ensures cut { OnOk result (LeavesHolding trial.now
@@ -185,7 +185,7 @@ fn cover_if<L: Ledger>(
 
 // Of what a word asks at other nodes: what may hold at one of these.
 #[cycle(evaluate)]
-fn cover_elsewhere<L: Ledger>(
+fn cover_other_nodes<L: Ledger>(
     alloc: Global,
     trial: &Trial,
     word: Unary,
@@ -194,7 +194,7 @@ fn cover_elsewhere<L: Ledger>(
     steps: &mut Steps<L>,
 ) -> Result<(), NoMemory>
     requires tree { IsTree trial.now.scope.now.game.now.nodes }
-    requires asked { AreAsked (tree_in trial.now.scope.now) trial.now.live.now }
+    requires asked { IsNodeSet (tree_in trial.now.scope.now) trial.now.live.now }
     requires count { length sets.old ≡ length trial.now.live.now }
     requires flat { IsFlat (filter_tree part.now) }
     ensures cut { OnOk result (LeavesHolding trial.now
@@ -203,18 +203,18 @@ fn cover_elsewhere<L: Ledger>(
     ensures len { length sets.new ≡ length sets.old }
     ensures cost { steps.new ≡ steps.old }
 {
-    if !looks_elsewhere(word) {
+    if !reads_other_nodes(word) {
         return Ok(());
     }
-    let wide = looked_at(alloc, word, trial.scope, trial.live)?;
+    let wide = source_nodes(alloc, word, trial.scope, trial.live)?;
     let wide = wide.as_slice();
-    let mut there = everywhere(alloc, wide, any_squares(trial.live, sets))?;
+    let mut there = uniform_sets(alloc, wide, any_squares(trial.live, sets))?;
     let elsewhere = Trial {
         live: wide,
         ..*trial
     };
     cover(alloc, &elsewhere, part, &mut there, steps)?;
-    let back = brought_back(alloc, word, trial.scope.game, there)?;
+    let back = squares_of_sources(alloc, word, trial.scope.game, there)?;
     let left = FilterColumn::Sets(back);
     cut(sets, trial.live, &left);
     drop(left);
@@ -232,7 +232,7 @@ fn cover_set<L: Ledger>(
     steps: &mut Steps<L>,
 ) -> Result<(), NoMemory>
     requires tree { IsTree trial.now.scope.now.game.now.nodes }
-    requires asked { AreAsked (tree_in trial.now.scope.now) trial.now.live.now }
+    requires asked { IsNodeSet (tree_in trial.now.scope.now) trial.now.live.now }
     requires count { length sets.old ≡ length trial.now.live.now }
     requires flat { IsFlat (filter_tree asked.now) }
     ensures cut { OnOk result (LeavesHaving trial.now
@@ -240,8 +240,8 @@ fn cover_set<L: Ledger>(
     ensures len { length sets.new ≡ length sets.old }
     ensures cost { steps.new ≡ steps.old }
 {
-    if is_free(trial.opened, asked) {
-        return cover_free_set(alloc, trial, asked, sets, steps);
+    if is_independent(trial.opened, asked) {
+        return cover_independent_set(alloc, trial, asked, sets, steps);
     }
     match &asked.form {
         Form::Chain(chain, parts) => {
@@ -263,7 +263,7 @@ fn cover_set<L: Ledger>(
 
 // Of a set in which no name that is open stands.
 #[cycle(evaluate)]
-fn cover_free_set<L: Ledger>(
+fn cover_independent_set<L: Ledger>(
     alloc: Global,
     trial: &Trial,
     asked: &Filter,
@@ -271,10 +271,10 @@ fn cover_free_set<L: Ledger>(
     steps: &mut Steps<L>,
 ) -> Result<(), NoMemory>
     requires tree { IsTree trial.now.scope.now.game.now.nodes }
-    requires asked { AreAsked (tree_in trial.now.scope.now) trial.now.live.now }
+    requires asked { IsNodeSet (tree_in trial.now.scope.now) trial.now.live.now }
     requires count { length sets.old ≡ length trial.now.live.now }
     requires flat { IsFlat (filter_tree asked.now) }
-    requires free { IsFree trial.now.opened.now (filter_tree asked.now) }
+    requires free { IsIndependent trial.now.opened.now (filter_tree asked.now) }
     ensures cut { OnOk result (LeavesHaving trial.now
         (value_with trial.now.scope.now (filter_tree asked.now)) sets.old sets.new) }
     ensures len { length sets.new ≡ length sets.old }
@@ -297,7 +297,7 @@ fn cover_each<L: Ledger>(
     steps: &mut Steps<L>,
 ) -> Result<(), NoMemory>
     requires tree { IsTree trial.now.scope.now.game.now.nodes }
-    requires asked { AreAsked (tree_in trial.now.scope.now) trial.now.live.now }
+    requires asked { IsNodeSet (tree_in trial.now.scope.now) trial.now.live.now }
     requires count { length sets.old ≡ length trial.now.live.now }
     requires flat { AreFlat (filters_tree parts.now) }
     ensures cut { OnOk result (LeavesHaving trial.now
@@ -322,7 +322,7 @@ fn cover_related<L: Ledger>(
     steps: &mut Steps<L>,
 ) -> Result<(), NoMemory>
     requires tree { IsTree trial.now.scope.now.game.now.nodes }
-    requires asked { AreAsked (tree_in trial.now.scope.now) trial.now.live.now }
+    requires asked { IsNodeSet (tree_in trial.now.scope.now) trial.now.live.now }
     requires count { length sets.old ≡ length trial.now.live.now }
     requires flat { IsFlat (filter_tree second.now) }
     requires attack { (pair ≡ Attacks) ⊎ (pair ≡ AttackedBy) }
@@ -332,7 +332,7 @@ fn cover_related<L: Ledger>(
     ensures len { length sets.new ≡ length sets.old }
     ensures cost { steps.new ≡ steps.old }
 {
-    if !is_free(trial.opened, second) {
+    if !is_independent(trial.opened, second) {
         return Ok(());
     }
     let some = with_squares(alloc, trial.scope, trial.live, sets)?;

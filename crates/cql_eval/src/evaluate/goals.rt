@@ -5,18 +5,18 @@ ghost use Rattle.cq_symmetry.specs.Images.{is_in};
 ghost use Rattle.cql_syntax.specs.Meaning as meaning;
 ghost use Rattle.cql_syntax.specs.TreeOf.{filter_tree, played_tree};
 ghost use Rattle.cql_syntax.specs.Values as spec;
-ghost use Rattle.cql_eval.specs.Bindings.{holds_with};
-ghost use Rattle.cql_columns.specs.Columns.{AreAsked, AreTruths, is_live, shown};
+ghost use Rattle.cql_eval.specs.Internal.Bindings.{holds_with};
+ghost use Rattle.cql_columns.specs.Columns.{IsNodeSet, AreTruths, is_live, shown};
 ghost use Rattle.cql_columns.specs.FlatTrees.{IsFlat, IsFlatMove};
 ghost use Rattle.cql_columns.specs.Scopes.{tree_in};
-ghost use Rattle.cql_pruning.specs.Moved.{goes_as_asked};
+ghost use Rattle.cql_pruning.specs.MoveTargets.{goes_as_asked};
 
 use super::played::part_columns;
 use cq_common::{NoMemory, Steps};
 use cql_columns::binding::Binding;
 use cql_pruning::covers::sets_of;
-use cql_pruning::free::is_all;
-use cql_pruning::moved::{asks_goal, moves_to};
+use cql_pruning::independent::is_all;
+use cql_pruning::move_targets::{asks_goal, moves_to};
 use cql_pruning::moves::{PartColumns, promoting};
 use cql_syntax::{Filter, Form, Played};
 use cql_values::names::Names;
@@ -35,7 +35,7 @@ pub(super) fn goal_truths<L: Ledger>(
     steps: &mut Steps<L>,
 ) -> Result<Option<Vec<bool>>, NoMemory>
     requires tree { IsTree binding.now.scope.now.game.now.nodes }
-    requires asked { AreAsked (tree_in binding.now.scope.now) live.now }
+    requires asked { IsNodeSet (tree_in binding.now.scope.now) live.now }
     requires flat { IsFlat (filter_tree asked.now) }
     requires some { binding.now.every ≡ false }
     requires opened { opened.now ≡ (binding.now.name.now, 0) ∷ [] }
@@ -74,7 +74,7 @@ fn goal_met<L: Ledger>(
     steps: &mut Steps<L>,
 ) -> Result<Option<Vec<bool>>, NoMemory>
     requires tree { IsTree binding.now.scope.now.game.now.nodes }
-    requires asked { AreAsked (tree_in binding.now.scope.now) live.now }
+    requires asked { IsNodeSet (tree_in binding.now.scope.now) live.now }
     requires flat { IsFlatMove (played_tree played.now) }
     requires some { binding.now.every ≡ false }
     requires opened { opened.now ≡ (binding.now.name.now, 0) ∷ [] }
@@ -91,20 +91,20 @@ fn goal_met<L: Ledger>(
     let some = promoting(alloc, binding.scope, promotes, live)?;
     let some = some.as_slice();
     let parts = part_columns(alloc, played, binding.scope, some, steps)?;
-    let there = moved_there(alloc, binding, &parts, some);
+    let there = moves_to_square(alloc, binding, &parts, some);
     drop(parts);
     there
 }
 
 // Whether the moves to the nodes of a set went to squares of the column, and are as the columns of their other parts ask.
-fn moved_there(
+fn moves_to_square(
     alloc: Global,
     binding: &Binding,
     parts: &PartColumns,
     live: &[bool],
 ) -> Result<Option<Vec<bool>>, NoMemory>
     requires tree { IsTree binding.now.scope.now.game.now.nodes }
-    requires asked { AreAsked (tree_in binding.now.scope.now) live.now }
+    requires asked { IsNodeSet (tree_in binding.now.scope.now) live.now }
     ensures { IfOk result (λ there. IfSome there (λ truths. (n : ℕ) → (set : ℕ) × (is_live live.now n ≡ true
         → is_in set ≡ spec.has (shown binding.now.squares.now n)) × (get_or truths.items n false
         ≡ (is_live live.now n && goes_as_asked (tree_in binding.now.scope.now) parts.now set n)))) }

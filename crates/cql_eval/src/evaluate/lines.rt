@@ -4,7 +4,7 @@ ghost use Rattle.cq_position.specs.Games.{IsTree};
 ghost use Rattle.cql_syntax.specs.Meaning as meaning;
 ghost use Rattle.cql_syntax.specs.TreeOf.{body_tree, filter_tree, line_tree, parts_tree};
 ghost use Rattle.cql_syntax.specs.declared.tree.Line.{out-Line};
-ghost use Rattle.cql_columns.specs.Columns.{AreAsked, IsColumn, shown};
+ghost use Rattle.cql_columns.specs.Columns.{IsNodeSet, IsColumn, shown};
 ghost use Rattle.cql_columns.specs.Costs.{filter_cost, line_cost, parts_cost, body_cost, parts_atoms, body_atoms, searched_len};
 ghost use Rattle.cql_columns.specs.FlatTrees.{IsFlat, IsFlatLine, AreFlatParts, IsFlatBody};
 ghost use Rattle.cql_lines.specs.Tables.{atoms_of, nodes_of};
@@ -13,8 +13,8 @@ ghost use Rattle.cql_columns.specs.Scopes.{tree_in, value_in, parts_in, body_in}
 ghost use Rattle.cql_operators.specs.LineAtoms as spec;
 ghost use Rattle.cql_operators.specs.LineAtoms.{HasRoom, IsFilledIn};
 ghost use Rattle.cql_operators.specs.SpelledParts as spelled;
-ghost use Rattle.cql_operators.specs.SpelledParts.{AreTabled, IsLive, IsNever, LeadsOn, EndsHere};
-ghost use Rattle.cql_syntax.specs.TabledLines.{IsAsked};
+ghost use Rattle.cql_operators.specs.SpelledParts.{AreTabled, IsLive, IsNever, LeadsOn, SpellsNothing};
+ghost use Rattle.cql_syntax.specs.LineTables.{IsSearchedNode};
 ghost use Rattle.cq_position.specs.Search.{IsStep};
 
 use super::evaluate;
@@ -41,7 +41,7 @@ struct LineWay<'a> {
 
 /// Parts in a row, as far as their atoms are asked.
 #[derive(Drop)]
-struct Row<L: Ledger> {
+struct FilledParts<L: Ledger> {
     table: AtomTable<L>,
     /// Whether each atom that must stand holds somewhere.
     met: bool,
@@ -59,7 +59,7 @@ pub(super) fn line_column<L: Ledger>(
     steps: &mut Steps<L>,
 ) -> Result<FilterColumn, NoMemory>
     requires tree { IsTree scope.now.game.now.nodes }
-    requires asked { AreAsked (tree_in scope.now) live.now }
+    requires asked { IsNodeSet (tree_in scope.now) live.now }
     requires flat { IsFlatLine (line_tree line.now) }
     ensures value { IfOk result (λ c. IsColumn c live.now
         (meaning.line_value (tree_in scope.now) [] scope.now.names.now (line_tree line.now))) }
@@ -74,7 +74,7 @@ pub(super) fn line_column<L: Ledger>(
     };
     let all = all_nodes(alloc, scope)?;
     let table = empty_table(alloc, parts, scope.game)?;
-    let mut row = Row { table, met: true };
+    let mut row = FilledParts { table, met: true };
     put_row(alloc, parts, 0, &way, &all, &mut row, steps)?;
     drop(all);
     let met = row.met;
@@ -95,12 +95,12 @@ fn spelled_column<L: Ledger>(
 ) -> Result<FilterColumn, NoMemory>
     requires tree { IsTree scope.now.game.now.nodes }
     requires flat { IsFlatLine (line_tree line.now) }
-    requires tabled { AreTabled (tree_in scope.now) (out-Line line.now).back (IsAsked (tree_in scope.now)) table.now
+    requires tabled { AreTabled (tree_in scope.now) (out-Line line.now).back (IsSearchedNode (tree_in scope.now)) table.now
         (0 + parts_atoms (spec.parts_within line.now)) (spec.parts_numbered 0 (spec.parts_within line.now))
         (parts_in scope.now (spec.parts_within line.now)) }
     requires atoms { atoms_of table.now ≡ parts_atoms (spec.parts_within line.now) }
     requires nodes { nodes_of table.now ≡ length scope.now.game.now.nodes }
-    ensures value { IfOk result (λ c. (n : ℕ) → IsAsked (tree_in scope.now) n
+    ensures value { IfOk result (λ c. (n : ℕ) → IsSearchedNode (tree_in scope.now) n
         → shown c n ≡ meaning.line_value (tree_in scope.now) [] scope.now.names.now (line_tree line.now) n) }
     ensures cost { (before : ℕ) → steps.old ≤ before + parts_cost (searched_len (tree_in scope.now)) (spec.parts_within line.now)
         → steps.new ≤ before + line_cost (searched_len (tree_in scope.now)) (line_tree line.now) }
@@ -139,11 +139,11 @@ fn put_row<L: Ledger>(
     first: u32,
     way: &LineWay,
     live: &[bool],
-    row: &mut Row<L>,
+    row: &mut FilledParts<L>,
     steps: &mut Steps<L>,
 ) -> Result<u32, NoMemory>
     requires tree { IsTree way.now.scope.now.game.now.nodes }
-    requires asked { AreAsked (tree_in way.now.scope.now) live.now }
+    requires asked { IsNodeSet (tree_in way.now.scope.now) live.now }
     requires flat { AreFlatParts (parts_tree parts.now) }
     requires room { HasRoom (length way.now.scope.now.game.now.nodes) first (first + parts_atoms (parts_tree parts.now)) row.old.table }
     ensures next { IfOk result (λ next. next ≡ first + parts_atoms (parts_tree parts.now)) }
@@ -174,11 +174,11 @@ fn put_part<L: Ledger>(
     first: u32,
     way: &LineWay,
     starts: &mut Vec<bool>,
-    row: &mut Row<L>,
+    row: &mut FilledParts<L>,
     steps: &mut Steps<L>,
 ) -> Result<u32, NoMemory>
     requires tree { IsTree way.now.scope.now.game.now.nodes }
-    requires asked { AreAsked (tree_in way.now.scope.now) starts.old.items }
+    requires asked { IsNodeSet (tree_in way.now.scope.now) starts.old.items }
     requires flat { IsFlatBody (body_tree part.now.body) }
     requires room { HasRoom (length way.now.scope.now.game.now.nodes) first (first + body_atoms (body_tree part.now.body)) row.old.table }
     ensures next { IfOk result (λ next. next ≡ first + body_atoms (body_tree part.now.body)) }
@@ -187,7 +187,7 @@ fn put_part<L: Ledger>(
         (meaning.marked part.now.mark (spec.body_numbered first (body_tree part.now.body)))
         (meaning.marked part.now.mark (body_in way.now.scope.now (body_tree part.now.body)))) }
     ensures ends { OnOk result (row.old.met ≡ true → row.new.met ≡ false
-        → EndsHere (tree_in way.now.scope.now) way.now.back starts.old.items
+        → SpellsNothing (tree_in way.now.scope.now) way.now.back starts.old.items
         (meaning.marked part.now.mark (body_in way.now.scope.now (body_tree part.now.body)))) }
     ensures others { OnOk result (IsFilledIn row.old.table row.new.table first (first + body_atoms (body_tree part.now.body))) }
     ensures cost { steps.new ≤ steps.old + body_cost (searched_len (tree_in way.now.scope.now)) (body_tree part.now.body) }
@@ -241,11 +241,11 @@ fn put_once<L: Ledger>(
     first: u32,
     way: &LineWay,
     starts: &mut Vec<bool>,
-    row: &mut Row<L>,
+    row: &mut FilledParts<L>,
     steps: &mut Steps<L>,
 ) -> Result<u32, NoMemory>
     requires tree { IsTree way.now.scope.now.game.now.nodes }
-    requires asked { AreAsked (tree_in way.now.scope.now) starts.old.items }
+    requires asked { IsNodeSet (tree_in way.now.scope.now) starts.old.items }
     requires flat { IsFlatBody (body_tree body.now) }
     requires room { HasRoom (length way.now.scope.now.game.now.nodes) first (first + body_atoms (body_tree body.now)) row.old.table }
     ensures next { IfOk result (λ next. next ≡ first + body_atoms (body_tree body.now)) }
@@ -253,7 +253,7 @@ fn put_once<L: Ledger>(
         row.new.table (first + body_atoms (body_tree body.now)) (spec.body_numbered first (body_tree body.now))
         (body_in way.now.scope.now (body_tree body.now))) }
     ensures ends { OnOk result (row.old.met ≡ true → row.new.met ≡ false
-        → EndsHere (tree_in way.now.scope.now) way.now.back starts.old.items (body_in way.now.scope.now (body_tree body.now))) }
+        → SpellsNothing (tree_in way.now.scope.now) way.now.back starts.old.items (body_in way.now.scope.now (body_tree body.now))) }
     ensures others { OnOk result (IsFilledIn row.old.table row.new.table first (first + body_atoms (body_tree body.now))) }
     ensures cost { steps.new ≤ steps.old + body_cost (searched_len (tree_in way.now.scope.now)) (body_tree body.now) }
     ensures rises { steps.old ≤ steps.new }
@@ -280,17 +280,17 @@ fn put_atom_once<L: Ledger>(
     first: u32,
     way: &LineWay,
     live: &[bool],
-    row: &mut Row<L>,
+    row: &mut FilledParts<L>,
     steps: &mut Steps<L>,
 ) -> Result<Vec<bool>, NoMemory>
     requires tree { IsTree way.now.scope.now.game.now.nodes }
-    requires asked { AreAsked (tree_in way.now.scope.now) live.now }
+    requires asked { IsNodeSet (tree_in way.now.scope.now) live.now }
     requires flat { IsFlat (filter_tree filter.now) }
     requires room { HasRoom (length way.now.scope.now.game.now.nodes) first (first + 1) row.old.table }
     ensures leads { IfOk result (λ behind. LeadsOn (tree_in way.now.scope.now) way.now.back live.now behind.items
         row.new.table (first + 1) (one first) (one (value_in way.now.scope.now (filter_tree filter.now)))) }
     ensures ends { OnOk result (row.old.met ≡ true → row.new.met ≡ false
-        → EndsHere (tree_in way.now.scope.now) way.now.back live.now (one (value_in way.now.scope.now (filter_tree filter.now)))) }
+        → SpellsNothing (tree_in way.now.scope.now) way.now.back live.now (one (value_in way.now.scope.now (filter_tree filter.now)))) }
     ensures others { OnOk result (IsFilledIn row.old.table row.new.table first (first + 1)) }
     ensures cost { steps.new ≤ steps.old + filter_cost (searched_len (tree_in way.now.scope.now)) (filter_tree filter.now) }
     ensures rises { steps.old ≤ steps.new }
@@ -320,11 +320,11 @@ fn put_wherever<L: Ledger>(
     first: u32,
     way: &LineWay,
     live: &[bool],
-    row: &mut Row<L>,
+    row: &mut FilledParts<L>,
     steps: &mut Steps<L>,
 ) -> Result<u32, NoMemory>
     requires tree { IsTree way.now.scope.now.game.now.nodes }
-    requires asked { AreAsked (tree_in way.now.scope.now) live.now }
+    requires asked { IsNodeSet (tree_in way.now.scope.now) live.now }
     requires flat { IsFlatBody (body_tree body.now) }
     requires room { HasRoom (length way.now.scope.now.game.now.nodes) first (first + body_atoms (body_tree body.now)) row.old.table }
     ensures next { IfOk result (λ next. next ≡ first + body_atoms (body_tree body.now)) }

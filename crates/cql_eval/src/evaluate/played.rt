@@ -4,18 +4,18 @@ ghost use Rattle.cq_position.specs.Games.{IsTree};
 ghost use Rattle.cql_syntax.specs.Meaning as meaning;
 ghost use Rattle.cql_syntax.specs.TreeOf.{filter_tree, played_tree, written_tree};
 ghost use Rattle.cql_syntax.specs.Values.{as_truth};
-ghost use Rattle.cql_columns.specs.Columns.{AreAsked, IsColumn, Where, shown};
+ghost use Rattle.cql_columns.specs.Columns.{IsNodeSet, IsColumn, Where, shown};
 ghost use Rattle.cql_columns.specs.Costs.{played_cost, written_cost, searched_len};
 ghost use Rattle.cql_columns.specs.FlatTrees.{IsFlatMove, IsFlatPart};
 ghost use Rattle.cql_columns.specs.Scopes.{tree_in};
-ghost use Rattle.cql_pruning.specs.Moved.{ArePartColumns, parts_cost};
+ghost use Rattle.cql_pruning.specs.MoveTargets.{ArePartColumns, parts_cost};
 
 use super::columns::met_column;
 use super::evaluate;
 use cq_common::{NoMemory, Steps};
 use cql_columns::filter_column::FilterColumn;
 use cql_columns::scope::Scope;
-use cql_operators::tree::befores;
+use cql_operators::tree::nodes_before;
 use cql_pruning::moves::{PartColumns, promoting};
 use cql_syntax::{Filter, Played};
 use std::alloc::Global;
@@ -33,7 +33,7 @@ pub(super) fn played_column<L: Ledger>(
     steps: &mut Steps<L>,
 ) -> Result<FilterColumn, NoMemory>
     requires tree { IsTree scope.now.game.now.nodes }
-    requires asked { AreAsked (tree_in scope.now) live.now }
+    requires asked { IsNodeSet (tree_in scope.now) live.now }
     requires flat { IsFlatMove (played_tree played.now) }
     ensures value { IfOk result (λ c. IsColumn c live.now
         (λ n. as_truth (meaning.played_value (tree_in scope.now) [] scope.now.names.now (played_tree played.now) n))) }
@@ -59,13 +59,13 @@ pub(super) fn part_columns<L: Ledger>(
     steps: &mut Steps<L>,
 ) -> Result<PartColumns, NoMemory>
     requires tree { IsTree scope.now.game.now.nodes }
-    requires asked { AreAsked (tree_in scope.now) live.now }
+    requires asked { IsNodeSet (tree_in scope.now) live.now }
     requires flat { IsFlatMove (played_tree played.now) }
     ensures value { IfOk result (ArePartColumns (tree_in scope.now) scope.now.names.now played.now live.now) }
     ensures cost { steps.new ≤ steps.old + parts_cost (searched_len (tree_in scope.now)) played.now }
     ensures rises { steps.old ≤ steps.new }
 {
-    let wide = befores(alloc, scope, live)?;
+    let wide = nodes_before(alloc, scope, live)?;
     let wide = wide.as_slice();
     let origin = written_column(alloc, &played.origin, scope, wide, steps)?;
     let taken = written_column(alloc, &played.taken, scope, wide, steps)?;
@@ -88,7 +88,7 @@ pub(super) fn written_column<L: Ledger>(
     steps: &mut Steps<L>,
 ) -> Result<Option<FilterColumn>, NoMemory>
     requires tree { IsTree scope.now.game.now.nodes }
-    requires asked { AreAsked (tree_in scope.now) live.now }
+    requires asked { IsNodeSet (tree_in scope.now) live.now }
     requires flat { IsFlatPart (written_tree written.now) }
     ensures value { IfOk result (λ column. Where live.now (λ n. option_map (λ c. shown c n) column
         ≡ meaning.written_value (tree_in scope.now) [] scope.now.names.now (written_tree written.now) n)) }

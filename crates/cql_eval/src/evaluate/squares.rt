@@ -3,9 +3,9 @@ ghost use Rattle.std.specs.Prelude.{◌≡◌, ℕ, ◌≤◌, ◌+◌, ◌*◌,
 ghost use Rattle.cq_position.specs.Games.{IsTree};
 ghost use Rattle.cql_syntax.specs.TreeOf.{filter_tree};
 ghost use Rattle.cql_syntax.specs.Values as spec;
-ghost use Rattle.cql_columns.specs.Asked.{AreUnsettled, AreWanted};
-ghost use Rattle.cql_eval.specs.Bindings.{holds_with};
-ghost use Rattle.cql_columns.specs.Columns.{AreAsked, AreTruths, shown};
+ghost use Rattle.cql_columns.specs.SquareTrials.{AreUnsettled, CoverSquares};
+ghost use Rattle.cql_eval.specs.Internal.Bindings.{holds_with};
+ghost use Rattle.cql_columns.specs.Columns.{IsNodeSet, AreTruths, shown};
 ghost use Rattle.cql_columns.specs.Costs.{filter_cost, searched_len};
 ghost use Rattle.cql_columns.specs.FlatTrees.{IsFlat};
 ghost use Rattle.cql_columns.specs.Scopes.{tree_in};
@@ -15,7 +15,7 @@ use super::covers::cover;
 use super::evaluate;
 use super::goals::goal_truths;
 use super::trial::Trial;
-use crate::here::truths_here;
+use crate::local::local_truths;
 use cq_common::{NoMemory, Steps};
 use cq_geometry::Square;
 use cql_columns::binding::Binding;
@@ -26,7 +26,7 @@ use cql_operators::attacks::attack_truths;
 use cql_operators::squares::{decided, having, unsettled, wanted_squares};
 use cql_pruning::attacks::{attacked_part, is_attack_alone};
 use cql_pruning::covers::sets_of;
-use cql_pruning::free::only_name;
+use cql_pruning::independent::only_name;
 use cql_syntax::Filter;
 use cql_values::names::Names;
 use cql_values::sets::has_square;
@@ -36,7 +36,7 @@ use std::sync::ledger::Ledger;
 /// Whether what is asked of a square holds of every square of a set, or of some: of some all at once where it is asked whether the move
 /// went there, and else of those alone with which it may hold.
 #[cycle(evaluate)]
-pub(super) fn asked_truths<L: Ledger>(
+pub(super) fn square_filter_truths<L: Ledger>(
     alloc: Global,
     binding: &Binding,
     asked: &Filter,
@@ -44,7 +44,7 @@ pub(super) fn asked_truths<L: Ledger>(
     steps: &mut Steps<L>,
 ) -> Result<Vec<bool>, NoMemory>
     requires tree { IsTree binding.now.scope.now.game.now.nodes }
-    requires asked { AreAsked (tree_in binding.now.scope.now) live.now }
+    requires asked { IsNodeSet (tree_in binding.now.scope.now) live.now }
     requires flat { IsFlat (filter_tree asked.now) }
     ensures value { IfOk result (λ truths. AreTruths truths.items live.now
         (λ n. spec.square_of binding.now.every (shown binding.now.squares.now n) (holds_with binding.now (filter_tree asked.now) n))) }
@@ -86,7 +86,7 @@ fn covered_sets<L: Ledger>(
     steps: &mut Steps<L>,
 ) -> Result<Vec<u64>, NoMemory>
     requires tree { IsTree binding.now.scope.now.game.now.nodes }
-    requires asked { AreAsked (tree_in binding.now.scope.now) live.now }
+    requires asked { IsNodeSet (tree_in binding.now.scope.now) live.now }
     requires flat { IsFlat (filter_tree asked.now) }
     requires opened { opened.now ≡ (binding.now.name.now, 0) ∷ [] }
     ensures worth { IfOk result (λ sets. AreWorthTrying (shown binding.now.squares.now) live.now
@@ -115,7 +115,7 @@ fn square_truths<L: Ledger>(
     steps: &mut Steps<L>,
 ) -> Result<Vec<bool>, NoMemory>
     requires tree { IsTree binding.now.scope.now.game.now.nodes }
-    requires asked { AreAsked (tree_in binding.now.scope.now) live.now }
+    requires asked { IsNodeSet (tree_in binding.now.scope.now) live.now }
     requires flat { IsFlat (filter_tree asked.now) }
     ensures value { IfOk result (λ truths. AreTruths truths.items live.now
         (λ n. spec.square_of binding.now.every (shown binding.now.squares.now n) (holds_with binding.now (filter_tree asked.now) n))) }
@@ -126,7 +126,7 @@ fn square_truths<L: Ledger>(
         Some(d) => return attack_truths(alloc, binding.squares, d, binding.scope, live),
         None => {}
     }
-    let here = truths_here(alloc, binding, asked, live)?;
+    let here = local_truths(alloc, binding, asked, live)?;
     if let Some(truths) = here {
         return Ok(truths);
     }
@@ -151,8 +151,8 @@ fn square_turn<L: Ledger>(
     steps: &mut Steps<L>,
 ) -> Result<Vec<bool>, NoMemory>
     requires tree { IsTree binding.now.scope.now.game.now.nodes }
-    requires asked { AreAsked (tree_in binding.now.scope.now) left.items }
-    requires wanted { AreWanted (shown binding.now.squares.now) left.items wanted }
+    requires asked { IsNodeSet (tree_in binding.now.scope.now) left.items }
+    requires wanted { CoverSquares (shown binding.now.squares.now) left.items wanted }
     requires flat { IsFlat (filter_tree asked.now) }
     ensures value { IfOk result (λ later. AreUnsettled binding.now.every (shown binding.now.squares.now)
         (λ n. holds_with binding.now (filter_tree asked.now) n square) square left.items later.items) }

@@ -1,6 +1,6 @@
 //! Atoms put into a table and looked at. Nothing else reads its bits, and each look counts a step.
 ghost use Rattle.std.specs.Prelude.{◌≡◌, ℕ, ◌+◌, ◌<◌, ◌≤◌, ◌||◌, true, false, IfOk, replicate};
-ghost use Rattle.cql_lines.specs.Lengths.{is_set, at};
+ghost use Rattle.cql_lines.specs.Internal.Lengths.{is_set, at};
 ghost use Rattle.cql_lines.specs.Limits.{most_nodes};
 ghost use Rattle.cql_lines.specs.Tables.{atoms_of, nodes_of, words_of, holds_in};
 

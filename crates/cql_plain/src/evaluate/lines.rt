@@ -5,14 +5,14 @@ ghost use Rattle.cq_position.specs.Games.{IsTree};
 ghost use Rattle.cql_syntax.specs.Meaning as meaning;
 ghost use Rattle.cql_syntax.specs.TreeOf.{body_tree, filter_tree, line_tree, parts_tree};
 ghost use Rattle.cql_syntax.specs.Values as spec;
-ghost use Rattle.cql_plain.specs.Lines.{EndsOf, least_times, most_times};
-ghost use Rattle.cql_plain.specs.Paths.{AreSteps, comes_from as goes_from};
-ghost use Rattle.cql_plain.specs.Scopes.{tree_in, value_in};
-ghost use Rattle.cql_values.specs.Shown.{meant};
+ghost use Rattle.cql_plain.specs.Internal.LineParts.{EndsOf, least_times, most_times};
+ghost use Rattle.cql_plain.specs.Internal.Paths.{AreSteps, comes_from as goes_from};
+ghost use Rattle.cql_plain.specs.Internal.Scopes.{tree_in, value_in};
+ghost use Rattle.cql_values.specs.ValueModel.{as_value};
 
 use super::evaluate;
-use crate::paths::{Reached, longest, number_of, paths_from};
-use crate::places::{comes_from, fresh, has_some, only_first, where_counted, with_next};
+use crate::paths::{PathStep, longest, number_of, paths_from};
+use crate::path_places::{comes_from, fresh, has_some, only_first, where_counted, with_next};
 use crate::scope::Scope;
 use cq_common::NoMemory;
 use cql_syntax::{Body, Constituents, Filter, Line, Mark};
@@ -30,7 +30,7 @@ pub(super) fn line_at(
 ) -> Result<Value, NoMemory>
     requires tree { IsTree scope.now.game.now.nodes }
     requires node { node < length scope.now.game.now.nodes }
-    ensures { IfOk result (λ v. meant v ≡ meaning.line_value
+    ensures { IfOk result (λ v. as_value v ≡ meaning.line_value
         (tree_in scope.now) scope.now.context.now scope.now.names.now (line_tree line.now) node) }
 {
     let steps = paths_from(
@@ -53,7 +53,7 @@ pub(super) fn line_at(
 fn parts_ends(
     alloc: Global,
     parts: &Constituents,
-    steps: &[Option<Reached>],
+    steps: &[Option<PathStep>],
     starts: &[bool],
     scope: &Scope,
 ) -> Result<Vec<bool>, NoMemory>
@@ -110,7 +110,7 @@ fn repeat(
     body: &Body,
     least: u32,
     most: u32,
-    steps: &[Option<Reached>],
+    steps: &[Option<PathStep>],
     starts: &[bool],
     scope: &Scope,
 ) -> Result<Vec<bool>, NoMemory>
@@ -139,7 +139,7 @@ fn repeat(
 fn body_ends(
     alloc: Global,
     body: &Body,
-    steps: &[Option<Reached>],
+    steps: &[Option<PathStep>],
     starts: &[bool],
     scope: &Scope,
 ) -> Result<Vec<bool>, NoMemory>
@@ -161,7 +161,7 @@ fn body_ends(
 fn atom_ends(
     alloc: Global,
     filter: &Filter,
-    steps: &[Option<Reached>],
+    steps: &[Option<PathStep>],
     starts: &[bool],
     scope: &Scope,
 ) -> Result<Vec<bool>, NoMemory>
@@ -186,7 +186,7 @@ fn atom_ends(
 fn passes(
     alloc: Global,
     filter: &Filter,
-    steps: &[Option<Reached>],
+    steps: &[Option<PathStep>],
     starts: &[bool],
     k: u32,
     scope: &Scope,

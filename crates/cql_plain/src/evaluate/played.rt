@@ -4,14 +4,14 @@ ghost use Rattle.cq_position.specs.Games.{IsTree};
 ghost use Rattle.cql_syntax.specs.Meaning as meaning;
 ghost use Rattle.cql_syntax.specs.TreeOf.{played_tree, written_tree};
 ghost use Rattle.cql_syntax.specs.Values.{as_truth};
-ghost use Rattle.cql_plain.specs.Scopes.{tree_in};
-ghost use Rattle.cql_values.specs.Shown.{meant};
+ghost use Rattle.cql_plain.specs.Internal.Scopes.{tree_in};
+ghost use Rattle.cql_values.specs.ValueModel.{as_value};
 
 use super::evaluate;
 use crate::scope::Scope;
 use cq_common::NoMemory;
 use cql_syntax::{Filter, Played};
-use cql_values::led::{before, led_to, meets_all};
+use cql_values::move_filter::{before, led_to, meets_all};
 use cql_values::value::Value;
 use std::alloc::Global;
 
@@ -27,7 +27,7 @@ pub(super) fn played_at(
 ) -> Result<Value, NoMemory>
     requires tree { IsTree scope.now.game.now.nodes }
     requires node { node < length scope.now.game.now.nodes }
-    ensures { IfOk result (λ v. meant v ≡ as_truth (meaning.played_value
+    ensures { IfOk result (λ v. as_value v ≡ as_truth (meaning.played_value
         (tree_in scope.now) scope.now.context.now scope.now.names.now (played_tree played.now) node)) }
 {
     let before = before(scope.game, scope.variations, node);
@@ -49,7 +49,7 @@ fn written_at(
 ) -> Result<Option<Value>, NoMemory>
     requires tree { IsTree scope.now.game.now.nodes }
     requires node { node < length scope.now.game.now.nodes }
-    ensures { IfOk result (λ v. option_map meant v ≡ meaning.written_value
+    ensures { IfOk result (λ v. option_map as_value v ≡ meaning.written_value
         (tree_in scope.now) scope.now.context.now scope.now.names.now (written_tree written.now) node) }
 {
     match written {

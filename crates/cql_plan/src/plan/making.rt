@@ -3,7 +3,7 @@ ghost use Rattle.std.specs.Prelude.{◌≡◌, ◌≢◌, [], true, IfOk};
 ghost use Rattle.cql_syntax.specs.Hits.{hits};
 ghost use Rattle.cql_syntax.specs.TreeOf.{filters_tree, query_tree};
 ghost use Rattle.cql_plan.specs.Needs.{query_passes};
-ghost use Rattle.cql_plan.specs.Plans.{query_of, joined_of, IsAskedFor};
+ghost use Rattle.cql_plan.specs.Plans.{query_of, joined_of, IsJoinedFormOf};
 
 use crate::needs::all_needed;
 use crate::plan::Plan;
@@ -41,7 +41,7 @@ impl Plan {
     /// The form of the query that is asked.
     pub fn joined(&self) -> &FlatQuery
         ensures value { result.now ≡ joined_of self.now }
-        ensures asked { IsAskedFor (query_tree (query_of self.now).query) result.now.variations (filters_tree result.now.items) }
+        ensures asked { IsJoinedFormOf (query_tree (query_of self.now).query) result.now.variations (filters_tree result.now.items) }
     {
         &self.joined
     }

@@ -10,6 +10,6 @@ returns c =
     let empty = empty_seen men _ c.squares_of-empty.ensures in
     marks_same _ _ _ (λ k low. seen_attacks men c.args.square k low)
     (marks_or _ _ _ _ (marks_or _ _ _ _
-    (marks_and _ _ _ _ c.standing.ensures (c.straight_squares.ensures (is_occupied men) empty))
-    (marks_and _ _ _ _ c.standing-2.ensures (c.slanted_squares.ensures (is_occupied men) empty)))
+    (marks_and _ _ _ _ c.standing.ensures (c.rook_attacks.ensures (is_occupied men) empty))
+    (marks_and _ _ _ _ c.standing-2.ensures (c.bishop_attacks.ensures (is_occupied men) empty)))
     c.leapers_of.ensures)

@@ -1,4 +1,4 @@
-use Rattle.cq_bits.specs.Kinds.{is_of_kind}
+use Rattle.cq_bits.specs.Internal.Kinds.{is_of_kind}
 use Rattle.cq_bits.proofs.Members.{chosen_exactly}
 use Rattle.cq_bits.proofs.attacks.chosen.Goals as goal
 

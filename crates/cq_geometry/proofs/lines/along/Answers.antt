@@ -5,7 +5,7 @@ use Rattle.std.proofs.lemmas.List.Elements.{filter_map-append}
 use Rattle.cq_geometry.specs.declared.compass.Compass.{Compass}
 use Rattle.cq_geometry.specs.Steps.{steps_away}
 use Rattle.cq_geometry.specs.Directions.{files_of, ranks_of}
-use Rattle.cq_geometry.specs.Expansions.{steps_below}
+use Rattle.cq_geometry.specs.Internal.Expansions.{steps_below}
 use Rattle.cq_geometry.proofs.lines.along.Goals as goal
 use Rattle.cq_geometry.proofs.lines.along.Goals.{in-Some, in_default}
 

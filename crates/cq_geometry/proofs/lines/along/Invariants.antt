@@ -1,5 +1,5 @@
 use Rattle.std.proofs.Common.{◌≡◌, ◌≤◌, ◌+◌, max, length}
-use Rattle.cq_geometry.specs.Expansions.{steps_below}
+use Rattle.cq_geometry.specs.Internal.Expansions.{steps_below}
 use Rattle.cq_geometry.proofs.lines.along.Given as goal
 
 abbrev pub invariant-loop-n : goal.invariant-loop-n

@@ -1,6 +1,6 @@
 use Rattle.std.proofs.Common.{◌<◌, ap, ◌∙◌, rules}
 use Rattle.cq_geometry.specs.Steps.{distance as king_distance}
-use Rattle.cq_geometry.specs.Expansions.{steps_between, steps_below}
+use Rattle.cq_geometry.specs.Internal.Expansions.{steps_between, steps_below}
 use Rattle.cq_geometry.proofs.Inside.{between_by_steps}
 use Rattle.cq_geometry.proofs.lines.between.Goals as goal
 

@@ -2,7 +2,7 @@ use Rattle.std.proofs.Common.{◌≡◌, ◌<◌, ◌+◌, ℕ, Option, Some, No
 use Rattle.std.proofs.lemmas.Grind.{common_steps}
 use Rattle.std.proofs.lemmas.List.{take_more}
 use Rattle.std.proofs.lemmas.List.Elements.{filter_map-append}
-use Rattle.cq_geometry.specs.Expansions.{kept_goals}
+use Rattle.cq_geometry.specs.Internal.Expansions.{kept_goals}
 use Rattle.cq_geometry.proofs.steps.kept.Goals as goal
 use Rattle.cq_geometry.proofs.steps.kept.Goals.{in-Some, in_default}
 

@@ -1,5 +1,5 @@
 use Rattle.std.proofs.Common.{◌≡◌, ◌≤◌, length, take}
-use Rattle.cq_geometry.specs.Expansions.{kept_goals}
+use Rattle.cq_geometry.specs.Internal.Expansions.{kept_goals}
 use Rattle.cq_geometry.proofs.steps.kept.Given as goal
 
 abbrev pub invariant-loop-goal : goal.invariant-loop-goal

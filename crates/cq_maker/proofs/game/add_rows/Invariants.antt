@@ -1,5 +1,5 @@
 use Rattle.std.proofs.Common.{◌≡◌, ◌++◌, take}
-use Rattle.cq_maker.specs.Rows.{nodes_of_rows}
+use Rattle.cq_maker.specs.Internal.DrawnMoves.{nodes_of_rows}
 use Rattle.cq_maker.proofs.game.add_rows.Given as goal
 
 abbrev pub invariant-loop-row : goal.invariant-loop-row

@@ -1,7 +1,7 @@
 use Rattle.std.proofs.Common.{◌≡◌, ◌∷◌, [], ◌++◌, None, ◌∙◌, ap, ap₂}
 use Rattle.cq_position.specs.Continuations.{nodes_from}
 use Rattle.cq_position.specs.Games.{bare_node}
-use Rattle.cq_maker.specs.Rows.{nodes_of_rows}
+use Rattle.cq_maker.specs.Internal.DrawnMoves.{nodes_of_rows}
 use Rattle.cq_maker.proofs.Games.{root, line_is, main_tree, all_tree, game_is}
 use Rattle.cq_maker.proofs.game.make_game.Goals as goal
 

@@ -1,7 +1,7 @@
 use Rattle.std.proofs.Common.{◌==◌, ◌++◌, ◌∙◌, ap, length}
 use Rattle.cq_position.specs.Continuations.{nodes_from}
 use Rattle.cq_maker.specs.Line.{variation_drawn, after_variation}
-use Rattle.cq_maker.specs.Rows.{nodes_of_rows}
+use Rattle.cq_maker.specs.Internal.DrawnMoves.{nodes_of_rows}
 use Rattle.cq_maker.proofs.Drawn.{goes_on, is_done}
 use Rattle.cq_maker.proofs.Plies.{IsWhole, drawn_more, whole_full, whole_over}
 use Rattle.cq_maker.proofs.line.draw_line.Goals.{else-loop-parent-test, then-loop-parent-test+then-is_empty}

@@ -1,5 +1,5 @@
 use Rattle.std.proofs.Common.{◌&&◌, sym, ap, ◌∙◌}
-use Rattle.cq_moves.specs.Mover.{is_free}
+use Rattle.cq_moves.specs.Internal.Mover.{is_free}
 use Rattle.cq_moves.proofs.Origins.{piece_reaches}
 use Rattle.cq_moves.proofs.legality.reaches_seen.Goals as goal
 

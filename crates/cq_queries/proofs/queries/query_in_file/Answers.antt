@@ -3,7 +3,7 @@ use Rattle.std.proofs.lemmas.Result.{err_from_is_err_and}
 use Rattle.cql_syntax.specs.TreeOf.{query_tree}
 use Rattle.cq_queries.specs.Views.{desk_view}
 use Rattle.cq_queries.specs.Queries.{IsQuery, IsQueryFault}
-use Rattle.cq_queries.specs.Files.{a_query}
+use Rattle.cq_queries.specs.Files.{query_file_kind}
 use Rattle.cq_queries.proofs.Opening.{no_memory_after, untaken}
 use Rattle.cq_queries.proofs.queries.query_in_file.Goals as goal
 
@@ -12,7 +12,7 @@ returns-in_err-text g c =
     let view = desk_view g.D.Desk.told g.D.Source.left g.D.Source.faults g.D.Desk.open_faults in
     let p = err_from_is_err_and c.from_residual.result c.from_residual.ensures.1 in
     rw (p.1, p.2)
-    (untaken a_query c.args.name.now (view c.args.desk.now) (view c.text_in_file.new.desk) c.in_err-text.field-0.0 c.in_err-text.ensures)
+    (untaken query_file_kind c.args.name.now (view c.args.desk.now) (view c.text_in_file.new.desk) c.in_err-text.field-0.0 c.in_err-text.ensures)
 
 pub returns-in-Ok : goal.returns-in-Ok
 returns-in-Ok g c =

@@ -1,7 +1,7 @@
 use Rattle.std.proofs.Common.{sym, subst}
 use Rattle.cql_syntax.specs.Limits.{most_open}
 use Rattle.cql_syntax.specs.TreeOf.{query_tree}
-use Rattle.cql_parser.specs.Drafts.{Spells}
+use Rattle.cql_parser.specs.PartialFilters.{Spells}
 use Rattle.cql_parser.specs.Faults.{IsEnded}
 use Rattle.cq_queries.proofs.Texts.{parsed}
 use Rattle.cq_queries.proofs.queries.read_query.Goals as goal

@@ -5,7 +5,7 @@ use Rattle.cq_position.specs.Legality.{legal_test}
 use Rattle.cq_square_sets.specs.Bitboards.{IsBitboard}
 use Rattle.cq_moves.specs.Candidates.{may_come}
 use Rattle.cq_san.specs.Fits as fit
-use Rattle.cq_san.specs.Origins as origin
+use Rattle.cq_san.specs.Internal.Origins as origin
 use Rattle.cq_san.proofs.origins.is_origin.Goals as goal
 
 pub is_plain_and_legal-requires-clause-seen : goal.is_plain_and_legal-requires-clause-seen
@@ -16,19 +16,19 @@ is_plain_and_legal-requires-clause-seen c =
 pub is_plain_and_legal-requires-clause-agrees : goal.is_plain_and_legal-requires-clause-agrees
 is_plain_and_legal-requires-clause-agrees c =
     ap (fit.agrees_in_parts c.args.position.now c.args.parts.now) c.move_from-m.ensures
-    ∙ sym (c.agrees_there.ensures c.args.position.now c.requires.there) ∙ c.if-agrees_there.true
+    ∙ sym (c.agrees_at.ensures c.args.position.now c.requires.there) ∙ c.if-agrees_at.true
 
-pub returns-then-agrees_there : goal.returns-then-agrees_there
-returns-then-agrees_there c =
+pub returns-then-agrees_at : goal.returns-then-agrees_at
+returns-then-agrees_at c =
     let p = c.args.position.now in
     let m = origin.move_from c.args.parts.now c.args.from in
     c.is_plain_and_legal.ensures ∙ ap (λ m. not (legal.is_castling p m) && legal_test p m) c.move_from-m.ensures
     ∙ sym (ap (λ agreed. agreed && not (legal.is_castling p m) && legal_test p m)
-    (sym (c.agrees_there.ensures p c.requires.there) ∙ c.if-agrees_there.true))
+    (sym (c.agrees_at.ensures p c.requires.there) ∙ c.if-agrees_at.true))
 
-pub returns-else-agrees_there : goal.returns-else-agrees_there
-returns-else-agrees_there c =
+pub returns-else-agrees_at : goal.returns-else-agrees_at
+returns-else-agrees_at c =
     let p = c.args.position.now in
     let m = origin.move_from c.args.parts.now c.args.from in
-    c.if-agrees_there.false ∙ sym (ap (λ agreed. agreed && not (legal.is_castling p m) && legal_test p m)
-    (sym (c.agrees_there.ensures p c.requires.there) ∙ c.if-agrees_there.false))
+    c.if-agrees_at.false ∙ sym (ap (λ agreed. agreed && not (legal.is_castling p m) && legal_test p m)
+    (sym (c.agrees_at.ensures p c.requires.there) ∙ c.if-agrees_at.false))

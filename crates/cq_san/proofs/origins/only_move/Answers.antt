@@ -2,7 +2,7 @@ use Rattle.std.proofs.Common.{◌<◌, ◌^◌, [], ◌∷◌, Ok, map, ap, sym,
 use Rattle.std.specs.Prelude.{bit_and}
 use Rattle.std.specs.Option.{option_to_list}
 use Rattle.cq_moves.proofs.Bits.{walk_shorter}
-use Rattle.cq_san.specs.Origins.{is_origin, move_from, origins}
+use Rattle.cq_san.specs.Internal.Origins.{is_origin, move_from, origins}
 use Rattle.cq_san.specs.Reading.{only}
 use Rattle.cq_san.proofs.Leftover.{found-start, found-without, found-end, first-found, second-found, origin_comes}
 use Rattle.cq_san.proofs.origins.only_move.Goals as goal

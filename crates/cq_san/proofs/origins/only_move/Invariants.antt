@@ -1,6 +1,6 @@
 use Rattle.std.proofs.Common.{length}
 use Rattle.std.specs.Option.{option_to_list}
-use Rattle.cq_san.specs.Origins.{is_origin}
+use Rattle.cq_san.specs.Internal.Origins.{is_origin}
 use Rattle.cq_moves.proofs.Bits.{set_squares}
 use Rattle.cq_san.proofs.Leftover.{IsFound}
 use Rattle.cq_san.proofs.origins.only_move.Given as goal

@@ -1,7 +1,7 @@
 use Rattle.std.proofs.Common.{◌<◌, ◌^◌, ℕ, List, sym, ◌∙◌, arith, rules, subst}
 use Rattle.std.specs.Prelude.{bit_and}
 use Rattle.cq_moves.proofs.Bits.{walk_shorter}
-use Rattle.cq_san.specs.Origins.{is_origin, origins}
+use Rattle.cq_san.specs.Internal.Origins.{is_origin, origins}
 use Rattle.cq_san.proofs.Leftover.{IsFound, found-start, found-with, found-without, found-end, found-room, origin_comes}
 use Rattle.cq_san.proofs.origins.origins.Goals as goal
 

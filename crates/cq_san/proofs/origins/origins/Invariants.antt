@@ -1,5 +1,5 @@
 use Rattle.std.proofs.Common.{length}
-use Rattle.cq_san.specs.Origins.{is_origin}
+use Rattle.cq_san.specs.Internal.Origins.{is_origin}
 use Rattle.cq_moves.proofs.Bits.{set_squares}
 use Rattle.cq_san.proofs.Leftover.{IsFound}
 use Rattle.cq_san.proofs.origins.origins.Given as goal

@@ -12,7 +12,7 @@ returns-clause-answers g c =
     let source = source_view g.S.Source.left g.S.Source.faults in
     let out = sink_view g.O.Sink.taken g.O.Sink.faults in
     let err = sink_view g.E.Sink.taken g.E.Sink.faults in
-    let new = c.answer_many_with.new in
+    let new = c.search_archive_many.new in
     let sinks = sinks_of (out c.args.out.now) (out new.out) (err c.args.err.now) (err new.err) in
-    subst (λ (s : Settings). AnswerPromise (texts_of_all (trees_of c.args.queries.now)) c.answer_many_with.result
-    (answer_call s.limit (source c.args.source.now) (source new.source) sinks)) c.new-crew.ensures c.answer_many_with.ensures.answers
+    subst (λ (s : Settings). AnswerPromise (texts_of_all (trees_of c.args.queries.now)) c.search_archive_many.result
+    (answer_call s.limit (source c.args.source.now) (source new.source) sinks)) c.new-context.ensures c.search_archive_many.ensures.answers

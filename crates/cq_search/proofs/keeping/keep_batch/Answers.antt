@@ -3,9 +3,9 @@ use Rattle.std.proofs.lemmas.List.{length-map}
 use Rattle.std.proofs.lemmas.Result.{err_from_is_err_and}
 use Rattle.cq_shards.specs.Many.{answers_in}
 use Rattle.cq_shards.specs.declared.answers.GameAnswer.{GameAnswer}
-use Rattle.cq_search.specs.ManyWriting.{IsRowOrdered}
+use Rattle.cq_search.specs.Internal.ManyWriting.{IsSortedByGame}
 use Rattle.cq_queries.specs.Views.{sink_view, sinks_of}
-use Rattle.cq_search.specs.Writing.{FoundSoFar, stand_of}
+use Rattle.cq_search.specs.Internal.Writing.{FoundSoFar, search_state}
 use Rattle.cq_search.proofs.ManyBatch.{FirstCall, first_failed, first_starved, none_kept_yet, rest_kept, rest_starved}
 use Rattle.cq_search.proofs.Rows.{kept_at, rest_of_all}
 use Rattle.cq_search.proofs.keeping.keep_batch.Goals as goal
@@ -21,7 +21,7 @@ returns-in_err-first g c = λ queries before outcomes first second are found.
 pub write_answers-requires-clause-games : goal.write_answers-requires-clause-games
 write_answers-requires-clause-games g c =
     c.requires.games c.in_ok-first.first.items
-    (subst (λ r. IsRowOrdered r c.in_ok-first.first.items) c.take.ensures.given (c.in_ok-first.ensures.same, c.in_ok-first.ensures.order))
+    (subst (λ r. IsSortedByGame r c.in_ok-first.first.items) c.take.ensures.given (c.in_ok-first.ensures.same, c.in_ok-first.ensures.order))
 
 pub returns-in-Err-Fault : goal.returns-in-Err-Fault
 returns-in-Err-Fault g c = λ queries before outcomes first second are found.
@@ -48,10 +48,10 @@ returns-in-Err-Fault g c = λ queries before outcomes first second are found.
     first_failed call queries c.in-Err-Fault.failed (record {
       some = omega (arith, some, long);
       are = are;
-      sorts = subst (λ r. IsRowOrdered r ordered) c.take.ensures.given (c.in_ok-first.ensures.same, c.in_ok-first.ensures.order);
+      sorts = subst (λ r. IsSortedByGame r ordered) c.take.ensures.given (c.in_ok-first.ensures.same, c.in_ok-first.ensures.order);
       found = found;
       does = λ query is stood.
-          let stands = subst (λ ks. FoundSoFar true query before old (stand_of c.args.tally.now ks)) (sym at) stood in
+          let stands = subst (λ ks. FoundSoFar true query before old (search_state c.args.tally.now ks)) (sym at) stood in
           rw (c.in-Err-Fault.is ∙ ap Err c.in-Err-Fault.field-0-is) at c.write_answers.ensures query before outcomes first second is stands;
     })
 
@@ -80,10 +80,10 @@ returns-in-Err-NoMemory g c = λ queries before outcomes first second are found.
     first_starved call queries (record {
       some = omega (arith, some, long);
       are = are;
-      sorts = subst (λ r. IsRowOrdered r ordered) c.take.ensures.given (c.in_ok-first.ensures.same, c.in_ok-first.ensures.order);
+      sorts = subst (λ r. IsSortedByGame r ordered) c.take.ensures.given (c.in_ok-first.ensures.same, c.in_ok-first.ensures.order);
       found = found;
       does = λ query is stood.
-          let stands = subst (λ ks. FoundSoFar true query before old (stand_of c.args.tally.now ks)) (sym at) stood in
+          let stands = subst (λ ks. FoundSoFar true query before old (search_state c.args.tally.now ks)) (sym at) stood in
           rw (c.in-Err-NoMemory.is ∙ ap Err c.in-Err-NoMemory.field-0-is) at c.write_answers.ensures query before outcomes first second is stands;
     })
 
@@ -113,10 +113,10 @@ returns-in_err-keep_rest g c = λ queries before outcomes first second are found
     rw (p.1, p.2) (rest_starved call queries (record {
       some = omega (arith, some, long);
       are = are;
-      sorts = subst (λ r. IsRowOrdered r ordered) c.take.ensures.given (c.in_ok-first.ensures.same, c.in_ok-first.ensures.order);
+      sorts = subst (λ r. IsSortedByGame r ordered) c.take.ensures.given (c.in_ok-first.ensures.same, c.in_ok-first.ensures.order);
       found = found;
       does = λ query is stood.
-          let stands = subst (λ ks. FoundSoFar true query before old (stand_of c.args.tally.now ks)) (sym at) stood in
+          let stands = subst (λ ks. FoundSoFar true query before old (search_state c.args.tally.now ks)) (sym at) stood in
           c.in-Ok.ensures query before outcomes first second is stands;
     }))
 
@@ -145,10 +145,10 @@ returns g c = λ queries before outcomes first second are found.
     rest_kept call queries (map (λ (row : Vec GameAnswer Global). row.items) c.keep_rest.new.kept.items) (record {
       some = omega (arith, some, long);
       are = are;
-      sorts = subst (λ r. IsRowOrdered r ordered) c.take.ensures.given (c.in_ok-first.ensures.same, c.in_ok-first.ensures.order);
+      sorts = subst (λ r. IsSortedByGame r ordered) c.take.ensures.given (c.in_ok-first.ensures.same, c.in_ok-first.ensures.order);
       found = found;
       does = λ query is stood.
-          let stands = subst (λ ks. FoundSoFar true query before old (stand_of c.args.tally.now ks)) (sym at) stood in
+          let stands = subst (λ ks. FoundSoFar true query before old (search_state c.args.tally.now ks)) (sym at) stood in
           c.in-Ok.ensures query before outcomes first second is stands;
     })
     (rest_of_all (λ (row : Vec GameAnswer Global). row.items) (answers_in c.args.answers) (answers_in c.take.new.self) c.args.kept.now.items c.write_answers.new.kept _ c.take.ensures.left

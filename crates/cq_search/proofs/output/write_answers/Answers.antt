@@ -1,6 +1,6 @@
 use Rattle.std.proofs.Common.{◌++◌, ◌∷◌, [], length, length-append, append-nil, append_assoc, ap, sym, subst, ◌∙◌, Err, rules, arith}
 use Rattle.cq_queries.specs.Views.{sink_view, sinks_of}
-use Rattle.cq_search.specs.Writing.{stand_of, FoundSoFar}
+use Rattle.cq_search.specs.Internal.Writing.{search_state, FoundSoFar}
 use Rattle.cq_queries.proofs.Sinks.{Moments}
 use Rattle.cq_search.proofs.GameByGame.{InBatch, one_more, one_stopped, one_starved, all_of_batch, no_items}
 use Rattle.cq_search.proofs.output.write_answers.Goals as goal
@@ -14,7 +14,7 @@ loop-answer-init g c = (
   λ query before outcomes first second are found.
       let out = sink_view g.O.Sink.taken g.O.Sink.faults in
       let err = sink_view g.E.Sink.taken g.E.Sink.faults in
-      subst (λ rs. FoundSoFar c.args.sorted query rs (sinks_of first (out c.args.out.now) second (err c.args.err.now)) (stand_of c.args.tally.now c.args.kept.now.items))
+      subst (λ rs. FoundSoFar c.args.sorted query rs (sinks_of first (out c.args.out.now) second (err c.args.err.now)) (search_state c.args.tally.now c.args.kept.now.items))
       (sym (append-nil before)) found,
 )
 
@@ -44,8 +44,8 @@ loop-answer-preserved g c =
             now_err = err c.loop-answer.err;
             new_err = err c.write_answer.new.err;
           } in
-          one_more c.args.sorted query c.in-Some.answer batch at (stand_of c.loop-answer.tally c.loop-answer.kept.items)
-          (stand_of c.write_answer.new.tally c.write_answer.new.kept.items) (was.4 query before outcomes first second are found) (c.in-Ok.ensures.answers query),
+          one_more c.args.sorted query c.in-Some.answer batch at (search_state c.loop-answer.tally c.loop-answer.kept.items)
+          (search_state c.write_answer.new.tally c.write_answer.new.kept.items) (was.4 query before outcomes first second are found) (c.in-Ok.ensures.answers query),
     )
 
 pub returns-in-Err-Fault : goal.returns-in-Err-Fault
@@ -68,8 +68,8 @@ returns-in-Err-Fault g c = λ query before outcomes first second are found.
       now_err = err c.loop-answer.err;
       new_err = err c.write_answer.new.err;
     } in
-    one_stopped c.args.sorted query c.in-Some.answer batch at (stand_of c.loop-answer.tally c.loop-answer.kept.items)
-    (stand_of c.write_answer.new.tally c.write_answer.new.kept.items) c.in-Err-Fault.failed (was.4 query before outcomes first second are found)
+    one_stopped c.args.sorted query c.in-Some.answer batch at (search_state c.loop-answer.tally c.loop-answer.kept.items)
+    (search_state c.write_answer.new.tally c.write_answer.new.kept.items) c.in-Err-Fault.failed (was.4 query before outcomes first second are found)
     (λ r is. rw (c.in-Err-Fault.is ∙ ap Err c.in-Err-Fault.field-0-is) at c.write_answer.ensures.answers query r is)
 
 pub returns-in-Err-NoMemory : goal.returns-in-Err-NoMemory
@@ -92,8 +92,8 @@ returns-in-Err-NoMemory g c = λ query before outcomes first second are found.
       now_err = err c.loop-answer.err;
       new_err = err c.write_answer.new.err;
     } in
-    one_starved c.args.sorted query c.in-Some.answer batch at (stand_of c.loop-answer.tally c.loop-answer.kept.items)
-    (stand_of c.write_answer.new.tally c.write_answer.new.kept.items) (was.4 query before outcomes first second are found)
+    one_starved c.args.sorted query c.in-Some.answer batch at (search_state c.loop-answer.tally c.loop-answer.kept.items)
+    (search_state c.write_answer.new.tally c.write_answer.new.kept.items) (was.4 query before outcomes first second are found)
     (λ r is. rw (c.in-Err-NoMemory.is ∙ ap Err c.in-Err-NoMemory.field-0-is) at c.write_answer.ensures.answers query r is)
 
 pub returns : goal.returns
@@ -101,7 +101,7 @@ returns g c = λ query before outcomes first second are found.
     let was = c.loop-answer.invariant in
     let out = sink_view g.O.Sink.taken g.O.Sink.faults in
     let err = sink_view g.E.Sink.taken g.E.Sink.faults in
-    subst (λ rs. FoundSoFar c.args.sorted query (before ++ rs) (sinks_of first (out c.loop-answer.out) second (err c.loop-answer.err)) (stand_of c.loop-answer.tally c.loop-answer.kept.items))
+    subst (λ rs. FoundSoFar c.args.sorted query (before ++ rs) (sinks_of first (out c.loop-answer.out) second (err c.loop-answer.err)) (search_state c.loop-answer.tally c.loop-answer.kept.items))
     (all_of_batch query (length before) c.loop-answer.yielded c.loop-answer.answer-iterator.rest.items c.args.answers.items outcomes was.0
     (no_items c.loop-answer.answer-iterator.rest.items (search rules)) are)
     (was.4 query before outcomes first second are found)

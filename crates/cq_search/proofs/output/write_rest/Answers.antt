@@ -1,9 +1,9 @@
 use Rattle.std.proofs.Common.{ap, ◌∙◌, Err}
 use Rattle.cq_shards.specs.PlanQuery.{query_in}
 use Rattle.cq_search.specs.AllGames.{texts_of}
-use Rattle.cq_search.specs.Answer.{summary_of}
+use Rattle.cq_search.specs.GameOutput.{summary_of}
 use Rattle.cq_queries.specs.Views.{sink_view, sinks_of}
-use Rattle.cq_search.specs.Writing.{stand_of}
+use Rattle.cq_search.specs.Internal.Writing.{search_state}
 use Rattle.cq_search.proofs.GameByGame.{unordered, unkept, ordered_all, ended}
 use Rattle.cq_search.proofs.output.write_rest.Goals as goal
 
@@ -15,7 +15,7 @@ returns-in-Ok g c = λ rs sorted first second sorts found.
     let sinks = sinks_of first (out c.args.out.now) second (err c.args.err.now) in
     let kept = sinks_of first (out c.write_kept.new.out) second (err c.args.err.now) in
     ended c.write_summary.result (texts_of query) rs kept (err c.write_summary.new.err) c.args.tally.refused (summary_of c.args.tally)
-    (ordered_all sorted query rs sinks (out c.write_kept.new.out) (stand_of c.args.tally c.args.kept.items) sorts found c.in-Ok.ensures)
+    (ordered_all sorted query rs sinks (out c.write_kept.new.out) (search_state c.args.tally c.args.kept.items) sorts found c.in-Ok.ensures)
     c.write_summary.ensures
 
 pub returns-in-Err-Fault : goal.returns-in-Err-Fault
@@ -25,7 +25,7 @@ returns-in-Err-Fault g c = λ rs sorted first second sorts found.
     let err = sink_view g.E.Sink.taken g.E.Sink.faults in
     let does = rw (c.in-Err-Fault.is ∙ ap Err c.in-Err-Fault.field-0-is) at c.write_kept.ensures in
     let sinks = sinks_of first (out c.args.out.now) second (err c.args.err.now) in
-    unkept sorted query rs sinks (out c.write_kept.new.out) (stand_of c.args.tally c.args.kept.items) _ sorts found does
+    unkept sorted query rs sinks (out c.write_kept.new.out) (search_state c.args.tally c.args.kept.items) _ sorts found does
 
 pub returns-in-Err-NoMemory : goal.returns-in-Err-NoMemory
 returns-in-Err-NoMemory g c = λ rs sorted first second sorts found.
@@ -34,4 +34,4 @@ returns-in-Err-NoMemory g c = λ rs sorted first second sorts found.
     let err = sink_view g.E.Sink.taken g.E.Sink.faults in
     let same = rw (c.in-Err-NoMemory.is ∙ ap Err c.in-Err-NoMemory.field-0-is) at c.write_kept.ensures in
     let sinks = sinks_of first (out c.args.out.now) second (err c.args.err.now) in
-    unordered sorted query rs sinks (out c.write_kept.new.out) (stand_of c.args.tally c.args.kept.items) sorts found same
+    unordered sorted query rs sinks (out c.write_kept.new.out) (search_state c.args.tally c.args.kept.items) sorts found same

@@ -2,7 +2,7 @@ use Rattle.std.proofs.Common.{◌≡◌, ◌<◌, Global, Vec, [], ◌∷◌, �
 use Rattle.cql_syntax.specs.QueryTrees.{trees_of}
 use Rattle.cq_shared.specs.Plans.{queries_of}
 use Rattle.cq_shards.specs.declared.answers.GameAnswer.{GameAnswer}
-use Rattle.cq_search.specs.ManyWriting.{AreInOrder}
+use Rattle.cq_search.specs.Internal.ManyWriting.{AreInOrder}
 use Rattle.cq_search.proofs.ManyEnds.{all_ordered, more_ordered, none_ordered_yet, ordered_by, ordered_few}
 use Rattle.cq_search.proofs.outputs.all_by_keys.Goals as goal
 

@@ -7,8 +7,8 @@ use Rattle.cq_search.specs.declared.totals.Totals.{Totals}
 use Rattle.cq_search.proofs.Counting.{CountedIn, all_counted, never_faults}
 use Rattle.cq_search.proofs.selfrun.count_archive.Goals as goal
 
-pub take_batches-requires-clause-nothing : goal.take_batches-requires-clause-nothing
-take_batches-requires-clause-nothing g c =
+pub visit_batches-requires-clause-nothing : goal.visit_batches-requires-clause-nothing
+visit_batches-requires-clause-nothing g c =
     let none = c.no_totals.ensures (query_in c.args.plan.now) in
     let threads = c.type_bounds.sync-R.shared in
     let gate = c.type_bounds.sync-G.shared in (
@@ -19,18 +19,18 @@ take_batches-requires-clause-nothing g c =
 pub returns-in-Ok-All : goal.returns-in-Ok-All
 returns-in-Ok-All g c =
     let query = query_in c.args.plan.now in
-    let totals = c.take_batches.new.taker.totals in
+    let totals = c.visit_batches.new.taker.totals in
     let is = c.in-Ok-All.is ∙ ap Ok c.in-Ok-All.field-0-is in
-    let says = rw is at c.take_batches.ensures.says in
-    all_counted c.archives_come_in_batches.ensures query c.args.archive says.archive c.take_batches.new.source 1099511627776 totals
+    let says = rw is at c.visit_batches.ensures.says in
+    all_counted c.archives_come_in_batches.ensures query c.args.archive says.archive c.visit_batches.new.source 1099511627776 totals
     (rw c.new-source.ensures at says.reads)
     (subst (λ n. CountedIn query n totals (cut_games says.archive)) (ap (λ (t : Totals). t.bytes) (c.no_totals.ensures query) ∙ c.len.ensures) says.taken.1.reading)
 
 pub unreachable-requires : goal.unreachable-requires
 unreachable-requires g c =
     let is = c.in-Err-Fault.is ∙ ap Err c.in-Err-Fault.field-0-is in
-    let says = rw is at c.take_batches.ensures.says in
-    let cause = rw is at c.take_batches.ensures.cause in
+    let says = rw is at c.visit_batches.ensures.says in
+    let cause = rw is at c.visit_batches.ensures.cause in
     let low = c.requires.size in
     let long = ap length c.new-source.ensures in
-    never_faults {X = NoMemory} c.new-source.result c.take_batches.new.source 1099511627776 _ _ (λ games batch stop. Unit {0}) (omega (arith, low, long)) says cause
+    never_faults {X = NoMemory} c.new-source.result c.visit_batches.new.source 1099511627776 _ _ (λ games batch stop. Unit {0}) (omega (arith, low, long)) says cause

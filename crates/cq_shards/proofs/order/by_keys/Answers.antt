@@ -4,7 +4,7 @@ use Rattle.std.proofs.lemmas.List.Sorted.{ranks_by}
 use Rattle.std.specs.List.Sorted.{IsPermutation}
 use Rattle.std.specs.Ordering.{is_lt}
 use Rattle.cql_syntax.specs.TreeOf.{query_tree}
-use Rattle.cq_shards.specs.Comparing.{answer_cmp}
+use Rattle.cq_shards.specs.Internal.Comparing.{answer_cmp}
 use Rattle.cq_shards.specs.Order.{ComesBefore, directions, is_match}
 use Rattle.cq_shards.proofs.Comparing.{answer_total}
 use Rattle.cq_shards.proofs.Orders.{comes_after, matches_in_order, written_back}

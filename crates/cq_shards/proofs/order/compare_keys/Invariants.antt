@@ -1,5 +1,5 @@
 use Rattle.std.proofs.Common.{◌≡◌, drop}
-use Rattle.cq_shards.specs.Comparing.{keys_cmp}
+use Rattle.cq_shards.specs.Internal.Comparing.{keys_cmp}
 use Rattle.cq_shards.proofs.order.compare_keys.Given as goal
 
 abbrev pub invariant-loop-i : goal.invariant-loop-i

@@ -1,7 +1,7 @@
 use Rattle.std.proofs.Common.{Some, ◌∙◌, ap, ap₂, sym, w64, SFits, rules}
 use Rattle.std.proofs.Math.Facts.{to_z-of_z}
-use Rattle.cql_plan.specs.KeyRows.{key_in}
-use Rattle.cq_shared.specs.Reading.{is_least}
+use Rattle.cql_plan.specs.RowKeys.{key_in}
+use Rattle.cq_shared.specs.Internal.Reading.{is_least}
 use Rattle.cq_shared.proofs.Readings.{key_at}
 use Rattle.cq_shared.proofs.keys.key_of.Goals as goal
 

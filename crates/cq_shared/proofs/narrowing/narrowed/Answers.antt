@@ -1,5 +1,5 @@
 use Rattle.std.proofs.Common.{◌≡◌, [], ◌∷◌, ◌++◌, length, append_assoc, ap, subst, sym, ◌∙◌, rules}
-use Rattle.cq_shared.specs.Matching.{is_asked_by}
+use Rattle.cq_shared.specs.Matching.{is_owned_by}
 use Rattle.cq_shared.proofs.Unions.{AreLeftOf, AreNarrowed, narrowed_none, narrowed_next, narrowed_end}
 use Rattle.cq_shared.proofs.narrowing.narrowed.Goals as goal
 
@@ -14,7 +14,7 @@ loop-nodes-preserved c =
     let more = c.next.new.self.rest.items in
     let part = c.args.part.now in
     let len : c.len-query.result ≡ length c.loop-nodes.later.items = search rules in
-    let asked = c.has-wants.ensures ∙ ap (λ query. is_asked_by query part) (len ∙ was.1.count) in
+    let asked = c.has-wants.ensures ∙ ap (λ query. is_owned_by query part) (len ∙ was.1.count) in
     let is = was.0 ∙ ap (λ l. ys ++ l) c.in-Some.ensures.steps.0 in (
       is ∙ sym (append_assoc ys (nodes ∷ []) more),
       subst (λ later. AreNarrowed c.args.game.now part c.args.left.items later (length (ys ++ nodes ∷ []))) (sym c.in_ok-push.ensures.items)

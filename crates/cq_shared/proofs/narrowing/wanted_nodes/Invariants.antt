@@ -4,4 +4,4 @@ use Rattle.cq_shared.proofs.Unions.{Told}
 use Rattle.cq_shared.proofs.narrowing.wanted_nodes.Given as goal
 
 abbrev pub invariant-loop-n : goal.invariant-loop-n
-invariant-loop-n l = Told (λ n. list_any (λ q. is_left l.left q n) l.part.askers.items) l.n l.live.items
+invariant-loop-n l = Told (λ n. list_any (λ q. is_left l.left q n) l.part.owners.items) l.n l.live.items

@@ -17,8 +17,8 @@ use Rattle.cql_eval.proofs.evaluate.+evaluate.Answers.Covers as covers
 use Rattle.cql_eval.proofs.evaluate.+evaluate.Goals as goal
 
 -- what forms of filters give and cost
-pub unary_column-returns-then-looks_elsewhere-clause-value : goal.unary_column-returns-then-looks_elsewhere-clause-value
-unary_column-returns-then-looks_elsewhere-clause-value = forms.unary_column-returns-then-looks_elsewhere-clause-value
+pub unary_column-returns-then-reads_other_nodes-clause-value : goal.unary_column-returns-then-reads_other_nodes-clause-value
+unary_column-returns-then-reads_other_nodes-clause-value = forms.unary_column-returns-then-reads_other_nodes-clause-value
 
 pub unary_column-returns-clause-value : goal.unary_column-returns-clause-value
 unary_column-returns-clause-value = forms.unary_column-returns-clause-value
@@ -153,8 +153,8 @@ evaluate-column_where-requires-in-If = flats.evaluate-column_where-requires-in-I
 pub evaluate-evaluate-requires-in-Square : goal.evaluate-evaluate-requires-in-Square
 evaluate-evaluate-requires-in-Square = flats.evaluate-evaluate-requires-in-Square
 
-pub evaluate-asked_truths-truths-requires : goal.evaluate-asked_truths-truths-requires
-evaluate-asked_truths-truths-requires = flats.evaluate-asked_truths-truths-requires
+pub evaluate-square_filter_truths-truths-requires : goal.evaluate-square_filter_truths-truths-requires
+evaluate-square_filter_truths-truths-requires = flats.evaluate-square_filter_truths-truths-requires
 
 pub evaluate-played_column-requires : goal.evaluate-played_column-requires
 evaluate-played_column-requires = flats.evaluate-played_column-requires
@@ -174,8 +174,8 @@ covers::cover-cover_some-requires = flats.covers::cover-cover_some-requires
 pub covers::cover-cover_all-requires : goal.covers::cover-cover_all-requires
 covers::cover-cover_all-requires = flats.covers::cover-cover_all-requires
 
-pub covers::cover-cover_elsewhere-requires : goal.covers::cover-cover_elsewhere-requires
-covers::cover-cover_elsewhere-requires = flats.covers::cover-cover_elsewhere-requires
+pub covers::cover-cover_other_nodes-requires : goal.covers::cover-cover_other_nodes-requires
+covers::cover-cover_other_nodes-requires = flats.covers::cover-cover_other_nodes-requires
 
 pub covers::cover-cover_played-requires : goal.covers::cover-cover_played-requires
 covers::cover-cover_played-requires = flats.covers::cover-cover_played-requires
@@ -220,8 +220,8 @@ chains::some_column-returns-in_err-fails-clause-cost = chains.chains::some_colum
 pub chains::left_by-loop-class-init : goal.chains::left_by-loop-class-init
 chains::left_by-loop-class-init = chains.chains::left_by-loop-class-init
 
-pub chains::left_by-ask_class-requires : goal.chains::left_by-ask_class-requires
-chains::left_by-ask_class-requires = chains.chains::left_by-ask_class-requires
+pub chains::left_by-narrow_by_class-requires : goal.chains::left_by-narrow_by_class-requires
+chains::left_by-narrow_by_class-requires = chains.chains::left_by-narrow_by_class-requires
 
 pub chains::left_by-loop-class-preserved : goal.chains::left_by-loop-class-preserved
 chains::left_by-loop-class-preserved = chains.chains::left_by-loop-class-preserved
@@ -232,41 +232,41 @@ chains::left_by-returns-clause-left = chains.chains::left_by-returns-clause-left
 pub chains::left_by-returns-clause-cost : goal.chains::left_by-returns-clause-cost
 chains::left_by-returns-clause-cost = chains.chains::left_by-returns-clause-cost
 
-pub chains::left_by-returns-in_err-ask_class-clause-cost : goal.chains::left_by-returns-in_err-ask_class-clause-cost
-chains::left_by-returns-in_err-ask_class-clause-cost = chains.chains::left_by-returns-in_err-ask_class-clause-cost
+pub chains::left_by-returns-in_err-narrow_by_class-clause-cost : goal.chains::left_by-returns-in_err-narrow_by_class-clause-cost
+chains::left_by-returns-in_err-narrow_by_class-clause-cost = chains.chains::left_by-returns-in_err-narrow_by_class-clause-cost
 
-pub chains::ask_class-returns-then-not-may_have-clause-left : goal.chains::ask_class-returns-then-not-may_have-clause-left
-chains::ask_class-returns-then-not-may_have-clause-left = chains.chains::ask_class-returns-then-not-may_have-clause-left
+pub chains::narrow_by_class-returns-then-not-may_have-clause-left : goal.chains::narrow_by_class-returns-then-not-may_have-clause-left
+chains::narrow_by_class-returns-then-not-may_have-clause-left = chains.chains::narrow_by_class-returns-then-not-may_have-clause-left
 
-pub chains::ask_class-loop-filter-init : goal.chains::ask_class-loop-filter-init
-chains::ask_class-loop-filter-init = chains.chains::ask_class-loop-filter-init
+pub chains::narrow_by_class-loop-filter-init : goal.chains::narrow_by_class-loop-filter-init
+chains::narrow_by_class-loop-filter-init = chains.chains::narrow_by_class-loop-filter-init
 
-pub chains::ask_class-loop-filter-preserved : goal.chains::ask_class-loop-filter-preserved
-chains::ask_class-loop-filter-preserved = chains.chains::ask_class-loop-filter-preserved
+pub chains::narrow_by_class-loop-filter-preserved : goal.chains::narrow_by_class-loop-filter-preserved
+chains::narrow_by_class-loop-filter-preserved = chains.chains::narrow_by_class-loop-filter-preserved
 
-pub chains::ask_class-returns-clause-left : goal.chains::ask_class-returns-clause-left
-chains::ask_class-returns-clause-left = chains.chains::ask_class-returns-clause-left
+pub chains::narrow_by_class-returns-clause-left : goal.chains::narrow_by_class-returns-clause-left
+chains::narrow_by_class-returns-clause-left = chains.chains::narrow_by_class-returns-clause-left
 
-pub chains::ask_class-returns-in_err-ask_if-clause-cost : goal.chains::ask_class-returns-in_err-ask_if-clause-cost
-chains::ask_class-returns-in_err-ask_if-clause-cost = chains.chains::ask_class-returns-in_err-ask_if-clause-cost
+pub chains::narrow_by_class-returns-in_err-narrow_if_of_class-clause-cost : goal.chains::narrow_by_class-returns-in_err-narrow_if_of_class-clause-cost
+chains::narrow_by_class-returns-in_err-narrow_if_of_class-clause-cost = chains.chains::narrow_by_class-returns-in_err-narrow_if_of_class-clause-cost
 
-pub chains::ask_if-returns-then-not-is_of_class-clause-left : goal.chains::ask_if-returns-then-not-is_of_class-clause-left
-chains::ask_if-returns-then-not-is_of_class-clause-left = chains.chains::ask_if-returns-then-not-is_of_class-clause-left
+pub chains::narrow_if_of_class-returns-then-not-is_of_class-clause-left : goal.chains::narrow_if_of_class-returns-then-not-is_of_class-clause-left
+chains::narrow_if_of_class-returns-then-not-is_of_class-clause-left = chains.chains::narrow_if_of_class-returns-then-not-is_of_class-clause-left
 
-pub chains::ask_if-returns-then-fails_anyway-clause-left : goal.chains::ask_if-returns-then-fails_anyway-clause-left
-chains::ask_if-returns-then-fails_anyway-clause-left = chains.chains::ask_if-returns-then-fails_anyway-clause-left
+pub chains::narrow_if_of_class-returns-then-fails_everywhere-clause-left : goal.chains::narrow_if_of_class-returns-then-fails_everywhere-clause-left
+chains::narrow_if_of_class-returns-then-fails_everywhere-clause-left = chains.chains::narrow_if_of_class-returns-then-fails_everywhere-clause-left
 
-pub chains::ask_if-returns-in-Some-clause-left : goal.chains::ask_if-returns-in-Some-clause-left
-chains::ask_if-returns-in-Some-clause-left = chains.chains::ask_if-returns-in-Some-clause-left
+pub chains::narrow_if_of_class-returns-in-Some-clause-left : goal.chains::narrow_if_of_class-returns-in-Some-clause-left
+chains::narrow_if_of_class-returns-in-Some-clause-left = chains.chains::narrow_if_of_class-returns-in-Some-clause-left
 
-pub chains::ask_if-returns-clause-left : goal.chains::ask_if-returns-clause-left
-chains::ask_if-returns-clause-left = chains.chains::ask_if-returns-clause-left
+pub chains::narrow_if_of_class-returns-clause-left : goal.chains::narrow_if_of_class-returns-clause-left
+chains::narrow_if_of_class-returns-clause-left = chains.chains::narrow_if_of_class-returns-clause-left
 
-pub chains::ask_if-returns-clause-cost : goal.chains::ask_if-returns-clause-cost
-chains::ask_if-returns-clause-cost = chains.chains::ask_if-returns-clause-cost
+pub chains::narrow_if_of_class-returns-clause-cost : goal.chains::narrow_if_of_class-returns-clause-cost
+chains::narrow_if_of_class-returns-clause-cost = chains.chains::narrow_if_of_class-returns-clause-cost
 
-pub chains::ask_if-returns-in_err-column-clause-cost : goal.chains::ask_if-returns-in_err-column-clause-cost
-chains::ask_if-returns-in_err-column-clause-cost = chains.chains::ask_if-returns-in_err-column-clause-cost
+pub chains::narrow_if_of_class-returns-in_err-column-clause-cost : goal.chains::narrow_if_of_class-returns-in_err-column-clause-cost
+chains::narrow_if_of_class-returns-in_err-column-clause-cost = chains.chains::narrow_if_of_class-returns-in_err-column-clause-cost
 
 pub chains::columns_of-loop-filter-init : goal.chains::columns_of-loop-filter-init
 chains::columns_of-loop-filter-init = chains.chains::columns_of-loop-filter-init
@@ -457,8 +457,8 @@ squares::square_turn-returns-then-not-has_square-clause-value = squares.squares:
 pub squares::covered_sets-returns-clause-worth : goal.squares::covered_sets-returns-clause-worth
 squares::covered_sets-returns-clause-worth = squares.squares::covered_sets-returns-clause-worth
 
-pub squares::asked_truths-returns-clause-value : goal.squares::asked_truths-returns-clause-value
-squares::asked_truths-returns-clause-value = squares.squares::asked_truths-returns-clause-value
+pub squares::square_filter_truths-returns-clause-value : goal.squares::square_filter_truths-returns-clause-value
+squares::square_filter_truths-returns-clause-value = squares.squares::square_filter_truths-returns-clause-value
 
 -- squares that are tried all at once
 pub goals::goal_truths-returns-in-Played-clause-value : goal.goals::goal_truths-returns-in-Played-clause-value
@@ -474,8 +474,8 @@ pub goals::goal_met-returns-clause-value : goal.goals::goal_met-returns-clause-v
 goals::goal_met-returns-clause-value = goals.goals::goal_met-returns-clause-value
 
 -- the squares that are worth trying
-pub covers::cover-returns-then-is_own-clause-cut : goal.covers::cover-returns-then-is_own-clause-cut
-covers::cover-returns-then-is_own-clause-cut = covers.covers::cover-returns-then-is_own-clause-cut
+pub covers::cover-returns-then-gives_only_name-clause-cut : goal.covers::cover-returns-then-gives_only_name-clause-cut
+covers::cover-returns-then-gives_only_name-clause-cut = covers.covers::cover-returns-then-gives_only_name-clause-cut
 
 pub covers::cover-returns-then-is_or-clause-cut : goal.covers::cover-returns-then-is_or-clause-cut
 covers::cover-returns-then-is_or-clause-cut = covers.covers::cover-returns-then-is_or-clause-cut
@@ -495,11 +495,11 @@ cover_moves::cover_played-returns-then-not-asks_without-clause-cut = covers.cove
 pub cover_moves::cover_played-returns-clause-cut : goal.cover_moves::cover_played-returns-clause-cut
 cover_moves::cover_played-returns-clause-cut = covers.cover_moves::cover_played-returns-clause-cut
 
-pub cover_moves::free_columns-returns-clause-asks : goal.cover_moves::free_columns-returns-clause-asks
-cover_moves::free_columns-returns-clause-asks = covers.cover_moves::free_columns-returns-clause-asks
+pub cover_moves::independent_columns-returns-clause-asks : goal.cover_moves::independent_columns-returns-clause-asks
+cover_moves::independent_columns-returns-clause-asks = covers.cover_moves::independent_columns-returns-clause-asks
 
-pub cover_moves::free_column-returns-clause-asks : goal.cover_moves::free_column-returns-clause-asks
-cover_moves::free_column-returns-clause-asks = covers.cover_moves::free_column-returns-clause-asks
+pub cover_moves::independent_column-returns-clause-asks : goal.cover_moves::independent_column-returns-clause-asks
+cover_moves::independent_column-returns-clause-asks = covers.cover_moves::independent_column-returns-clause-asks
 
 pub covers::cover_all-loop-class-init : goal.covers::cover_all-loop-class-init
 covers::cover_all-loop-class-init = covers.covers::cover_all-loop-class-init
@@ -522,8 +522,8 @@ covers::cover_each-loop-part-preserved = covers.covers::cover_each-loop-part-pre
 pub covers::cover_set-returns-in_ok-cover_set-in-Pair-clause-cut : goal.covers::cover_set-returns-in_ok-cover_set-in-Pair-clause-cut
 covers::cover_set-returns-in_ok-cover_set-in-Pair-clause-cut = covers.covers::cover_set-returns-in_ok-cover_set-in-Pair-clause-cut
 
-pub covers::cover-returns-else-not-is_own-clause-cut : goal.covers::cover-returns-else-not-is_own-clause-cut
-covers::cover-returns-else-not-is_own-clause-cut = covers.covers::cover-returns-else-not-is_own-clause-cut
+pub covers::cover-returns-else-not-gives_only_name-clause-cut : goal.covers::cover-returns-else-not-gives_only_name-clause-cut
+covers::cover-returns-else-not-gives_only_name-clause-cut = covers.covers::cover-returns-else-not-gives_only_name-clause-cut
 
 pub cover_squares::cover_square-returns-in_ok-cover_inner-in-Square-clause-cut : goal.cover_squares::cover_square-returns-in_ok-cover_inner-in-Square-clause-cut
 cover_squares::cover_square-returns-in_ok-cover_inner-in-Square-clause-cut = covers.cover_squares::cover_square-returns-in_ok-cover_inner-in-Square-clause-cut
@@ -534,8 +534,8 @@ cover_squares::cover_inner-returns-clause-cut = covers.cover_squares::cover_inne
 pub cover_squares::cover_pair-returns-clause-cut : goal.cover_squares::cover_pair-returns-clause-cut
 cover_squares::cover_pair-returns-clause-cut = covers.cover_squares::cover_pair-returns-clause-cut
 
-pub covers::cover_elsewhere-returns-clause-cut : goal.covers::cover_elsewhere-returns-clause-cut
-covers::cover_elsewhere-returns-clause-cut = covers.covers::cover_elsewhere-returns-clause-cut
+pub covers::cover_other_nodes-returns-clause-cut : goal.covers::cover_other_nodes-returns-clause-cut
+covers::cover_other_nodes-returns-clause-cut = covers.covers::cover_other_nodes-returns-clause-cut
 
 pub covers::cover-returns-in-Unary-clause-cut : goal.covers::cover-returns-in-Unary-clause-cut
 covers::cover-returns-in-Unary-clause-cut = covers.covers::cover-returns-in-Unary-clause-cut
@@ -552,17 +552,17 @@ cover_some::cover_some-returns-clause-cut = covers.cover_some::cover_some-return
 pub cover_some::add_covered-returns-clause-added : goal.cover_some::add_covered-returns-clause-added
 cover_some::add_covered-returns-clause-added = covers.cover_some::add_covered-returns-clause-added
 
-pub covers::cover_free-returns : goal.covers::cover_free-returns
-covers::cover_free-returns = covers.covers::cover_free-returns
+pub covers::cover_independent-returns : goal.covers::cover_independent-returns
+covers::cover_independent-returns = covers.covers::cover_independent-returns
 
-pub covers::cover_free-returns-in_err-column-clause-cost : goal.covers::cover_free-returns-in_err-column-clause-cost
-covers::cover_free-returns-in_err-column-clause-cost = covers.covers::cover_free-returns-in_err-column-clause-cost
+pub covers::cover_independent-returns-in_err-column-clause-cost : goal.covers::cover_independent-returns-in_err-column-clause-cost
+covers::cover_independent-returns-in_err-column-clause-cost = covers.covers::cover_independent-returns-in_err-column-clause-cost
 
-pub covers::cover_free_set-returns : goal.covers::cover_free_set-returns
-covers::cover_free_set-returns = covers.covers::cover_free_set-returns
+pub covers::cover_independent_set-returns : goal.covers::cover_independent_set-returns
+covers::cover_independent_set-returns = covers.covers::cover_independent_set-returns
 
-pub covers::cover_free_set-returns-in_err-column-clause-cost : goal.covers::cover_free_set-returns-in_err-column-clause-cost
-covers::cover_free_set-returns-in_err-column-clause-cost = covers.covers::cover_free_set-returns-in_err-column-clause-cost
+pub covers::cover_independent_set-returns-in_err-column-clause-cost : goal.covers::cover_independent_set-returns-in_err-column-clause-cost
+covers::cover_independent_set-returns-in_err-column-clause-cost = covers.covers::cover_independent_set-returns-in_err-column-clause-cost
 
 pub covers::cover_related-returns : goal.covers::cover_related-returns
 covers::cover_related-returns = covers.covers::cover_related-returns

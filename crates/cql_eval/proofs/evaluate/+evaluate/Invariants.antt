@@ -3,37 +3,37 @@ use Rattle.cql_syntax.specs.Meaning.{value, values, term_values}
 use Rattle.cql_syntax.specs.TreeOf.{filter_tree, filter_trees, filters_tree, term_trees, part_trees, body_tree}
 use Rattle.cql_syntax.specs.Values.{holds, all_hold, intersection_of}
 use Rattle.cql_columns.specs.Scopes.{tree_in}
-use Rattle.cql_columns.specs.Asked.{AreWanted}
-use Rattle.cql_columns.specs.Columns.{AreAsked, Where, shown, all_shown, terms_shown}
+use Rattle.cql_columns.specs.SquareTrials.{CoverSquares}
+use Rattle.cql_columns.specs.Columns.{IsNodeSet, Where, shown, all_shown, terms_shown}
 use Rattle.cql_columns.specs.Costs.{filter_cost, filters_cost, terms_cost, parts_cost, body_atoms, searched_len}
 use Rattle.cql_columns.specs.FlatTrees.{IsFlat, IsFlatBody}
 use Rattle.cql_operators.proofs.SquareTurns.{LeftOf, unsettled_by}
 use Rattle.cql_operators.specs.LineAtoms.{HasRoom}
 use Rattle.cql_operators.proofs.LineTables.{TableSoFar, row_in, stage}
-use Rattle.cql_pruning.specs.Classes.{is_of, is_before, are_so, cost_of, IsLeft}
+use Rattle.cql_pruning.specs.Classes.{is_of, is_before, are_as_wanted, cost_of, IsLeft}
 use Rattle.cql_syntax.specs.declared.tree.Constituent.{Constituent}
 use Rattle.cql_syntax.specs.declared.tree.Filter.{Filter}
 use Rattle.cql_syntax.specs.declared.tree.Term.{Term}
 use Rattle.cql_pruning.specs.Covers.{AreCut, MayHave, MayHold}
-use Rattle.cql_pruning.specs.Ever.{AreEver}
+use Rattle.cql_pruning.specs.Occupancy.{AreOccupancies}
 use Rattle.cql_pruning.proofs.CoverSome.{AddedFor}
 use Rattle.cql_eval.proofs.Trying.{tried}
 use Rattle.cql_eval.proofs.evaluate.+evaluate.Given as goal
 
 abbrev pub invariant-chains::left_by-loop-class : goal.invariant-chains::left_by-loop-class
 invariant-chains::left_by-loop-class g l = record {
-  evers : AreEver (tree_in l.scope) l.left.items l.asking.evers.now;
-  left : IsLeft (tree_in l.scope) l.live (are_so (is_before l.class) (tree_in l.scope) l.scope.names.now l.want (filters_tree l.filters)) l.left.items;
+  occupancies : AreOccupancies (tree_in l.scope) l.left.items l.image_scope.occupancies.now;
+  left : IsLeft (tree_in l.scope) l.live (are_as_wanted (is_before l.class) (tree_in l.scope) l.scope.names.now l.want (filters_tree l.filters)) l.left.items;
   cost : l.steps ≤ l.fn.steps + cost_of (is_before l.class) (searched_len (tree_in l.scope)) (filters_tree l.filters);
   rises : l.fn.steps ≤ l.steps;
 }
 
-abbrev pub invariant-chains::ask_class-loop-filter : goal.invariant-chains::ask_class-loop-filter
-invariant-chains::ask_class-loop-filter g l = record {
+abbrev pub invariant-chains::narrow_by_class-loop-filter : goal.invariant-chains::narrow_by_class-loop-filter
+invariant-chains::narrow_by_class-loop-filter g l = record {
   len : length l.left ≡ length l.fn.left;
-  evers : AreEver (tree_in l.scope) l.left l.asking.evers.now;
+  occupancies : AreOccupancies (tree_in l.scope) l.left l.image_scope.occupancies.now;
   left : IsLeft (tree_in l.scope) l.fn.left
-      (are_so (is_of l.class) (tree_in l.scope) l.scope.names.now l.asking.want (filter_trees (take l.filter-index l.filter-items))) l.left;
+      (are_as_wanted (is_of l.class) (tree_in l.scope) l.scope.names.now l.image_scope.want (filter_trees (take l.filter-index l.filter-items))) l.left;
   cost : l.steps + cost_of (is_of l.class) (searched_len (tree_in l.scope)) (filter_trees (drop l.filter-index l.filter-items))
       ≤ l.fn.steps + cost_of (is_of l.class) (searched_len (tree_in l.scope)) (filter_trees l.filter-items);
   rises : l.fn.steps ≤ l.steps;
@@ -72,7 +72,7 @@ invariant-squares::square_truths-loop-number g l = record {
   left : LeftOf (tree_in l.binding.scope.now) l.live
       (unsettled_by l.binding.every (shown l.binding.squares.now)
       (λ n s. holds (value (tree_in l.binding.scope.now) [] ((l.binding.name.now, s) ∷ l.binding.scope.now.names.now) (filter_tree l.asked) n)) l.number) l.left.items;
-  wanted : AreWanted (shown l.binding.squares.now) l.left.items l.wanted;
+  wanted : CoverSquares (shown l.binding.squares.now) l.left.items l.wanted;
   cost : l.steps + (64 - l.number) * filter_cost (searched_len (tree_in l.binding.scope.now)) (filter_tree l.asked)
       ≤ l.fn.steps + 64 * filter_cost (searched_len (tree_in l.binding.scope.now)) (filter_tree l.asked);
   rises : l.fn.steps ≤ l.steps;
@@ -113,7 +113,7 @@ abbrev pub invariant-lines::put_row-loop-part : goal.invariant-lines::put_row-lo
 invariant-lines::put_row-loop-part g l = record {
   table : TableSoFar (row_in l.way.scope.now l.way.back l.part-items (stage l.first l.live l.fn.row.met l.fn.row.table)) l.part-index
       (stage l.at l.starts.items l.row.met l.row.table);
-  asked : AreAsked (tree_in l.way.scope.now) l.starts.items;
+  asked : IsNodeSet (tree_in l.way.scope.now) l.starts.items;
   cost : l.steps + parts_cost (searched_len (tree_in l.way.scope.now)) (part_trees (drop l.part-index l.part-items))
       ≤ l.fn.steps + parts_cost (searched_len (tree_in l.way.scope.now)) (part_trees l.part-items);
   rises : l.fn.steps ≤ l.steps;

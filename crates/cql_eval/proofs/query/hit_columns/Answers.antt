@@ -2,7 +2,7 @@ use Rattle.std.proofs.Common.{sym, subst}
 use Rattle.cql_syntax.specs.Hits.{is_hit}
 use Rattle.cql_syntax.specs.TreeOf.{filters_tree}
 use Rattle.cql_values.specs.Trees.{searched_tree}
-use Rattle.cql_columns.specs.Columns.{AreAsked}
+use Rattle.cql_columns.specs.Columns.{IsNodeSet}
 use Rattle.cql_pruning.specs.Classes.{IsLeft}
 use Rattle.cql_eval.specs.Hits.{hits_of}
 use Rattle.cql_eval.proofs.HitsLaw.{all_asked, hits_whole}
@@ -11,7 +11,7 @@ use Rattle.cql_eval.proofs.query.hit_columns.Goals as goal
 pub columns_of-requires : goal.columns_of-requires
 columns_of-requires g c =
     let tree = searched_tree c.args.game.now c.args.query.now.variations in
-    subst (AreAsked tree) (sym c.deref.ensures.value) (all_asked tree c.in_ok-all.all.items c.in_ok-all.ensures.nodes)
+    subst (IsNodeSet tree) (sym c.deref.ensures.value) (all_asked tree c.in_ok-all.all.items c.in_ok-all.ensures.nodes)
 
 pub returns-clause-hits : goal.returns-clause-hits
 returns-clause-hits g c =

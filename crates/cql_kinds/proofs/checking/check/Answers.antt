@@ -2,7 +2,7 @@ use Rattle.std.proofs.Common.{sym, ◌∙◌, ap}
 use Rattle.std.proofs.lemmas.Result.{err_from_is_err_and}
 use Rattle.cql_syntax.specs.TreeFaults.{tree_fault, has_any, ok_unless, holds_brace}
 use Rattle.cql_syntax.specs.TreeOf.{query_tree}
-use Rattle.cql_kinds.specs.Walks.{limit_fault}
+use Rattle.cql_kinds.specs.Internal.Walks.{limit_fault}
 use Rattle.cql_kinds.proofs.Checked.{text_fault, rule_fault, limit_is, none_from}
 use Rattle.cql_kinds.proofs.checking.check.Goals as goal
 

@@ -2,7 +2,7 @@ use Rattle.std.proofs.Common.{arith, ◌+◌, drop, refl, sym, ◌∙◌, ap}
 use Rattle.std.proofs.lemmas.Result.{err_from_is_err_and}
 use Rattle.cql_syntax.specs.Occurrences.{of_items}
 use Rattle.cql_syntax.specs.TreeOf.{filter_trees}
-use Rattle.cql_kinds.specs.Walks.{walked}
+use Rattle.cql_kinds.specs.Internal.Walks.{walk_result}
 use Rattle.cql_kinds.proofs.Loops.{items_at, items_end}
 use Rattle.cql_kinds.proofs.Walking.{refused_at, found_after}
 use Rattle.cql_kinds.proofs.checking.walk_items.Goals as goal
@@ -20,7 +20,7 @@ loop-item-preserved c =
     ∙ items_at c.loop-item.sorts c.loop-item.found c.as_slice-item-items.result.now c.loop-item.item-index c.item-item.result c.loop-item-test.true c.item-item.is in
     record {
       bounded = omega (arith, c.loop-item.invariant.bounded, c.sorts_with-sorts.ensures.most);
-      joined = ap (λ n. walked c.in_ok-found.found (of_items n (filter_trees (drop (c.loop-item.item-index + 1) c.as_slice-item-items.result.now)))) c.sorts_with-sorts.ensures.value
+      joined = ap (λ n. walk_result c.in_ok-found.found (of_items n (filter_trees (drop (c.loop-item.item-index + 1) c.as_slice-item-items.result.now)))) c.sorts_with-sorts.ensures.value
           ∙ sym (found_after c.loop-item.found c.in_ok-found.found _ _ _ _ here c.in_ok-found.ensures refl);
     }
 

@@ -4,8 +4,8 @@ use Rattle.std.specs.Prelude.{IfOk, OnOk, bit_or}
 use Rattle.cq_common.specs.Spelling.{Pattern, joined, repeated}
 use Rattle.cql_lines.specs.Building.{begins, size, firsts, firsts_times, rows, rows_times, nullable, null_times}
 use Rattle.cql_lines.specs.Places.{when}
-use Rattle.cql_lines.specs.TreeOf.{plain_tree}
-use Rattle.cql_lines.specs.declared.plain.Plain.TheFolds.{the_lemmas}
+use Rattle.cql_lines.specs.Internal.BinaryPatterns.{plain_tree}
+use Rattle.cql_lines.specs.declared.binary_pattern.BinaryPattern.TheFolds.{the_lemmas}
 use Rattle.cql_lines.proofs.BuildingLaw.{rows_length}
 use Rattle.cql_lines.proofs.BuildSteps.{rows_after, times_rows, times_first, due_next, left_due, left_next}
 use Rattle.cql_lines.proofs.build.+build.Goals as goal

@@ -1,6 +1,6 @@
 use Rattle.std.proofs.Common.{◌≡◌, ◌++◌, ◌-◌, ◌+◌, ◌*◌, length}
 use Rattle.cql_lines.specs.Building.{size, firsts, firsts_times, rows, rows_times, nullable, null_times}
-use Rattle.cql_lines.specs.TreeOf.{plain_tree}
+use Rattle.cql_lines.specs.Internal.BinaryPatterns.{plain_tree}
 use Rattle.cql_lines.proofs.build.+build.Given as goal
 
 abbrev pub invariant-build_times-loop-k : goal.invariant-build_times-loop-k

@@ -1,7 +1,7 @@
 use Rattle.std.proofs.Common.{◌∙◌, sym, arith, ap}
 use Rattle.std.proofs.lemmas.Bool.{lt-leb}
 use Rattle.cql_lines.specs.Building.{nullable}
-use Rattle.cql_lines.specs.TreeOf.{plain_tree}
+use Rattle.cql_lines.specs.Internal.BinaryPatterns.{plain_tree}
 use Rattle.cql_lines.proofs.BuildSteps.{null_enough, null_few}
 use Rattle.cql_lines.proofs.build.+nullable.Goals as goal
 

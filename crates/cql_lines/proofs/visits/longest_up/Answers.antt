@@ -1,7 +1,7 @@
 use Rattle.std.proofs.Common.{◌≡◌, ℕ, ◌<◌, ◌≤◌, length, map, true, refl, ◌∙◌, ap, arith, None}
 use Rattle.std.proofs.lemmas.List.{length-map, length-set, length-replicate}
-use Rattle.cql_lines.specs.Cells.{Known, Allowed}
-use Rattle.cql_lines.specs.Reads.{Read}
+use Rattle.cql_lines.specs.Internal.Cells.{Represents, AllowedLength}
+use Rattle.cql_lines.specs.Internal.AcceptedLengths.{AcceptedLength}
 use Rattle.cql_lines.specs.Shapes.{Edge, is_searched}
 use Rattle.cql_lines.specs.Tables.{holds}
 use Rattle.cql_lines.proofs.Counts.{exact_up, all_up, no_more}
@@ -20,9 +20,9 @@ all_done size nodes node n a b c = omega arith
 pub loop-node-init : goal.loop-node-init
 loop-node-init g c = record {
   stands =
-      stands_up_first (Known g.R.Row.sets) c.args.table.now.words.items c.args.rules.now c.args.shape.now.primary c.args.shape.now.spots.items
-      (map g.R.Row.cells c.as_mut_slice-grid.result.now)
-      (length-map c.as_mut_slice-grid.result.now g.R.Row.cells ∙ ap length c.as_mut_slice-grid.ensures.value ∙ c.in_ok-rows.ensures.count ∙ c.len-nodes.ensures);
+      stands_up_first (Represents g.R.StateLengths.sets) c.args.table.now.words.items c.args.rules.now c.args.shape.now.primary c.args.shape.now.tree_nodes.items
+      (map g.R.StateLengths.cells c.as_mut_slice-grid.result.now)
+      (length-map c.as_mut_slice-grid.result.now g.R.StateLengths.cells ∙ ap length c.as_mut_slice-grid.ensures.value ∙ c.in_ok-rows.ensures.count ∙ c.len-nodes.ensures);
   size = ap length c.in_ok-values.ensures ∙ length-replicate c.len-nodes.result None ∙ c.len-nodes.ensures;
   done = λ n low. absurd (omega arith);
   exact = refl;
@@ -45,11 +45,11 @@ loop-node-preserved g c = record {
   stands = c.visit_up.ensures.stands;
   size = length-set c.loop-node.values.items c.loop-node.node c.visit_up.result ∙ c.loop-node.invariant.size;
   done = up_more
-      (λ n. Allowed c.args.shape.now.extent (Read (holds c.args.table.now.words.items) c.args.rules.now (Edge true c.args.shape.now.primary c.args.shape.now.spots.items) c.args.first n))
-      (is_searched c.args.shape.now.spots.items) c.loop-node.values.items c.visit_up.result c.loop-node.node
-      (within (length c.args.shape.now.spots.items) c.len-nodes.result c.loop-node.node (length c.loop-node.values.items) c.len-nodes.ensures c.loop-node.invariant.size c.loop-node-test.true)
+      (λ n. AllowedLength c.args.shape.now.extent (AcceptedLength (holds c.args.table.now.words.items) c.args.rules.now (Edge true c.args.shape.now.primary c.args.shape.now.tree_nodes.items) c.args.first n))
+      (is_searched c.args.shape.now.tree_nodes.items) c.loop-node.values.items c.visit_up.result c.loop-node.node
+      (within (length c.args.shape.now.tree_nodes.items) c.len-nodes.result c.loop-node.node (length c.loop-node.values.items) c.len-nodes.ensures c.loop-node.invariant.size c.loop-node-test.true)
       c.visit_up.ensures.value c.loop-node.invariant.done;
-  exact = exact_up c.args.shape.now.spots.items c.args.table.now.atoms _ _ _ c.loop-node.node (within_spots _ _ _ c.len-nodes.ensures c.loop-node-test.true)
+  exact = exact_up c.args.shape.now.tree_nodes.items c.args.table.now.atoms _ _ _ c.loop-node.node (within_spots _ _ _ c.len-nodes.ensures c.loop-node-test.true)
       c.visit_up.ensures.unsearched c.visit_up.ensures.searched c.loop-node.invariant.exact;
 }
 
@@ -60,7 +60,7 @@ pub returns-clause-values : goal.returns-clause-values
 returns-clause-values g c = λ n low. c.loop-node.invariant.done n (all_done _ _ _ n c.len-nodes.ensures c.loop-node-test.false low)
 
 pub returns-clause-exact : goal.returns-clause-exact
-returns-clause-exact g c = all_up c.args.shape.now.spots.items c.args.table.now.atoms _ _ _ _ c.len-nodes.ensures c.loop-node-test.false c.loop-node.invariant.exact
+returns-clause-exact g c = all_up c.args.shape.now.tree_nodes.items c.args.table.now.atoms _ _ _ _ c.len-nodes.ensures c.loop-node-test.false c.loop-node.invariant.exact
 
 pub returns-clause-cost : goal.returns-clause-cost
-returns-clause-cost g c = no_more _ _ (all_up c.args.shape.now.spots.items c.args.table.now.atoms _ _ _ _ c.len-nodes.ensures c.loop-node-test.false c.loop-node.invariant.exact)
+returns-clause-cost g c = no_more _ _ (all_up c.args.shape.now.tree_nodes.items c.args.table.now.atoms _ _ _ _ c.len-nodes.ensures c.loop-node-test.false c.loop-node.invariant.exact)

@@ -1,18 +1,18 @@
 use Rattle.std.proofs.Common.{◌≡◌, ℕ, ◌+◌, ◌*◌, ◌<◌, get_or, length, map, None, true, drop}
-use Rattle.cql_lines.specs.Cells.{Known, Allowed}
+use Rattle.cql_lines.specs.Internal.Cells.{Represents, AllowedLength}
 use Rattle.cql_lines.specs.Tables.{holds}
-use Rattle.cql_lines.specs.Values.{AnswerAt}
-use Rattle.cql_lines.specs.Reads.{Read}
-use Rattle.cql_lines.specs.Up.{StandsUp}
+use Rattle.cql_lines.specs.Values.{GreatestWhere}
+use Rattle.cql_lines.specs.Internal.AcceptedLengths.{AcceptedLength}
+use Rattle.cql_lines.specs.Internal.UpwardPass.{UpInvariant}
 use Rattle.cql_lines.specs.Shapes.{Edge, is_searched, searched_count}
 use Rattle.cql_lines.proofs.visits.longest_up.Given as goal
 
 abbrev pub invariant-loop-node : goal.invariant-loop-node
 invariant-loop-node g l = record {
-  stands : StandsUp (Known g.R.Row.sets) l.table.words.items l.rules l.shape.primary l.shape.spots.items l.node (map g.R.Row.cells l.grid);
-  size : length l.values.items ≡ length l.shape.spots.items;
+  stands : UpInvariant (Represents g.R.StateLengths.sets) l.table.words.items l.rules l.shape.primary l.shape.tree_nodes.items l.node (map g.R.StateLengths.cells l.grid);
+  size : length l.values.items ≡ length l.shape.tree_nodes.items;
   done : (n : ℕ) → n < l.node →
-      AnswerAt (is_searched l.shape.spots.items n) (Allowed l.shape.extent
-      (Read (holds l.table.words.items) l.rules (Edge true l.shape.primary l.shape.spots.items) l.first n)) (get_or l.values.items n None);
-  exact : l.steps + l.table.atoms * searched_count (drop l.node l.shape.spots.items) ≡ l.fn.steps + l.table.atoms * searched_count l.shape.spots.items;
+      GreatestWhere (is_searched l.shape.tree_nodes.items n) (AllowedLength l.shape.extent
+      (AcceptedLength (holds l.table.words.items) l.rules (Edge true l.shape.primary l.shape.tree_nodes.items) l.first n)) (get_or l.values.items n None);
+  exact : l.steps + l.table.atoms * searched_count (drop l.node l.shape.tree_nodes.items) ≡ l.fn.steps + l.table.atoms * searched_count l.shape.tree_nodes.items;
 }

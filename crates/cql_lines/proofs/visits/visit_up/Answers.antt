@@ -1,10 +1,10 @@
 use Rattle.std.proofs.Common.{◌∙◌, ◌+◌, ◌<◌, map, true, true≢false, refl, sym, subst, arith}
 use Rattle.std.proofs.lemmas.List.{map-set}
-use Rattle.cql_lines.specs.Cells.{Known, place_cell, Allowed}
-use Rattle.cql_lines.specs.Reads.{Read}
+use Rattle.cql_lines.specs.Internal.Cells.{Represents, place_cell, AllowedLength}
+use Rattle.cql_lines.specs.Internal.AcceptedLengths.{AcceptedLength}
 use Rattle.cql_lines.specs.Shapes.{Edge, is_searched}
 use Rattle.cql_lines.specs.Tables.{holds}
-use Rattle.cql_lines.specs.Up.{StandsUp}
+use Rattle.cql_lines.specs.Internal.UpwardPass.{UpInvariant}
 use Rattle.cql_lines.proofs.CellsLaw.{same_known, none_known, goes_known, room_above, read_answer}
 use Rattle.cql_lines.proofs.RowsLaw.{as_many, within}
 use Rattle.cql_lines.proofs.UpLaw.{row_here, above_known, stands_up, stands_up_same}
@@ -14,57 +14,57 @@ use Rattle.cql_lines.proofs.visits.visit_up.Goals as goal
 pub returns-then-not-searched-clause-stands : goal.returns-then-not-searched-clause-stands
 returns-then-not-searched-clause-stands g c =
     let s = c.args.shape.now in
-    let b = g.R.Row.sets in
-    stands_up_same (Known b) (same_known b) (none_known b) c.args.table.now.words.items c.args.rules.now s.primary s.spots.items (λ n p e. (s.below n p e, s.whole n p e)) c.args.node
-    (map g.R.Row.cells c.args.rows.now) c.requires.stands (sym c.searched.ensures ∙ c.if-not-searched.true)
+    let b = g.R.StateLengths.sets in
+    stands_up_same (Represents b) (same_known b) (none_known b) c.args.table.now.words.items c.args.rules.now s.primary s.tree_nodes.items (λ n p e. (s.below n p e, s.whole n p e)) c.args.node
+    (map g.R.StateLengths.cells c.args.rows.now) c.requires.stands (sym c.searched.ensures ∙ c.if-not-searched.true)
 
 pub own-own-requires-clause-room : goal.own-own-requires-clause-room
 own-own-requires-clause-room g c = λ j.
     let s = c.args.shape.now in
-    let b = g.R.Row.sets in
-    room_above s.primary s.spots.items s.below c.args.table.now.words.items c.args.rules.now c.requires.fit.nodes b c.args.node j _ c.requires.node
-    (row_here (Known b) (same_known b) (none_known b) c.args.table.now.words.items c.args.rules.now s.primary s.spots.items (λ n p e. (s.below n p e, s.whole n p e)) c.args.node
-    (map g.R.Row.cells c.args.rows.now) (g.R.Row.cells c.row_above-above.result) c.requires.stands c.row_above-above.ensures j)
+    let b = g.R.StateLengths.sets in
+    room_above s.primary s.tree_nodes.items s.below c.args.table.now.words.items c.args.rules.now c.requires.fit.nodes b c.args.node j _ c.requires.node
+    (row_here (Represents b) (same_known b) (none_known b) c.args.table.now.words.items c.args.rules.now s.primary s.tree_nodes.items (λ n p e. (s.below n p e, s.whole n p e)) c.args.node
+    (map g.R.StateLengths.cells c.args.rows.now) (g.R.StateLengths.cells c.row_above-above.result) c.requires.stands c.row_above-above.ensures j)
 
 pub returns-clause-stands : goal.returns-clause-stands
 returns-clause-stands g c =
     let s = c.args.shape.now in
-    let b = g.R.Row.sets in
-    let rows = map g.R.Row.cells c.args.rows.now in
-    subst (StandsUp (Known b) c.args.table.now.words.items c.args.rules.now s.primary s.spots.items (c.args.node + 1)) (sym (map-set g.R.Row.cells c.args.rows.now c.args.node c.own-own.result))
-    (stands_up (Known b) (same_known b) (none_known b) c.args.table.now.words.items c.args.rules.now s.primary s.spots.items (λ n p e. (s.below n p e, s.whole n p e)) c.args.node rows
-    (g.R.Row.cells c.own-own.result) c.requires.node c.requires.stands
-    (above_known (Known b) (same_known b) (none_known b) c.args.table.now.words.items c.args.rules.now s.primary s.spots.items
+    let b = g.R.StateLengths.sets in
+    let rows = map g.R.StateLengths.cells c.args.rows.now in
+    subst (UpInvariant (Represents b) c.args.table.now.words.items c.args.rules.now s.primary s.tree_nodes.items (c.args.node + 1)) (sym (map-set g.R.StateLengths.cells c.args.rows.now c.args.node c.own-own.result))
+    (stands_up (Represents b) (same_known b) (none_known b) c.args.table.now.words.items c.args.rules.now s.primary s.tree_nodes.items (λ n p e. (s.below n p e, s.whole n p e)) c.args.node rows
+    (g.R.StateLengths.cells c.own-own.result) c.requires.node c.requires.stands
+    (above_known (Represents b) (same_known b) (none_known b) c.args.table.now.words.items c.args.rules.now s.primary s.tree_nodes.items
     (λ n p e. (s.below n p e, s.whole n p e)) (place_cell b) (goes_known b) c.args.node rows
-    (g.R.Row.cells c.row_above-above.result)
-    (g.R.Row.cells c.own-own.result) c.held-held.result c.args.table.now.atoms c.requires.stands c.row_above-above.ensures c.held-held.ensures.held c.requires.fit.atoms
+    (g.R.StateLengths.cells c.row_above-above.result)
+    (g.R.StateLengths.cells c.own-own.result) c.held-held.result c.args.table.now.atoms c.requires.stands c.row_above-above.ensures c.held-held.ensures.held c.requires.fit.atoms
     c.own-own.ensures.here c.own-own.ensures.past))
 
 pub returns-clause-value : goal.returns-clause-value
 returns-clause-value g c =
     let s = c.args.shape.now in
-    let b = g.R.Row.sets in
-    let rows = map g.R.Row.cells c.args.rows.now in
-    answered_by (is_searched s.spots.items c.args.node)
-    (Allowed s.extent (Read (holds c.args.table.now.words.items) c.args.rules.now (Edge true s.primary s.spots.items) c.args.first c.args.node))
-    c.answer.result (sym c.searched.ensures ∙ c.if-not-searched.false)
-    (read_answer c.args.table.now.words.items c.args.rules.now (Edge true s.primary s.spots.items) c.args.first c.args.node
-    (g.R.Row.cells c.own-own.result) b s.extent c.answer.result c.requires.counts
-    (above_known (Known b) (same_known b) (none_known b) c.args.table.now.words.items c.args.rules.now s.primary s.spots.items
+    let b = g.R.StateLengths.sets in
+    let rows = map g.R.StateLengths.cells c.args.rows.now in
+    answered_by (is_searched s.tree_nodes.items c.args.node)
+    (AllowedLength s.extent (AcceptedLength (holds c.args.table.now.words.items) c.args.rules.now (Edge true s.primary s.tree_nodes.items) c.args.first c.args.node))
+    c.greatest_allowed.result (sym c.searched.ensures ∙ c.if-not-searched.false)
+    (read_answer c.args.table.now.words.items c.args.rules.now (Edge true s.primary s.tree_nodes.items) c.args.first c.args.node
+    (g.R.StateLengths.cells c.own-own.result) b s.extent c.greatest_allowed.result c.requires.counts
+    (above_known (Represents b) (same_known b) (none_known b) c.args.table.now.words.items c.args.rules.now s.primary s.tree_nodes.items
     (λ n p e. (s.below n p e, s.whole n p e)) (place_cell b) (goes_known b) c.args.node rows
-    (g.R.Row.cells c.row_above-above.result)
-    (g.R.Row.cells c.own-own.result) c.held-held.result c.args.table.now.atoms c.requires.stands c.row_above-above.ensures c.held-held.ensures.held c.requires.fit.atoms
+    (g.R.StateLengths.cells c.row_above-above.result)
+    (g.R.StateLengths.cells c.own-own.result) c.held-held.result c.args.table.now.atoms c.requires.stands c.row_above-above.ensures c.held-held.ensures.held c.requires.fit.atoms
     c.own-own.ensures.here c.own-own.ensures.past)
-    c.answer.ensures)
+    c.greatest_allowed.ensures)
 
 pub row_above-above-requires-clause-rows : goal.row_above-above-requires-clause-rows
-row_above-above-requires-clause-rows g c = as_many g.R.Row.cells c.args.rows.now _ c.requires.stands.count
+row_above-above-requires-clause-rows g c = as_many g.R.StateLengths.cells c.args.rows.now _ c.requires.stands.count
 
 pub own-own-requires-clause-atoms : goal.own-own-requires-clause-atoms
 own-own-requires-clause-atoms g c = λ i r e. below_few r.atom c.args.table.now.atoms (c.requires.fit.atoms i r e) c.args.table.now.few
 
 pub bounds-rows-node : goal.bounds-rows-node
-bounds-rows-node g c = within g.R.Row.cells c.args.rows.now _ c.args.node c.requires.node c.requires.stands.count
+bounds-rows-node g c = within g.R.StateLengths.cells c.args.rows.now _ c.args.node c.requires.node c.requires.stands.count
 
 pub returns-clause-cost : goal.returns-clause-cost
 returns-clause-cost g c = omega (arith, c.held-held.ensures.cost)
@@ -78,11 +78,11 @@ row_above-above-requires-clause-node g c = c.requires.node
 pub own-own-requires-clause-count : goal.own-own-requires-clause-count
 own-own-requires-clause-count g c = c.requires.fit.count
 
-pub answer-requires-clause-count : goal.answer-requires-clause-count
-answer-requires-clause-count g c = c.requires.fit.count
+pub greatest_allowed-requires-clause-count : goal.greatest_allowed-requires-clause-count
+greatest_allowed-requires-clause-count g c = c.requires.fit.count
 
-pub answer-requires-clause-extent : goal.answer-requires-clause-extent
-answer-requires-clause-extent g c = c.requires.counts
+pub greatest_allowed-requires-clause-extent : goal.greatest_allowed-requires-clause-extent
+greatest_allowed-requires-clause-extent g c = c.requires.counts
 
 pub returns-then-not-searched-clause-unsearched : goal.returns-then-not-searched-clause-unsearched
 returns-then-not-searched-clause-unsearched g c = λ off. refl

@@ -17,11 +17,11 @@ use Rattle.cql_syntax.specs.declared.tree.Filter.{Filter}
 use Rattle.cql_values.proofs.Evaluated.{by_settling, word_here}
 use Rattle.cql_values.proofs.Masks.{union_step, intersection_step, all_squares}
 use Rattle.cql_values.proofs.Ways.{within_up, children_from, all_children, parent_of_first, parent_of_next, inside_of}
-use Rattle.cql_values.specs.Asked.{settles, of_value}
+use Rattle.cql_values.specs.FilterValues.{settles, unary_result}
 use Rattle.cql_values.specs.Bindings.{rebound}
-use Rattle.cql_values.specs.Shown.{meant}
-use Rattle.cql_local.specs.Moves.{AreEnds, IsSought}
-use Rattle.cql_local.specs.Places.{tree_of, value_at, values_at, holds_at}
+use Rattle.cql_values.specs.ValueModel.{as_value}
+use Rattle.cql_local.specs.Internal.MovesSought.{AreMoveEnds, HoldsAfterMoves}
+use Rattle.cql_local.specs.NodeScopes.{tree_of, value_at, values_at, holds_at}
 use Rattle.cql_local.proofs.Children.{child_found, child_passed}
 use Rattle.cql_local.proofs.Cutting.{goal_of, not_led, promoted_of, taken_of}
 use Rattle.cql_local.proofs.Forms.{unary_value, steps_value, chain_value, pair_value, if_value, move_value, sort_value, any_value}
@@ -170,7 +170,7 @@ evaluate-returns-in_ok-holds-in-Square-clause-value t c =
     c.as_slice.ensures c.evaluate-in-Square.ensures.names in
     let whole = ap (λ form. filter_at f.at (form_tree form)) c.in-Square.is
     ∙ sym (ap₂ (λ p q. filter_at f.at (square c.in-Square.every c.in-Square.name (filter_tree p) (filter_tree q))) c.deref-in-Square.ensures c.deref-in-Square-2.ensures) in
-    v ∙ square_value (tree_of place) e place.node f.at c.in-Square.every c.in-Square.name a b c.squares.result (meant c.in_ok-squares-in-Square.squares)
+    v ∙ square_value (tree_of place) e place.node f.at c.in-Square.every c.in-Square.name a b c.squares.result (as_value c.in_ok-squares-in-Square.squares)
     c.in_ok-squares-in-Square.ensures.value c.squares.ensures ∙ sym (ap (λ w. value_at place e w place.node) whole)
 
 pub is_met-returns-in_default-clause-value : goal.is_met-returns-in_default-clause-value
@@ -272,8 +272,8 @@ some_settles-returns-clause-value t c =
 pub square_at-returns-then-left-eq0-clause-value : goal.square_at-returns-then-left-eq0-clause-value
 square_at-returns-then-left-eq0-clause-value t c =
     let test = holds_at c.args.place.now c.args.name.now c.args.names.now (filter_tree c.args.asked.now) in
-    sym (by_settling c.args.every (as_squares (is_in c.tried-left.result)) test false (sym (none_settles c.args.every test c.tried-left.result (omega (arith, c.if-left-eq0.true)))))
-    ∙ c.tried-left.ensures
+    sym (by_settling c.args.every (as_squares (is_in c.squares_to_try-left.result)) test false (sym (none_settles c.args.every test c.squares_to_try-left.result (omega (arith, c.if-left-eq0.true)))))
+    ∙ c.squares_to_try-left.ensures
 
 pub square_at-unbind-requires : goal.square_at-unbind-requires
 square_at-unbind-requires t c = rebound_some c.some_settles-found.new.names c.bind.new.self (search rules) (c.some_settles-found.ensures.names 0)
@@ -283,7 +283,7 @@ square_at-returns-in-Ok-clause-value t c =
     let place = c.args.place.now in
     let f = filter_tree c.args.asked.now in
     let test = holds_at place c.args.name.now c.args.names.now f in
-    let left = c.tried-left.result in
+    let left = c.squares_to_try-left.result in
     let value : c.in-Ok.found ≡ list_any (settles c.args.every (is_in left) (λ s. holds (value_at place (rebound c.bind.new.self s) f place.node))) squares
     = subst (λ r. IfOk r (λ b. b ≡ list_any (settles c.args.every (is_in left) (λ s. holds (value_at place (rebound c.bind.new.self s) f place.node))) squares)) c.in-Ok.is
     c.some_settles-found.ensures.value in
@@ -291,7 +291,7 @@ square_at-returns-in-Ok-clause-value t c =
     ap as_truth (by_found c.in-Ok.found c.args.every)
     ∙ sym (by_settling c.args.every (as_squares (is_in left)) test c.in-Ok.found (value
     ∙ ap (λ (b : _). list_any (settles c.args.every (is_in left) (λ s. holds (value_at place (rebound b s) f place.node))) squares) bound))
-    ∙ c.tried-left.ensures
+    ∙ c.squares_to_try-left.ensures
 
 pub square_at-returns-in-Ok-clause-names : goal.square_at-returns-in-Ok-clause-names
 square_at-returns-in-Ok-clause-names t c =
@@ -306,8 +306,8 @@ unary_at-returns-in_ok-value-in_default t c =
     let tree = tree_of c.args.place.now in
     let at = value_at c.args.place.now c.args.names.now (filter_tree c.args.part.now) in
     record {
-      value = c.unary_here.ensures ∙ ap (λ p. of_value p.men c.args.word (meant c.in_ok-value-in_default.value)) c.position.ensures
-          ∙ word_here tree c.args.word at c.args.place.now.node (meant c.in_ok-value-in_default.value) c.in_default.not-Find c.in_default.not-FindUp c.in_default.not-Child
+      value = c.unary_of_value.ensures ∙ ap (λ p. unary_result p.men c.args.word (as_value c.in_ok-value-in_default.value)) c.position.ensures
+          ∙ word_here tree c.args.word at c.args.place.now.node (as_value c.in_ok-value-in_default.value) c.in_default.not-Find c.in_default.not-FindUp c.in_default.not-Child
           c.in_default.not-Parent c.in_ok-value-in_default.ensures.value;
       names = c.evaluate.ensures.names;
     }
@@ -324,7 +324,7 @@ played_at-returns-then-not-branch-clause-value t c =
     let place = c.args.place.now in
     let tree = tree_of place in
     let p = c.args.played.now in
-    let ends = subst (λ o. IfSome o (AreEnds place.game.now.nodes place.node)) c.in-Some.is c.ends_of.ensures.some in
+    let ends = subst (λ o. IfSome o (AreMoveEnds place.game.now.nodes place.node)) c.in-Some.is c.ends_of.ensures.some in
     origin_fails tree c.args.names.now place.node p c.in-Some.ends ends (sym c.in_ok-is_met.ensures.value ∙ c.if-not-branch.true)
 
 pub played_at-returns-then-not-branch-2-clause-value : goal.played_at-returns-then-not-branch-2-clause-value
@@ -332,7 +332,7 @@ played_at-returns-then-not-branch-2-clause-value t c =
     let place = c.args.place.now in
     let tree = tree_of place in
     let p = c.args.played.now in
-    let ends = subst (λ o. IfSome o (AreEnds place.game.now.nodes place.node)) c.in-Some.is c.ends_of.ensures.some in
+    let ends = subst (λ o. IfSome o (AreMoveEnds place.game.now.nodes place.node)) c.in-Some.is c.ends_of.ensures.some in
     let origin = sym c.in_ok-is_met.ensures.value ∙ c.if-not-branch.false in
     let goal = sym (ap (λ (b : _). meets (written_value tree [] b (goal_of p) place.node) (Some c.in-Some.ends.goal)) c.is_met.ensures.names)
     ∙ sym c.in_ok-is_met-2.ensures.value ∙ c.if-not-branch-2.true in
@@ -343,7 +343,7 @@ played_at-returns-then-is_none-2-clause-value t c =
     let place = c.args.place.now in
     let tree = tree_of place in
     let p = c.args.played.now in
-    let ends = subst (λ o. IfSome o (AreEnds place.game.now.nodes place.node)) c.in-Some.is c.ends_of.ensures.some in
+    let ends = subst (λ o. IfSome o (AreMoveEnds place.game.now.nodes place.node)) c.in-Some.is c.ends_of.ensures.some in
     let origin = sym c.in_ok-is_met.ensures.value ∙ c.if-not-branch.false in
     let goal = sym (ap (λ (b : _). meets (written_value tree [] b (goal_of p) place.node) (Some c.in-Some.ends.goal)) c.is_met.ensures.names)
     ∙ sym c.in_ok-is_met-2.ensures.value ∙ c.if-not-branch-2.false in
@@ -362,7 +362,7 @@ played_at-returns-then-not-branch-3-clause-value t c =
     let place = c.args.place.now in
     let tree = tree_of place in
     let p = c.args.played.now in
-    let ends = subst (λ o. IfSome o (AreEnds place.game.now.nodes place.node)) c.in-Some.is c.ends_of.ensures.some in
+    let ends = subst (λ o. IfSome o (AreMoveEnds place.game.now.nodes place.node)) c.in-Some.is c.ends_of.ensures.some in
     let origin = sym c.in_ok-is_met.ensures.value ∙ c.if-not-branch.false in
     let goal = sym (ap (λ (b : _). meets (written_value tree [] b (goal_of p) place.node) (Some c.in-Some.ends.goal)) c.is_met.ensures.names)
     ∙ sym c.in_ok-is_met-2.ensures.value ∙ c.if-not-branch-2.false in
@@ -377,7 +377,7 @@ played_at-returns-clause-value t c =
     let place = c.args.place.now in
     let tree = tree_of place in
     let p = c.args.played.now in
-    let ends = subst (λ o. IfSome o (AreEnds place.game.now.nodes place.node)) c.in-Some.is c.ends_of.ensures.some in
+    let ends = subst (λ o. IfSome o (AreMoveEnds place.game.now.nodes place.node)) c.in-Some.is c.ends_of.ensures.some in
     let origin = sym c.in_ok-is_met.ensures.value ∙ c.if-not-branch.false in
     let goal = sym (ap (λ (b : _). meets (written_value tree [] b (goal_of p) place.node) (Some c.in-Some.ends.goal)) c.is_met.ensures.names)
     ∙ sym c.in_ok-is_met-2.ensures.value ∙ c.if-not-branch-2.false in
@@ -405,8 +405,8 @@ evaluate-returns-in_ok-value-in-Steps-clause-value t c =
     let e = c.args.names.now in
     let s = c.in-Steps in
     let whole = ap (λ p. filter_at f.at (direction s.way s.m s.n (filter_tree p))) c.deref-in-Steps.ensures ∙ sym (ap (λ form. filter_at f.at (form_tree form)) s.is) in
-    c.reached.ensures ∙ ap (λ ways. reached_of ways s.m s.n (meant c.in_ok-value-in-Steps.value)) c.directions.ensures
-    ∙ steps_value (tree_of place) e place.node f.at s.way s.m s.n (filter_tree c.deref-in-Steps.result.now) (meant c.in_ok-value-in-Steps.value) c.in_ok-value-in-Steps.ensures.value
+    c.reached.ensures ∙ ap (λ ways. reached_of ways s.m s.n (as_value c.in_ok-value-in-Steps.value)) c.directions.ensures
+    ∙ steps_value (tree_of place) e place.node f.at s.way s.m s.n (filter_tree c.deref-in-Steps.result.now) (as_value c.in_ok-value-in-Steps.value) c.in_ok-value-in-Steps.ensures.value
     ∙ ap (λ w. value_at place e w place.node) whole
 
 pub evaluate-returns-in-Chain-clause-value : goal.evaluate-returns-in-Chain-clause-value
@@ -425,8 +425,8 @@ evaluate-returns-in_ok-second-in-Pair-clause-value t c =
     let pair_is = c.in-Pair.pair in
     let a = filter_tree c.deref-in-Pair.result.now in
     let b = filter_tree c.deref-in-Pair-2.result.now in
-    let x = meant c.in_ok-first-in-Pair.first in
-    let y = meant c.in_ok-second-in-Pair.second in
+    let x = as_value c.in_ok-first-in-Pair.first in
+    let y = as_value c.in_ok-second-in-Pair.second in
     let whole = ap₂ (λ p q. filter_at f.at (pair pair_is (filter_tree p) (filter_tree q))) c.deref-in-Pair.ensures c.deref-in-Pair-2.ensures
     ∙ sym (ap (λ form. filter_at f.at (form_tree form)) c.in-Pair.is) in
     c.pair_of.ensures ∙ ap (λ p. pair_of p.men pair_is x y) c.position.ensures
@@ -468,7 +468,7 @@ evaluate-returns-in_ok-value-in-Sort-clause-value t c =
     let s = c.in-Sort in
     let whole = ap (λ p. filter_at f.at (sort s.field-0 s.field-1 (filter_tree p))) c.deref-in-Sort.ensures ∙ sym (ap (λ form. filter_at f.at (form_tree form)) s.is) in
     ap as_truth (c.is_some.ensures ∙ ap is_some c.number.ensures)
-    ∙ sort_value (tree_of place) e place.node f.at s.field-0 s.field-1 (filter_tree c.deref-in-Sort.result.now) (meant c.in_ok-value-in-Sort.value) c.in_ok-value-in-Sort.ensures.value
+    ∙ sort_value (tree_of place) e place.node f.at s.field-0 s.field-1 (filter_tree c.deref-in-Sort.result.now) (as_value c.in_ok-value-in-Sort.value) c.in_ok-value-in-Sort.ensures.value
     ∙ ap (λ w. value_at place e w place.node) whole
 
 pub evaluate-returns-in-Any-clause-value : goal.evaluate-returns-in-Any-clause-value

@@ -10,9 +10,9 @@ use Rattle.cq_symmetry.specs.Images.{is_in}
 use Rattle.cql_syntax.specs.TreeOf.{filter_tree}
 use Rattle.cql_syntax.specs.Values.{holds, has}
 use Rattle.cql_values.proofs.Ways.{left_up, left_down, children_from}
-use Rattle.cql_values.specs.Asked.{settles}
+use Rattle.cql_values.specs.FilterValues.{settles}
 use Rattle.cql_values.specs.Bindings.{rebound}
-use Rattle.cql_local.specs.Places.{tree_of, value_at}
+use Rattle.cql_local.specs.NodeScopes.{tree_of, value_at}
 use Rattle.cql_local.proofs.evaluate.+evaluate.Given as goal
 
 abbrev pub invariant-all_of-loop-part : goal.invariant-all_of-loop-part

@@ -6,7 +6,7 @@ use Rattle.cql_columns.proofs.Filling.{put_none, put_more, put_all, of_truths}
 use Rattle.cql_operators.proofs.combine.held.Goals as goal
 
 pub loop-n-init : goal.loop-n-init
-loop-n-init c = put_none of_truths c.args.live.now _ _ _ _ c.in_ok-truths.ensures c.end_of-end.ensures.none c.first_live-n.ensures.none
+loop-n-init c = put_none of_truths c.args.live.now _ _ _ _ c.in_ok-truths.ensures c.live_end-end.ensures.none c.first_live-n.ensures.none
 
 pub loop-n-preserved : goal.loop-n-preserved
 loop-n-preserved c =

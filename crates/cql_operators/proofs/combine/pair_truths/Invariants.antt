@@ -1,7 +1,7 @@
 use Rattle.std.specs.Prelude.{ℕ, List}
 use Rattle.cq_position.specs.declared.men.Man.{Man}
 use Rattle.cql_syntax.specs.Values.{as_truth, pair_of}
-use Rattle.cql_values.specs.Asked.{is_true}
+use Rattle.cql_values.specs.FilterValues.{is_true}
 use Rattle.cql_columns.specs.Columns.{shown}
 use Rattle.cql_columns.proofs.Filling.{FilledTo, of_truths}
 use Rattle.cql_operators.proofs.combine.pair_truths.Given as goal

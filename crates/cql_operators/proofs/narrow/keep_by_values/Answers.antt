@@ -8,7 +8,7 @@ loop-n-init c = kept_from _ c.args.left.now c.first_live-n.result c.first_live-n
 pub loop-n-preserved : goal.loop-n-preserved
 loop-n-preserved c =
     kept_more _ c.args.left.now c.loop-n.left _ c.loop-n.n false c.kept_by_values.result
-    (omega (arith, c.loop-n-test.true, c.loop-n.auto.left, c.end_of-n-end.ensures.most)) refl c.kept_by_values.ensures c.loop-n.invariant
+    (omega (arith, c.loop-n-test.true, c.loop-n.auto.left, c.live_end-n-end.ensures.most)) refl c.kept_by_values.ensures c.loop-n.invariant
 
 pub returns : goal.returns
-returns c = kept_to _ c.args.left.now c.loop-n.left _ c.loop-n.n c.loop-n-test.false c.end_of-n-end.ensures.none c.loop-n.invariant
+returns c = kept_to _ c.args.left.now c.loop-n.left _ c.loop-n.n c.loop-n-test.false c.live_end-n-end.ensures.none c.loop-n.invariant

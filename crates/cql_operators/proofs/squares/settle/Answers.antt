@@ -13,7 +13,7 @@ pub loop-n-preserved : goal.loop-n-preserved
 loop-n-preserved c =
     kept_more
     (λ n. not (get_or c.args.there.now n false && (if c.args.every then not (holds (shown c.args.column.now n)) else holds (shown c.args.column.now n))))
-    c.args.left.now c.loop-n.left _ c.loop-n.n false c.keeps.result (omega (arith, c.loop-n-test.true, c.loop-n.auto.left, c.end_of-n-end.ensures.most, c.requires)) refl
+    c.args.left.now c.loop-n.left _ c.loop-n.n false c.keeps.result (omega (arith, c.loop-n-test.true, c.loop-n.auto.left, c.live_end-n-end.ensures.most, c.requires)) refl
     (c.keeps.ensures
     ∙ ap (λ b. get_or c.loop-n.left c.loop-n.n false
     && not (b && (if c.args.every then not (holds (shown c.args.column.now c.loop-n.n)) else holds (shown c.args.column.now c.loop-n.n)))) c.truth_at.ensures)
@@ -21,4 +21,4 @@ loop-n-preserved c =
 
 pub returns : goal.returns
 returns c = left_by_kept c.args.every _ c.args.left.now c.args.there.now c.loop-n.left _ c.loop-n.n
-    c.loop-n-test.false c.end_of-n-end.ensures.none c.loop-n.invariant
+    c.loop-n-test.false c.live_end-n-end.ensures.none c.loop-n.invariant

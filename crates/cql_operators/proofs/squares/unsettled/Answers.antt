@@ -1,6 +1,6 @@
 use Rattle.std.proofs.Common.{subst, sym, arith}
 use Rattle.cql_syntax.specs.Values.{holds}
-use Rattle.cql_columns.specs.Asked.{AreLeftOpen}
+use Rattle.cql_columns.specs.SquareTrials.{AreLeftOpen}
 use Rattle.cql_columns.specs.Columns.{shown}
 use Rattle.cql_columns.proofs.Keeping.{written}
 use Rattle.cql_operators.proofs.squares.unsettled.Goals as goal

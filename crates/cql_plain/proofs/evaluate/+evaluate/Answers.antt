@@ -8,12 +8,12 @@ use Rattle.cql_syntax.specs.Trees.{atom, filter_at, transform, unary, direction,
 use Rattle.cq_symmetry.specs.Images.{is_in}
 use Rattle.cql_syntax.specs.Meaning as meaning
 use Rattle.cql_syntax.specs.Values as spec
-use Rattle.cql_values.specs.Asked.{settles, of_value}
-use Rattle.cql_values.specs.Shown.{meant, terms_meant}
+use Rattle.cql_values.specs.FilterValues.{settles, unary_result}
+use Rattle.cql_values.specs.ValueModel.{as_value, terms_as_values}
 use Rattle.cql_syntax.specs.Kinds.{filter_kind}
 use Rattle.cql_syntax.specs.declared.tree.Body.TheFolds.{the_lemmas}
-use Rattle.cql_plain.specs.Lines.{EndsOf}
-use Rattle.cql_plain.specs.Scopes.{tree_in, value_in, looked_at}
+use Rattle.cql_plain.specs.Internal.LineParts.{EndsOf}
+use Rattle.cql_plain.specs.Internal.Scopes.{tree_in, value_in, candidate_nodes}
 use Rattle.cql_plain.proofs.Evaluated.{any_found, any_passed, map_more, members_more, settled, never_settled, none_more, family_is}
 use Rattle.cql_values.proofs.Evaluated.{values_more, terms_more}
 use Rattle.cql_plain.proofs.Forms.{designator_value, number_value, name_value, word_value, tagged_value, outcome_value, elo_value, comment_value, unary_value, steps_value, chain_value, sum_value, pair_value, if_value, square_value, line_form_value, move_value, sort_value, any_value, atom_pattern, group_pattern}
@@ -39,7 +39,7 @@ terms_at-loop-term-preserved t c =
 
 pub member_values-loop-k-preserved : goal.member_values-loop-k-preserved
 member_values-loop-k-preserved t c =
-    ap (map meant) c.in_ok-push_if_some.ensures ∙ map_more c.loop-k.values.items c.in_ok-value.value
+    ap (map as_value) c.in_ok-push_if_some.ensures ∙ map_more c.loop-k.values.items c.in_ok-value.value
     ∙ ap₂ (λ vs v. vs ++ option_to_list v) c.loop-k.invariant c.in_ok-value.ensures
     ∙ members_more (tree_in c.args.scope.now) c.args.scope.now.context.now c.args.scope.now.names.now c.args.node (members c.args.family) c.loop-k.k c.member.result
     (filter_tree c.args.part.now) c.member.ensures
@@ -50,7 +50,7 @@ evaluate-returns-in-Transform t c =
     let part = c.deref-in-Transform.result.now in
     let is : filter_tree f ≡ filter_at f.at (transform c.in-Transform.family (filter_tree part)) =
     ap (λ form. filter_at f.at (form_tree form)) c.in-Transform.is ∙ ap (λ p. filter_at f.at (transform c.in-Transform.family (filter_tree p))) (sym c.deref-in-Transform.ensures) in
-    subst (λ x. IfOk c.family_value.result (λ v. meant v ≡ x))
+    subst (λ x. IfOk c.family_value.result (λ v. as_value v ≡ x))
     (family_is (tree_in c.args.scope.now) c.args.scope.now.context.now c.args.scope.now.names.now c.in-Transform.family (filter_tree part) (filter_tree f) f.at c.args.node is)
     c.family_value.ensures
 
@@ -61,7 +61,7 @@ square_at-returns-then-branch t c =
     let low : c.new-square.result < 64 = omega (arith, c.new-square.ensures, c.loop-number-test.true) in
     let settles_it : settles c.args.every (is_in c.squares-set.result) asked c.new-square.result ≡ true =
     ap₂ (λ a b. a && b) (sym c.has_square.ensures ∙ c.if-has_square.true) (sym c.in_ok-decides.ensures ∙ c.if-branch.true) in
-    settled c.args.every (meant c.args.squares) asked c.squares-set.result c.new-square.result c.squares-set.ensures low settles_it
+    settled c.args.every (as_value c.args.squares) asked c.squares-set.result c.new-square.result c.squares-set.ensures low settles_it
 
 pub square_at-loop-number-preserved : goal.square_at-loop-number-preserved
 square_at-loop-number-preserved t c =
@@ -81,12 +81,12 @@ square_at-returns t c =
     let asked : ℕ → Bool = λ s. spec.holds (meaning.value (tree_in c.args.scope.now) c.args.scope.now.context.now
     ((c.args.name.now, s) ∷ c.args.scope.now.names.now) (filter_tree c.args.asked.now) c.args.node) in
     let end : c.loop-number.number ≡ 64 = omega (arith, c.loop-number-test.false, c.loop-number.auto.number-end) in
-    never_settled c.args.every (meant c.args.squares) asked c.squares-set.result c.loop-number.number c.squares-set.ensures end c.loop-number.invariant
+    never_settled c.args.every (as_value c.args.squares) asked c.squares-set.result c.loop-number.number c.squares-set.ensures end c.loop-number.invariant
 
 pub unary_at-some_node-requires : goal.unary_at-some_node-requires
 unary_at-some_node-requires t c =
     let tree = tree_in c.args.scope.now in
-    let is : Some c.in-Some.nodes.items ≡ looked_at tree c.args.word c.args.node = search rules in
+    let is : Some c.in-Some.nodes.items ≡ candidate_nodes tree c.args.word c.args.node = search rules in
     let all = looked_inside tree c.requires.tree c.args.word c.args.node c.requires.node c.in-Some.nodes.items is in
     (search rules, (c.requires.tree, subst (All (λ m. m < length tree.game.nodes)) (sym c.as_slice.ensures.value) all))
 
@@ -94,9 +94,9 @@ pub unary_at-returns-in_ok-value-in-None : goal.unary_at-returns-in_ok-value-in-
 unary_at-returns-in_ok-value-in-None t c =
     let tree = tree_in c.args.scope.now in
     let at = value_in c.args.scope.now (filter_tree c.args.part.now) in
-    let none : None ≡ looked_at tree c.args.word c.args.node = search rules in
-    c.unary_here.ensures ∙ ap (λ p. of_value p.men c.args.word (meant c.in_ok-value-in-None.value)) c.position.ensures
-    ∙ word_alone tree c.args.word at c.args.node (meant c.in_ok-value-in-None.value) none c.in_ok-value-in-None.ensures
+    let none : None ≡ candidate_nodes tree c.args.word c.args.node = search rules in
+    c.unary_of_value.ensures ∙ ap (λ p. unary_result p.men c.args.word (as_value c.in_ok-value-in-None.value)) c.position.ensures
+    ∙ word_alone tree c.args.word at c.args.node (as_value c.in_ok-value-in-None.value) none c.in_ok-value-in-None.ensures
 
 pub lines::line_at-returns : goal.lines::line_at-returns
 lines::line_at-returns t c =
@@ -195,11 +195,11 @@ lines::atom_ends-returns t c =
 
 pub evaluate-returns-in-Squares : goal.evaluate-returns-in-Squares
 evaluate-returns-in-Squares t c =
-    c.standing.ensures ∙ ap (λ p. meaning.standing_of p.men (contexts.designator_image c.args.scope.now.context.now c.in-Squares.d)) c.position.ensures
+    c.occupied_squares.ensures ∙ ap (λ p. meaning.standing_of p.men (contexts.designator_image c.args.scope.now.context.now c.in-Squares.d)) c.position.ensures
     ∙ designator_value c.args.scope.now c.args.f.now c.args.node c.in-Squares.d (ap form_tree c.in-Squares.is)
 
 pub evaluate-returns-in-Number : goal.evaluate-returns-in-Number
-evaluate-returns-in-Number t c = c.counted.ensures ∙ number_value c.args.scope.now c.args.f.now c.args.node c.in-Number.number (ap form_tree c.in-Number.is)
+evaluate-returns-in-Number t c = c.count_value.ensures ∙ number_value c.args.scope.now c.args.f.now c.args.node c.in-Number.number (ap form_tree c.in-Number.is)
 
 pub evaluate-returns-in-Name : goal.evaluate-returns-in-Name
 evaluate-returns-in-Name t c =
@@ -236,7 +236,7 @@ evaluate-returns-in-Unary t c =
 pub evaluate-returns-in_ok-value-in-Steps : goal.evaluate-returns-in_ok-value-in-Steps
 evaluate-returns-in_ok-value-in-Steps t c =
     let m = c.in-Steps in
-    let x = meant c.in_ok-value-in-Steps.value in
+    let x = as_value c.in_ok-value-in-Steps.value in
     let is = ap form_tree m.is ∙ sym (ap (λ p. direction m.way m.m m.n (filter_tree p)) c.deref-in-Steps.ensures) in
     c.reached.ensures ∙ ap (λ ways. spec.reached_of ways m.m m.n x) (c.directions.ensures ∙ ap meaning.directions_of c.way_image.ensures)
     ∙ steps_value c.args.scope.now c.args.f.now c.args.node m.way m.m m.n (filter_tree c.deref-in-Steps.result.now) x is c.in_ok-value-in-Steps.ensures
@@ -254,8 +254,8 @@ evaluate-returns-in-Sum t c =
 pub evaluate-returns-in_ok-second-in-Pair : goal.evaluate-returns-in_ok-second-in-Pair
 evaluate-returns-in_ok-second-in-Pair t c =
     let word = c.in-Pair.pair in
-    let x = meant c.in_ok-first-in-Pair.first in
-    let y = meant c.in_ok-second-in-Pair.second in
+    let x = as_value c.in_ok-first-in-Pair.first in
+    let y = as_value c.in_ok-second-in-Pair.second in
     let is = ap form_tree c.in-Pair.is ∙ sym (ap₂ (λ p q. pair word (filter_tree p) (filter_tree q)) c.deref-in-Pair.ensures c.deref-in-Pair-2.ensures) in
     c.pair_of.ensures ∙ ap (λ p. spec.pair_of p.men word x y) c.position-in-Pair.ensures
     ∙ pair_value c.args.scope.now c.args.f.now c.args.node word (filter_tree c.deref-in-Pair.result.now) (filter_tree c.deref-in-Pair-2.result.now) x y is
@@ -277,7 +277,7 @@ evaluate-returns-in_ok-squares-in-Square t c =
     let every = c.in-Square.every in
     let a = filter_tree c.deref-in-Square.result.now in
     let b = filter_tree c.deref-in-Square-2.result.now in
-    let x = meant c.in_ok-squares-in-Square.squares in
+    let x = as_value c.in_ok-squares-in-Square.squares in
     let is = ap form_tree c.in-Square.is
     ∙ sym (ap₂ (λ p q. square every c.in-Square.name (filter_tree p) (filter_tree q)) c.deref-in-Square.ensures c.deref-in-Square-2.ensures) in
     IfOk-weaker c.square_at.result _ _ (λ v known. known
@@ -297,7 +297,7 @@ evaluate-returns-in-Played t c =
 pub evaluate-returns-in_ok-value-in-Sort : goal.evaluate-returns-in_ok-value-in-Sort
 evaluate-returns-in_ok-value-in-Sort t c =
     let m = c.in-Sort in
-    let x = meant c.in_ok-value-in-Sort.value in
+    let x = as_value c.in_ok-value-in-Sort.value in
     let is = ap form_tree m.is ∙ sym (ap (λ p. sort m.field-0 m.field-1 (filter_tree p)) c.deref-in-Sort.ensures) in
     ap spec.as_truth (c.is_some.ensures ∙ ap is_some c.number.ensures)
     ∙ sort_value c.args.scope.now c.args.f.now c.args.node m.field-0 m.field-1 (filter_tree c.deref-in-Sort.result.now) x is c.in_ok-value-in-Sort.ensures
@@ -311,18 +311,18 @@ evaluate-returns-in-Any t c =
     ∙ any_value c.args.scope.now c.args.f.now c.args.node c.in-Any.kind (filters_tree c.in-Any.parts) (ap form_tree c.in-Any.is)) c.any_at.ensures
 
 pub chain_at-returns : goal.chain_at-returns
-chain_at-returns t c = c.chain_of.ensures ∙ ap (spec.chain_of c.args.chain) (ap (map meant) c.as_slice.ensures.value ∙ c.in_ok-values.ensures)
+chain_at-returns t c = c.chain_of.ensures ∙ ap (spec.chain_of c.args.chain) (ap (map as_value) c.as_slice.ensures.value ∙ c.in_ok-values.ensures)
 
 pub any_at-returns : goal.any_at-returns
-any_at-returns t c = c.any_of.ensures ∙ ap (spec.any_of c.args.kind) (ap (map meant) c.as_slice.ensures.value ∙ c.in_ok-values.ensures)
+any_at-returns t c = c.any_of.ensures ∙ ap (spec.any_of c.args.kind) (ap (map as_value) c.as_slice.ensures.value ∙ c.in_ok-values.ensures)
 
 pub sum_at-returns : goal.sum_at-returns
-sum_at-returns t c = c.total.ensures ∙ ap spec.total_of (ap terms_meant c.as_slice.ensures.value ∙ c.in_ok-values.ensures)
+sum_at-returns t c = c.total.ensures ∙ ap spec.total_of (ap terms_as_values c.as_slice.ensures.value ∙ c.in_ok-values.ensures)
 
 pub family_value-returns : goal.family_value-returns
 family_value-returns t c =
-    c.any_of.ensures ∙ ap (λ k. spec.any_of k (map meant c.as_slice.result.now)) c.kind_of.ensures
-    ∙ ap (spec.any_of (filter_kind (filter_tree c.args.part.now))) (ap (map meant) c.as_slice.ensures.value ∙ c.in_ok-values.ensures)
+    c.any_of.ensures ∙ ap (λ k. spec.any_of k (map as_value c.as_slice.result.now)) c.kind_of.ensures
+    ∙ ap (spec.any_of (filter_kind (filter_tree c.args.part.now))) (ap (map as_value) c.as_slice.ensures.value ∙ c.in_ok-values.ensures)
 
 -- all filters of a list have been asked
 pub values_at-returns : goal.values_at-returns

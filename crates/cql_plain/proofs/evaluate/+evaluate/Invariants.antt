@@ -5,21 +5,21 @@ use Rattle.cq_symmetry.specs.Images.{is_in}
 use Rattle.cql_syntax.specs.TreeOf.{filter_tree, filter_trees, term_trees, body_tree, part_trees, parts_tree}
 use Rattle.cql_syntax.specs.Meaning as meaning
 use Rattle.cql_syntax.specs.Values as spec
-use Rattle.cql_values.specs.Asked.{settles}
-use Rattle.cql_plain.specs.Members.{values_in_members}
-use Rattle.cql_values.specs.Shown.{meant, terms_meant}
-use Rattle.cql_plain.specs.Scopes.{tree_in, value_in}
-use Rattle.cql_plain.specs.Paths.{comes_from}
+use Rattle.cql_values.specs.FilterValues.{settles}
+use Rattle.cql_plain.specs.Internal.Members.{values_in_members}
+use Rattle.cql_values.specs.ValueModel.{as_value, terms_as_values}
+use Rattle.cql_plain.specs.Internal.Scopes.{tree_in, value_in}
+use Rattle.cql_plain.specs.Internal.Paths.{comes_from}
 use Rattle.cql_plain.proofs.PartEnds.{AreParts, AreTurns}
 use Rattle.cql_plain.proofs.evaluate.+evaluate.Given as goal
 
 abbrev pub invariant-values_at-loop-filter : goal.invariant-values_at-loop-filter
 invariant-values_at-loop-filter l =
-    map meant l.values.items ≡ meaning.values (tree_in l.scope) l.scope.context.now l.scope.names.now (filter_trees (take l.filter-index l.filter-items)) l.node
+    map as_value l.values.items ≡ meaning.values (tree_in l.scope) l.scope.context.now l.scope.names.now (filter_trees (take l.filter-index l.filter-items)) l.node
 
 abbrev pub invariant-terms_at-loop-term : goal.invariant-terms_at-loop-term
 invariant-terms_at-loop-term l =
-    terms_meant l.values.items ≡ meaning.term_values (tree_in l.scope) l.scope.context.now l.scope.names.now (term_trees (take l.term-index l.term-items)) l.node
+    terms_as_values l.values.items ≡ meaning.term_values (tree_in l.scope) l.scope.context.now l.scope.names.now (term_trees (take l.term-index l.term-items)) l.node
 
 abbrev pub invariant-some_node-loop-k : goal.invariant-some_node-loop-k
 invariant-some_node-loop-k l =
@@ -33,7 +33,7 @@ invariant-square_at-loop-number l =
 
 abbrev pub invariant-member_values-loop-k : goal.invariant-member_values-loop-k
 invariant-member_values-loop-k l =
-    map meant l.values.items ≡ values_in_members (tree_in l.scope) l.scope.context.now l.scope.names.now (take l.k (members l.family)) (filter_tree l.part) l.node
+    map as_value l.values.items ≡ values_in_members (tree_in l.scope) l.scope.context.now l.scope.names.now (take l.k (members l.family)) (filter_tree l.part) l.node
 
 abbrev pub invariant-lines::parts_ends-loop-part : goal.invariant-lines::parts_ends-loop-part
 invariant-lines::parts_ends-loop-part l =

@@ -3,7 +3,7 @@ use Rattle.std.proofs.lemmas.Result.{IfOk-weaker, on_ok_weaker}
 use Rattle.cql_syntax.specs.TreeOf.{filter_tree, form_tree, filters_tree}
 use Rattle.cql_syntax.specs.Trees.{filter_at, unary, any}
 use Rattle.cql_syntax.specs.declared.leaves.Kind.TheVariants.{Position, Set}
-use Rattle.cql_plan.specs.Joined.{StandsFor}
+use Rattle.cql_plan.specs.Replacements.{StandsFor}
 use Rattle.cql_plan.proofs.Gathered.{gathered_none, gathered_instead, gathered_step, gathered_end, inside_gathered}
 use Rattle.cql_plan.proofs.InEach.{stands_after}
 use Rattle.cql_plan.proofs.Standing.{all_begun, all_step, all_end, unary_stands, chain_stands, any_stands, no_number, set_no_number}

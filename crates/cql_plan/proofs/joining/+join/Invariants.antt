@@ -1,6 +1,6 @@
 use Rattle.std.proofs.Common.{take}
 use Rattle.cql_syntax.specs.TreeOf.{filters_tree, filter_trees}
-use Rattle.cql_plan.specs.Joined.{AllStandFor, Gathers}
+use Rattle.cql_plan.specs.Replacements.{AllStandFor, Gathers}
 use Rattle.cql_plan.proofs.joining.+join.Given as goal
 
 abbrev pub invariant-joined_all-loop-filter : goal.invariant-joined_all-loop-filter

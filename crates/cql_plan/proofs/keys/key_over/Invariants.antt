@@ -1,5 +1,5 @@
 use Rattle.std.proofs.Common.{◌≡◌, take, Some}
-use Rattle.cql_plan.specs.KeyRows.{key_in}
+use Rattle.cql_plan.specs.RowKeys.{key_in}
 use Rattle.cql_plan.proofs.keys.key_over.Given as goal
 
 abbrev pub invariant-loop-k : goal.invariant-loop-k

@@ -1,6 +1,6 @@
 use Rattle.std.proofs.Common.{arith}
 use Rattle.cql_syntax.specs.TreeOf.{filter_tree}
-use Rattle.cql_plan.specs.Joined.{alone}
+use Rattle.cql_plan.specs.Replacements.{alone}
 use Rattle.cql_plan.proofs.InEach.{common_begun, common_step, common_end}
 use Rattle.cql_plan.proofs.lifting.all_have.Goals as goal
 

@@ -1,6 +1,6 @@
 use Rattle.std.proofs.Common.{take}
 use Rattle.cql_syntax.specs.TreeOf.{filters_tree, filter_trees}
-use Rattle.cql_plan.specs.Lifted.{AreCommon, AreDivided}
+use Rattle.cql_plan.specs.Internal.CommonParts.{AreCommon, AreDivided}
 use Rattle.cql_plan.proofs.lifting.divide.Given as goal
 
 abbrev pub invariant-loop-part : goal.invariant-loop-part

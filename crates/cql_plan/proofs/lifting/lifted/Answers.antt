@@ -2,8 +2,8 @@ use Rattle.std.proofs.Common.{◌≡◌, ap, arith, rules, subst, take}
 use Rattle.cql_syntax.specs.TreeOf.{form_tree, filter_trees, filters_tree}
 use Rattle.cql_syntax.specs.Trees.{filter_at, chain}
 use Rattle.cql_syntax.specs.declared.leaves.Chain.TheVariants.{All}
-use Rattle.cql_plan.specs.Joined.{alone}
-use Rattle.cql_plan.specs.Lifted.{AreRests}
+use Rattle.cql_plan.specs.Replacements.{alone}
+use Rattle.cql_plan.specs.Internal.CommonParts.{AreRests}
 use Rattle.cql_plan.proofs.InEach.{rests_begun}
 use Rattle.cql_plan.proofs.lifting.lifted.Goals as goal
 

@@ -16,5 +16,5 @@ returns-in-Pair-Attacks-default-default c =
     (ap (λ form. trees.filter_at f.at (form_tree form)) c.in-Pair-Attacks-default-default.is
     ∙ ap (λ k. trees.filter_at f.at (trees.pair k (filter_tree c.in-Pair-Attacks-default-default.first.value) (filter_tree c.in-Pair-Attacks-default-default.second.value))) attacks
     ∙ sym (ap₂ (λ p q. trees.filter_at f.at (trees.pair Attacks (filter_tree p) (filter_tree q))) c.deref.ensures c.deref-in-Pair-Attacks-default-default.ensures))
-    (c.is_its_name.ensures own) is)
+    (c.is_name.ensures own) is)
     c.designated_if.ensures.wanted c.designated_if.ensures.each

@@ -1,5 +1,5 @@
 use Rattle.std.proofs.lemmas.Option.{IfSome_then}
-use Rattle.cql_pruning.specs.Attacked.{AsksAttack}
+use Rattle.cql_pruning.specs.NameAttacks.{AsksAttack}
 use Rattle.cql_pruning.proofs.AttackLaw.{only_one}
 use Rattle.cql_pruning.proofs.attacks.attacked_in_one.Goals as goal
 

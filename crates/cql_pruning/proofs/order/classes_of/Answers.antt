@@ -1,7 +1,7 @@
 use Rattle.std.proofs.Common.{◌<◌, subst, sym, arith}
 use Rattle.cql_syntax.specs.TreeOf.{filter_tree}
 use Rattle.cql_columns.proofs.Chains.{take_whole}
-use Rattle.cql_pruning.specs.Classes.{AreAmong}
+use Rattle.cql_pruning.specs.Classes.{CoverClasses}
 use Rattle.cql_pruning.proofs.ClassSets.{class_small, among_begun, among_more}
 use Rattle.cql_pruning.proofs.order.classes_of.Goals as goal
 
@@ -17,4 +17,4 @@ loop-filter-preserved c =
     c.loop-filter.invariant
 
 pub returns : goal.returns
-returns c = subst (AreAmong c.loop-filter.classes) (take_whole c.args.filters.now c.loop-filter.filter-index (omega (arith, c.loop-filter-test.false))) c.loop-filter.invariant
+returns c = subst (CoverClasses c.loop-filter.classes) (take_whole c.args.filters.now c.loop-filter.filter-index (omega (arith, c.loop-filter-test.false))) c.loop-filter.invariant

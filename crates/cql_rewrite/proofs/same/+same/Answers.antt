@@ -2,7 +2,7 @@ use Rattle.std.proofs.Common.{◌≡◌, ◌∙◌, sym, ap₂, arith, rules, Bo
 use Rattle.cql_syntax.specs.Same as spec
 use Rattle.cql_syntax.specs.Unplaced.{all_with, terms_with, parts_with}
 use Rattle.cql_rewrite.proofs.Rows.{filter_rows, term_rows, part_rows, differed, stopped, moved, ended}
-use Rattle.cql_rewrite.proofs.PartsSame.{same_parts_of, promoted_same, third_differs, fourth_decides}
+use Rattle.cql_rewrite.proofs.SamePlayedParts.{same_parts_of, promoted_same, third_differs, fourth_decides}
 use Rattle.cql_syntax.specs.Same.{same_filter, same_form}
 use Rattle.cql_syntax.specs.TreeOf.{form_tree}
 use Rattle.cql_syntax.specs.Unplaced.{with_places, form_with}

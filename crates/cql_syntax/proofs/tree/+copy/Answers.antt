@@ -95,8 +95,8 @@ Form::copy-returns-in_ok-squares-in-Square t c =
     let name = c.in_ok-name-in-Square.ensures ∙ c.as_slice.ensures in
     let first = c.in_ok-squares-in-Square.ensures ∙ ap filter_tree c.deref-in-Square.ensures in
     let second = ap filter_tree c.deref-in-Square-2.ensures in
-    shown form_tree c.copy_asked.result _ _ (ap₂ (λ text f. square c.in-Square.every text f (filter_tree c.deref-in-Square-2.result.now)) name first
-    ∙ ap (square c.in-Square.every c.in-Square.name (filter_tree c.in-Square.a.value)) second ∙ sym (ap form_tree c.in-Square.is)) c.copy_asked.ensures
+    shown form_tree c.copy_condition.result _ _ (ap₂ (λ text f. square c.in-Square.every text f (filter_tree c.deref-in-Square-2.result.now)) name first
+    ∙ ap (square c.in-Square.every c.in-Square.name (filter_tree c.in-Square.a.value)) second ∙ sym (ap form_tree c.in-Square.is)) c.copy_condition.ensures
 
 pub Filter::copy_second-returns : goal.Filter::copy_second-returns
 Filter::copy_second-returns t c = ap (pair c.args.word (filter_tree c.args.first.value)) c.in_ok-boxed.ensures
@@ -104,8 +104,8 @@ Filter::copy_second-returns t c = ap (pair c.args.word (filter_tree c.args.first
 pub Filter::copy_otherwise-returns : goal.Filter::copy_otherwise-returns
 Filter::copy_otherwise-returns t c = ap (if_ (filter_tree c.args.condition.value) (filter_tree c.args.then.value)) c.in_ok-boxed.ensures
 
-pub Filter::copy_asked-returns : goal.Filter::copy_asked-returns
-Filter::copy_asked-returns t c = ap (square c.args.every c.args.text (filter_tree c.args.squares.value)) c.in_ok-boxed.ensures
+pub Filter::copy_condition-returns : goal.Filter::copy_condition-returns
+Filter::copy_condition-returns t c = ap (square c.args.every c.args.text (filter_tree c.args.squares.value)) c.in_ok-boxed.ensures
 
 pub Form::copy_unary-returns : goal.Form::copy_unary-returns
 Form::copy_unary-returns t c = ap (unary c.args.word) c.in_ok-boxed.ensures

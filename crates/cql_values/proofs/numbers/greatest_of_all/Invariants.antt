@@ -1,9 +1,9 @@
 use Rattle.std.proofs.Common.{◌≡◌, drop, map, fold, Some}
 use Rattle.std.specs.Int.{int_max}
 use Rattle.cql_syntax.specs.Values as spec
-use Rattle.cql_values.specs.Shown.{meant}
+use Rattle.cql_values.specs.ValueModel.{as_value}
 use Rattle.cql_values.proofs.numbers.greatest_of_all.Given as goal
 
 abbrev pub invariant-loop-value : goal.invariant-loop-value
 invariant-loop-value l =
-    fold (λ a w. spec.of_both (λ x y. Some (int_max x y)) a (spec.amount w)) l.chosen (map meant (drop l.value-index l.rest)) ≡ spec.chosen_from int_max (map meant l.values)
+    fold (λ a w. spec.of_both (λ x y. Some (int_max x y)) a (spec.amount w)) l.chosen (map as_value (drop l.value-index l.rest)) ≡ spec.chosen_from int_max (map as_value l.values)

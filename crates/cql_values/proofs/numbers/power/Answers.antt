@@ -7,5 +7,5 @@ use Rattle.cql_values.proofs.numbers.power.Goals as goal
 
 pub returns : goal.returns
 returns c =
-    c.counted.ensures ∙ ap count ((rw c.men.ensures.men at c.worth_of_all.ensures)
+    c.count_value.ensures ∙ ap count ((rw c.men.ensures.men at c.material_of.ensures)
     ∙ sym (ap (λ (x : ℕ → Bool). sum_by (λ s. if x s then worth (man_at c.args.position.now.men s) else 0) squares) c.squares.ensures))

@@ -6,4 +6,4 @@ use Rattle.cql_values.proofs.Counted.{own_squares}
 use Rattle.cql_values.proofs.numbers.size.Goals as goal
 
 pub returns : goal.returns
-returns c = c.counted.ensures ∙ ap count (c.count.ensures.value (is_in c.squares.result) (own_squares c.squares.result) ∙ sym (ap (λ x. count_by x squares) c.squares.ensures))
+returns c = c.count_value.ensures ∙ ap count (c.count.ensures.value (is_in c.squares.result) (own_squares c.squares.result) ∙ sym (ap (λ x. count_by x squares) c.squares.ensures))

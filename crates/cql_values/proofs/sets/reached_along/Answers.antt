@@ -2,7 +2,7 @@ use Rattle.std.proofs.Common.{◌≡◌, arith, subst}
 use Rattle.std.specs.List.{list_any, range_with_len}
 use Rattle.cq_position.specs.Bitboards.{IsBitboard}
 use Rattle.cq_position.proofs.Marked.{marks_same}
-use Rattle.cql_values.specs.Squares.{is_step_to}
+use Rattle.cql_values.specs.Internal.Squares.{is_step_to}
 use Rattle.cql_values.proofs.Masks.{union_number}
 use Rattle.cql_values.proofs.Reaching.{leads_near}
 use Rattle.cql_values.proofs.sets.reached_along.Goals as goal

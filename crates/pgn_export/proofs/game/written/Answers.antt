@@ -1,7 +1,7 @@
 use Rattle.std.proofs.Common.{◌≡◌, ◌++◌, ◌<◌, length, sym, ap, subst, ◌∙◌, IfOk}
 use Rattle.std.specs.List.{flat_map}
 use Rattle.pgn_export.specs.Movetext.{movetext}
-use Rattle.pgn_export.specs.Page.{after_lines, with_words}
+use Rattle.pgn_export.specs.Internal.Page.{after_lines, with_words}
 use Rattle.pgn_export.specs.TagLines.{tag_line, written_tags}
 use Rattle.pgn_export.proofs.Pages.{lines_written}
 use Rattle.pgn_export.proofs.Puts.{some_tags}

@@ -1,8 +1,8 @@
 use Rattle.std.proofs.Common.{ℕ, sym, ◌∙◌, arith}
 use Rattle.cq_position.specs.Games.{node_at}
 use Rattle.pgn_export.specs.Movetext.{line_words, variation_words}
-use Rattle.pgn_export.specs.Page.{with_words}
-use Rattle.pgn_export.specs.Places.{after_node, instead_of}
+use Rattle.pgn_export.specs.Internal.Page.{with_words}
+use Rattle.pgn_export.specs.Internal.NodeWords.{after_node, instead_of}
 use Rattle.pgn_export.proofs.Walk.{line_step, line_end, variation_step, variations_end}
 use Rattle.pgn_export.proofs.movetext.+writing.Goals as goal
 

@@ -1,8 +1,8 @@
 use Rattle.std.proofs.Common.{◌≡◌, ◌++◌, ℕ, ◌-◌, ◌<◌, ◌≤◌, Bool, List, length, Some}
 use Rattle.cq_position.specs.Games.{Node, node_at}
 use Rattle.pgn_export.specs.Movetext.{line_words, variation_words}
-use Rattle.pgn_export.specs.Page.{Page, with_words}
-use Rattle.pgn_export.specs.Places.{after_node, instead_of}
+use Rattle.pgn_export.specs.Internal.Page.{Page, with_words}
+use Rattle.pgn_export.specs.Internal.NodeWords.{after_node, instead_of}
 use Rattle.pgn_export.proofs.movetext.+writing.Given as goal
 
 -- children and siblings have greater numbers

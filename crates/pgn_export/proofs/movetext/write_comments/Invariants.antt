@@ -1,7 +1,7 @@
 use Rattle.std.proofs.Common.{◌≡◌, drop}
 use Rattle.std.specs.List.{flat_map}
 use Rattle.cq_position.specs.Games.{node_at}
-use Rattle.pgn_export.specs.Page.{with_words}
+use Rattle.pgn_export.specs.Internal.Page.{with_words}
 use Rattle.pgn_export.specs.Words.{comment_words}
 use Rattle.pgn_export.proofs.movetext.write_comments.Given as goal
 

@@ -4,8 +4,8 @@ use Rattle.std.proofs.lemmas.List.Sums.{fold-append}
 use Rattle.cq_position.specs.Games.{node_at}
 use Rattle.pgn_export.specs.Movetext.{line_words, played_in}
 use Rattle.pgn_tree.specs.Results.{result_text}
-use Rattle.pgn_export.specs.Page.{Page, with_word, with_words}
-use Rattle.pgn_export.specs.Places.{children_from}
+use Rattle.pgn_export.specs.Internal.Page.{Page, with_word, with_words}
+use Rattle.pgn_export.specs.Internal.NodeWords.{children_from}
 use Rattle.pgn_export.specs.Words.{comment_words}
 use Rattle.pgn_export.proofs.movetext.write_movetext.Goals as goal
 

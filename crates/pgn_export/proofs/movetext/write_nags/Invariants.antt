@@ -1,6 +1,6 @@
 use Rattle.std.proofs.Common.{◌≡◌, map, drop}
 use Rattle.pgn_export.specs.Movetext.{nag_word}
-use Rattle.pgn_export.specs.Page.{with_words}
+use Rattle.pgn_export.specs.Internal.Page.{with_words}
 use Rattle.pgn_export.proofs.movetext.write_nags.Given as goal
 
 -- the words so far, and those of the glyphs that are left, are all

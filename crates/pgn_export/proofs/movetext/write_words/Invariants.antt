@@ -1,6 +1,6 @@
 use Rattle.std.proofs.Common.{◌≡◌, length}
 use Rattle.cq_position.specs.Comments.{words}
-use Rattle.pgn_export.specs.Page.{with_words}
+use Rattle.pgn_export.specs.Internal.Page.{with_words}
 use Rattle.pgn_export.proofs.movetext.write_words.Given as goal
 
 -- the words so far, and those of what is left, are all

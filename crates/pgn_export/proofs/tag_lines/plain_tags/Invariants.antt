@@ -1,6 +1,6 @@
 use Rattle.std.proofs.Common.{◌≡◌, not, drop}
 use Rattle.std.specs.List.{filter, fold}
-use Rattle.pgn_export.specs.Plain.{plain}
+use Rattle.pgn_export.specs.Internal.PlainTags.{plain}
 use Rattle.pgn_export.specs.TagLines.{is_in_roster, put, sorted}
 use Rattle.pgn_export.proofs.tag_lines.plain_tags.Given as goal
 

@@ -2,7 +2,7 @@ use Rattle.std.proofs.Common.{ap, ap₂, ◌∙◌}
 use Rattle.std.specs.BTreeMap.{insert_entry}
 use Rattle.std.specs.Cmp.Lexicographic.{slice_cmp}
 use Rattle.std.specs.Ordering.{nat_cmp}
-use Rattle.pgn_export.specs.Plain.{plain}
+use Rattle.pgn_export.specs.Internal.PlainTags.{plain}
 use Rattle.pgn_export.proofs.Puts.{plain_insert}
 use Rattle.pgn_export.proofs.tag_lines.put.Goals as goal
 

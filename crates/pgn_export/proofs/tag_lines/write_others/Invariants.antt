@@ -1,6 +1,6 @@
 use Rattle.std.proofs.Common.{◌≡◌, ◌++◌}
 use Rattle.std.specs.List.{flat_map}
-use Rattle.pgn_export.specs.Plain.{plain}
+use Rattle.pgn_export.specs.Internal.PlainTags.{plain}
 use Rattle.pgn_export.specs.TagLines.{tag_line, other_tags}
 use Rattle.pgn_export.proofs.tag_lines.write_others.Given as goal
 

@@ -1,7 +1,7 @@
 use Rattle.std.proofs.Common.{◌≡◌, ◌++◌, map, drop}
 use Rattle.cq_position.specs.Games.{numbers}
 use Rattle.pgn_json.specs.Json.{node_text}
-use Rattle.pgn_json.specs.Left.{left}
+use Rattle.pgn_json.specs.Internal.Remaining.{left}
 use Rattle.pgn_json.specs.Values.{separated}
 use Rattle.pgn_json.proofs.game.push_each.Given as goal
 

@@ -1,6 +1,6 @@
 use Rattle.std.proofs.Common.{◌≡◌, ◌++◌, map, drop}
 use Rattle.pgn_json.specs.Json.{tag_text}
-use Rattle.pgn_json.specs.Left.{left}
+use Rattle.pgn_json.specs.Internal.Remaining.{left}
 use Rattle.pgn_json.specs.Values.{separated}
 use Rattle.pgn_json.proofs.game.push_pairs.Given as goal
 

@@ -1,6 +1,6 @@
 use Rattle.std.proofs.Common.{All, take}
 use Rattle.cq_position.specs.Games.{node_at}
-use Rattle.pgn_json.specs.Kept.{AreBytes}
+use Rattle.pgn_json.specs.GameConditions.{AreBytes}
 use Rattle.pgn_json.proofs.laws.comments_are_bytes.Given as goal
 
 -- those before are

@@ -1,7 +1,7 @@
 use Rattle.std.proofs.Common.{ℕ, List, [], All, subst, arith}
 use Rattle.std.proofs.lemmas.List.{take_all}
 use Rattle.std.proofs.lemmas.List.Elements.{All-more}
-use Rattle.pgn_json.specs.Kept.{AreBytes}
+use Rattle.pgn_json.specs.GameConditions.{AreBytes}
 use Rattle.pgn_json.proofs.laws.tags_are_bytes.Goals as goal
 
 abbrev IsBytesTag : List ℕ × List ℕ → Type 0

@@ -2,7 +2,7 @@ use Rattle.std.proofs.Common.{All, subst, arith}
 use Rattle.std.proofs.lemmas.List.{take_all}
 use Rattle.std.proofs.lemmas.List.Elements.{All-more}
 use Rattle.cq_position.specs.Games.{Node, no_node}
-use Rattle.pgn_json.specs.Kept.{AreBytes}
+use Rattle.pgn_json.specs.GameConditions.{AreBytes}
 use Rattle.pgn_json.proofs.laws.texts_are_bytes.Goals as goal
 
 abbrev IsBytesNode : Node → Type 0

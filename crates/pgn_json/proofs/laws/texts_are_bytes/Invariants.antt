@@ -1,5 +1,5 @@
 use Rattle.std.proofs.Common.{All, take}
-use Rattle.pgn_json.specs.Kept.{AreBytes}
+use Rattle.pgn_json.specs.GameConditions.{AreBytes}
 use Rattle.pgn_json.proofs.laws.texts_are_bytes.Given as goal
 
 -- those before are

@@ -1,5 +1,5 @@
 use Rattle.std.proofs.Common.{◌≡◌, ◌++◌, map, drop, decimal}
-use Rattle.pgn_json.specs.Left.{left}
+use Rattle.pgn_json.specs.Internal.Remaining.{left}
 use Rattle.pgn_json.specs.Values.{separated}
 use Rattle.pgn_json.proofs.notes.push_numbers.Given as goal
 

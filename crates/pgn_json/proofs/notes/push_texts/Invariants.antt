@@ -1,6 +1,6 @@
 use Rattle.std.proofs.Common.{◌≡◌, ◌++◌, map, drop}
 use Rattle.cq_position.specs.Games.{node_at}
-use Rattle.pgn_json.specs.Left.{left}
+use Rattle.pgn_json.specs.Internal.Remaining.{left}
 use Rattle.pgn_json.specs.Strings.{string_text}
 use Rattle.pgn_json.specs.Values.{separated}
 use Rattle.pgn_json.proofs.notes.push_texts.Given as goal

@@ -1,5 +1,5 @@
 use Rattle.std.proofs.Common.{subst, arith}
-use Rattle.pgn_json.specs.Left.{ArePlies}
+use Rattle.pgn_json.specs.Internal.Remaining.{ArePlies}
 use Rattle.pgn_json.proofs.PlyCounts.{plies_none, plies_more}
 use Rattle.pgn_json.proofs.plies.plies.Goals as goal
 

@@ -1,4 +1,4 @@
-use Rattle.pgn_json.specs.Left.{ArePlies}
+use Rattle.pgn_json.specs.Internal.Remaining.{ArePlies}
 use Rattle.pgn_json.proofs.plies.plies.Given as goal
 
 abbrev pub invariant-loop-k : goal.invariant-loop-k

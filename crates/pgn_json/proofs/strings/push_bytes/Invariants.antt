@@ -1,6 +1,6 @@
 use Rattle.std.proofs.Common.{◌≡◌, ◌++◌, drop}
 use Rattle.std.specs.List.{flat_map}
-use Rattle.pgn_json.specs.Bytes.{byte_text}
+use Rattle.pgn_json.specs.Internal.Bytes.{byte_text}
 use Rattle.pgn_json.proofs.strings.push_bytes.Given as goal
 
 -- what is written, and what is left, is all

@@ -1,5 +1,5 @@
 use Rattle.std.proofs.Common.{◌≡◌, take}
-use Rattle.pgn_json.specs.Texts.{all_faults, all_faulty}
+use Rattle.pgn_json.specs.Internal.Texts.{all_faults, all_faulty}
 use Rattle.pgn_json.proofs.writing.joined_faults.Given as goal
 
 abbrev pub invariant-loop-i : goal.invariant-loop-i

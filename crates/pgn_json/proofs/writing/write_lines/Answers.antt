@@ -1,7 +1,7 @@
 use Rattle.std.proofs.Common.{◌+◌, ◌++◌, ◌<◌, ◌≤◌, drop, length, take, ap, rules, subst, sym, ◌∙◌}
 use Rattle.std.proofs.lemmas.List.{take_all}
-use Rattle.pgn_json.specs.Pages.{Adds, FailsIn}
-use Rattle.pgn_json.specs.Texts.{all_lines}
+use Rattle.pgn_json.specs.Internal.Pages.{Adds, FailsIn}
+use Rattle.pgn_json.specs.Internal.Texts.{all_lines}
 use Rattle.pgn_json.specs.Writing.{view_of}
 use Rattle.pgn_json.specs.declared.texts.Texts.{Texts}
 use Rattle.pgn_json.proofs.Pages.{fails_sooner, lines_more, lines_split, page_written}

@@ -1,6 +1,6 @@
 use Rattle.std.proofs.Common.{take}
-use Rattle.pgn_json.specs.Pages.{WaitsOf}
-use Rattle.pgn_json.specs.Texts.{all_lines}
+use Rattle.pgn_json.specs.Internal.Pages.{WaitsOf}
+use Rattle.pgn_json.specs.Internal.Texts.{all_lines}
 use Rattle.pgn_json.specs.Writing.{view_of}
 use Rattle.pgn_json.proofs.writing.write_lines.Given as goal
 

@@ -1,5 +1,5 @@
 use Rattle.std.proofs.Common.{◌++◌, [], refl, subst, sym}
-use Rattle.pgn_json.specs.Pages.{WaitsOf}
+use Rattle.pgn_json.specs.Internal.Pages.{WaitsOf}
 use Rattle.pgn_json.specs.Writing.{view_of}
 use Rattle.pgn_json.proofs.Pages.{fails_sooner, none_waits, waits_more, write_failed}
 use Rattle.pgn_json.proofs.writing.write_long.Goals as goal

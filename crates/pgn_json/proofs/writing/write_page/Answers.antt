@@ -1,6 +1,6 @@
 use Rattle.std.proofs.Common.{◌≡◌, List, [], ℕ, rules, subst, sym, take}
 use Rattle.cq_outside.specs.Flow.{Grew}
-use Rattle.pgn_json.specs.Pages.{WaitsOf}
+use Rattle.pgn_json.specs.Internal.Pages.{WaitsOf}
 use Rattle.pgn_json.specs.Writing.{view_of}
 use Rattle.pgn_json.proofs.Pages.{none_waits, write_failed}
 use Rattle.pgn_json.proofs.writing.write_page.Goals as goal

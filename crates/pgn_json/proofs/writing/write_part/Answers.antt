@@ -1,36 +1,36 @@
 use Rattle.std.proofs.Common.{◌≤◌, ◌^◌, Err, refl, ap, sym, ◌∙◌, subst, inl, inr, arith}
-use Rattle.pgn_json.specs.Pages.{WritesText}
-use Rattle.pgn_json.specs.Parts.{part_at}
-use Rattle.pgn_json.specs.Texts.{all_faults, all_faulty, all_lines}
+use Rattle.pgn_json.specs.Internal.Pages.{WritesText}
+use Rattle.pgn_json.specs.Internal.Parts.{part_at}
+use Rattle.pgn_json.specs.Internal.Texts.{all_faults, all_faulty, all_lines}
 use Rattle.pgn_json.specs.Writing.{sinks_of, view_of}
-use Rattle.pgn_json.proofs.Parts.{few_faulty_texts, front_of_faults, front_of_lines, nothing_written, part_written}
+use Rattle.pgn_json.proofs.BatchParts.{few_faulty_texts, front_of_faults, front_of_lines, nothing_written, part_written}
 use Rattle.pgn_json.proofs.writing.write_part.Goals as goal
 
 pub returns-in_default : goal.returns-in_default
 returns-in_default g c =
     let sinks = sinks_of g.O.Sink.taken g.O.Sink.faults g.E.Sink.taken g.E.Sink.faults in
-    let maker = c.args.maker.now in
-    let part = part_at maker.mark.now maker.batch.now maker.first in
+    let task = c.args.task.now in
+    let part = part_at task.mark.now task.batch.now task.first in
     nothing_written part (sinks c.args.out.now c.args.err.now)
 
 pub joined_faults-requires : goal.joined_faults-requires
 joined_faults-requires g c =
-    let maker = c.args.maker.now in
-    let few = few_faulty_texts maker.mark.now maker.batch.now maker.first c.in-Ok.texts.items c.in-Ok.ensures in
+    let task = c.args.task.now in
+    let few = few_faulty_texts task.mark.now task.batch.now task.first c.in-Ok.texts.items c.in-Ok.ensures in
     let low : all_faulty c.in-Ok.texts.items ≤ 2 ^ 32 = omega (arith, few) in
     subst (λ l. all_faulty l ≤ 2 ^ 32) (sym c.deref.ensures.value) low
 
 pub returns-in_default-joined_faults : goal.returns-in_default-joined_faults
 returns-in_default-joined_faults g c =
     let sinks = sinks_of g.O.Sink.taken g.O.Sink.faults g.E.Sink.taken g.E.Sink.faults in
-    let maker = c.args.maker.now in
-    let part = part_at maker.mark.now maker.batch.now maker.first in
+    let task = c.args.task.now in
+    let part = part_at task.mark.now task.batch.now task.first in
     nothing_written part (sinks c.args.out.now c.args.err.now)
 
 pub returns-in-Err-Fault : goal.returns-in-Err-Fault
 returns-in-Err-Fault g c =
-    let maker = c.args.maker.now in
-    let part = part_at maker.mark.now maker.batch.now maker.first in
+    let task = c.args.task.now in
+    let part = part_at task.mark.now task.batch.now task.first in
     let out = view_of g.O.Sink.taken g.O.Sink.faults in
     let err = view_of g.E.Sink.taken g.E.Sink.faults in
     let places = c.in-Ok.texts.items in
@@ -40,8 +40,8 @@ returns-in-Err-Fault g c =
 
 pub returns-in-Err-NoMemory : goal.returns-in-Err-NoMemory
 returns-in-Err-NoMemory g c =
-    let maker = c.args.maker.now in
-    let part = part_at maker.mark.now maker.batch.now maker.first in
+    let task = c.args.task.now in
+    let part = part_at task.mark.now task.batch.now task.first in
     let out = view_of g.O.Sink.taken g.O.Sink.faults in
     let err = view_of g.E.Sink.taken g.E.Sink.faults in
     let places = c.in-Ok.texts.items in
@@ -51,8 +51,8 @@ returns-in-Err-NoMemory g c =
 
 pub returns-in-Ok-write_all_of : goal.returns-in-Ok-write_all_of
 returns-in-Ok-write_all_of g c =
-    let maker = c.args.maker.now in
-    let part = part_at maker.mark.now maker.batch.now maker.first in
+    let task = c.args.task.now in
+    let part = part_at task.mark.now task.batch.now task.first in
     let out = view_of g.O.Sink.taken g.O.Sink.faults in
     let places = c.in-Ok.texts.items in
     let lines = subst (λ l. WritesText (all_lines l) (out c.args.out.now) (out c.write_lines.new.out) c.write_lines.result) c.deref-2.ensures.value c.write_lines.ensures in
@@ -65,8 +65,8 @@ returns-in-Ok-write_all_of g c =
 
 pub returns : goal.returns
 returns g c =
-    let maker = c.args.maker.now in
-    let part = part_at maker.mark.now maker.batch.now maker.first in
+    let task = c.args.task.now in
+    let part = part_at task.mark.now task.batch.now task.first in
     let out = view_of g.O.Sink.taken g.O.Sink.faults in
     let err = view_of g.E.Sink.taken g.E.Sink.faults in
     let places = c.in-Ok.texts.items in

@@ -1,6 +1,6 @@
 use Rattle.std.proofs.Common.{Err, List, ℕ, map, refl, subst, ap, ◌∙◌}
 use Rattle.std.specs.String.{string_bytes}
-use Rattle.cq_outside.specs.Told.{Opens}
+use Rattle.cq_outside.specs.DeskFiles.{Opens}
 use Rattle.pgn_pieces.proofs.Opening.{opened_and_cut, unopened}
 use Rattle.pgn_pieces.proofs.top_call.run.Goals as goal
 

@@ -1,6 +1,6 @@
 use Rattle.std.proofs.Common.{[], ◌∷◌, ◌++◌, sym, ap, ◌∙◌, subst}
 use Rattle.std.proofs.lemmas.List.{nil_from_length}
-use Rattle.pgn_reader.specs.Arranged.{nodes_by}
+use Rattle.pgn_reader.specs.Internal.GameAssembly.{nodes_by}
 use Rattle.pgn_reader.proofs.Building.{IsBuilt, built_first, next_row, built_on, built_whole}
 use Rattle.pgn_reader.proofs.build.add_rows.Goals as goal
 

@@ -1,5 +1,5 @@
 use Rattle.std.proofs.Common.{[], ◌∷◌, ◌++◌}
-use Rattle.pgn_reader.specs.Arranged.{nodes_by}
+use Rattle.pgn_reader.specs.Internal.GameAssembly.{nodes_by}
 use Rattle.pgn_reader.proofs.Building.{IsBuilt}
 use Rattle.pgn_reader.proofs.build.add_rows.Given as goal
 

@@ -1,5 +1,5 @@
 use Rattle.std.proofs.Common.{◌≡◌, ◌++◌}
-use Rattle.pgn_reader.specs.LineInside.{backwards}
+use Rattle.pgn_reader.specs.Internal.LineInside.{backwards}
 use Rattle.pgn_reader.proofs.line.push_groups.Given as goal
 
 abbrev pub invariant-loop-group : goal.invariant-loop-group

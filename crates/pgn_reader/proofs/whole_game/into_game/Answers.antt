@@ -1,8 +1,8 @@
 use Rattle.std.proofs.Common.{◌≡◌, IfOk, ap, ◌∙◌, subst}
 use Rattle.cq_position.specs.Games.{Game}
 use Rattle.cq_position.specs.Position.{IsPosition}
-use Rattle.pgn_reader.specs.Arranged.{nodes_of_rows}
-use Rattle.pgn_reader.specs.Reading.{ending_by, game_of}
+use Rattle.pgn_reader.specs.Internal.GameAssembly.{nodes_of_rows}
+use Rattle.pgn_reader.specs.Internal.Reading.{ending_by, game_of}
 use Rattle.pgn_reader.proofs.Tokens.{tree_of_rows, some_rows}
 use Rattle.pgn_reader.proofs.whole_game.into_game.Goals as goal
 

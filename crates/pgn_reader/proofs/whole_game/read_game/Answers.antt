@@ -1,6 +1,6 @@
 use Rattle.std.proofs.Common.{sym, subst}
 use Rattle.pgn_reader.specs.Words.{words_of}
-use Rattle.pgn_reader.specs.Reading.{IsReading}
+use Rattle.pgn_reader.specs.Internal.Reading.{IsReading}
 use Rattle.pgn_reader.specs.Verdict.{IsOnlyGame}
 use Rattle.pgn_reader.proofs.Tokens.{only_game}
 use Rattle.pgn_reader.proofs.whole_game.read_game.Goals as goal

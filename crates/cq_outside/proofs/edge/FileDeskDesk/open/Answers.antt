@@ -13,7 +13,7 @@ pub returns-in-Some-clause-asked : goal.returns-in-Some-clause-asked
 returns-in-Some-clause-asked g c =
     let before = ap (λ d. d.openings) c.self.view_is in
     record {
-      file = λ text _. subst (λ o. IsOneMore o (g.R.Folder.openings c.file_named.new.files)) before (c.file_named.ensures.text text);
+      file = λ text _. subst (λ o. IsOneMore o (g.R.FileSystem.openings c.file_named.new.files)) before (c.file_named.ensures.text text);
       input = λ name. absurd (false≢true (sym c.if-is_standard_input.false ∙ c.is_standard_input.ensures.1 name));
       no_text = λ none. c.file_named.ensures.no_text none ∙ before;
     }
@@ -22,7 +22,7 @@ pub returns-clause-asked : goal.returns-clause-asked
 returns-clause-asked g c =
     let before = ap (λ d. d.openings) c.self.view_is in
     record {
-      file = λ text _. subst (λ o. IsOneMore o (g.R.Folder.openings c.file_named.new.files)) before (c.file_named.ensures.text text);
+      file = λ text _. subst (λ o. IsOneMore o (g.R.FileSystem.openings c.file_named.new.files)) before (c.file_named.ensures.text text);
       input = λ name. absurd (false≢true (sym c.if-is_standard_input.false ∙ c.is_standard_input.ensures.1 name));
       no_text = λ none. c.file_named.ensures.no_text none ∙ before;
     }

@@ -5,4 +5,4 @@ use Rattle.cq_shared.proofs.plan.SharedPlan.parts.Goals as goal
 pub returns : goal.returns
 returns c =
     let count : c.len.result ≡ length c.args.self.now.parts.items = omega (arith, c.len.ensures) in
-    count ∙ parts_count c.args.self.now.parts.items c.args.self.now.askers.items c.args.self.now.parts_are
+    count ∙ parts_count c.args.self.now.parts.items c.args.self.now.owners.items c.args.self.now.parts_are

@@ -13,23 +13,23 @@ use Rattle.cql_eval.proofs.FormLaws.{IfOk_then, chain_form}
 use Rattle.cql_syntax.specs.Trees.{pair}
 use Rattle.cql_columns.specs.Costs.{searched_len}
 use Rattle.cql_operators.specs.Trees.{AreBeforeLive}
-use Rattle.cql_operators.specs.Elsewhere.{AreLookedAt, AreBroughtBack}
+use Rattle.cql_operators.specs.OtherNodes.{CoverSourceNodes, GatherSourceSquares}
 use Rattle.cql_pruning.specs.Covers.{AreCut, AreJoined, HasSome, MayHave, MayHold}
 use Rattle.cql_pruning.proofs.CoverSome.{AddedFor, added_all, added_by, added_more, added_none, or_cut, some_cut}
-use Rattle.cql_eval.proofs.CoverFree.{free_cut, free_set_cut, no_steps, related_cut}
+use Rattle.cql_eval.proofs.CoverIndependent.{free_cut, free_set_cut, no_steps, related_cut}
 use Rattle.cql_eval.proofs.Trying.{tried}
 use Rattle.cql_eval.proofs.CoverMoves.{asks_free, free_parts_cut}
 use Rattle.cql_pruning.proofs.PairLaw.{paired_cut}
 use Rattle.cql_pruning.proofs.CoverLaw.{cut_same, cut_then}
-use Rattle.cql_eval.proofs.ElsewhereCut.{elsewhere_cut}
+use Rattle.cql_eval.proofs.OtherNodesCut.{elsewhere_cut}
 use Rattle.cql_pruning.proofs.CoverForms.{unary_cut, written_sets, inner_cut, turned_cut, move_cut, played_cut, pair_cut, one_of_sets, one_of_all, common_cut, all_cut, square_cut, square_same, own_cut}
 use Rattle.cql_eval.proofs.evaluate.+evaluate.Goals as goal
 
-pub covers::cover-returns-then-is_own-clause-cut : goal.covers::cover-returns-then-is_own-clause-cut
-covers::cover-returns-then-is_own-clause-cut g t c =
+pub covers::cover-returns-then-gives_only_name-clause-cut : goal.covers::cover-returns-then-gives_only_name-clause-cut
+covers::cover-returns-then-gives_only_name-clause-cut g t c =
     on_ok_weaker c.cover_set.result
     (λ cut. own_cut (tried c.args.trial.now) (filter_tree c.args.asked.now)
-    c.args.sets.now c.cover_set.new.sets (c.is_own.ensures c.if-is_own.true) cut)
+    c.args.sets.now c.cover_set.new.sets (c.gives_only_name.ensures c.if-gives_only_name.true) cut)
     c.cover_set.ensures.cut
 
 pub covers::cover-returns-then-is_or-clause-cut : goal.covers::cover-returns-then-is_or-clause-cut
@@ -75,22 +75,22 @@ covers::cover-returns-in-Played-clause-cut g t c =
 
 pub cover_moves::cover_played-returns-then-not-asks_without-clause-cut : goal.cover_moves::cover_played-returns-then-not-asks_without-clause-cut
 cover_moves::cover_played-returns-then-not-asks_without-clause-cut g t c =
-    move_cut (tried c.args.trial.now) c.args.played.now c.is_own_part-origin.result c.is_own_part-goal.result c.is_own_part-taken.result
-    c.args.sets.now c.cut_moves.new.sets c.is_own_part-origin.ensures c.is_own_part-goal.ensures c.is_own_part-taken.ensures c.cut_moves.ensures
+    move_cut (tried c.args.trial.now) c.args.played.now c.part_gives_only_name-origin.result c.part_gives_only_name-goal.result c.part_gives_only_name-taken.result
+    c.args.sets.now c.cut_moves.new.sets c.part_gives_only_name-origin.ensures c.part_gives_only_name-goal.ensures c.part_gives_only_name-taken.ensures c.cut_moves.ensures
 
 pub cover_moves::cover_played-returns-clause-cut : goal.cover_moves::cover_played-returns-clause-cut
 cover_moves::cover_played-returns-clause-cut g t c =
     on_ok_weaker c.cut_unmet.result
     (λ cut. cut_then c.args.trial.now.live.now _ c.args.sets.now c.cut_moves.new.sets c.cut_unmet.new.sets
-    (move_cut (tried c.args.trial.now) c.args.played.now c.is_own_part-origin.result c.is_own_part-goal.result c.is_own_part-taken.result
-    c.args.sets.now c.cut_moves.new.sets c.is_own_part-origin.ensures c.is_own_part-goal.ensures c.is_own_part-taken.ensures c.cut_moves.ensures)
+    (move_cut (tried c.args.trial.now) c.args.played.now c.part_gives_only_name-origin.result c.part_gives_only_name-goal.result c.part_gives_only_name-taken.result
+    c.args.sets.now c.cut_moves.new.sets c.part_gives_only_name-origin.ensures c.part_gives_only_name-goal.ensures c.part_gives_only_name-taken.ensures c.cut_moves.ensures)
     (free_parts_cut (tried c.args.trial.now) c.as_slice-some.result.now c.args.played.now c.in_ok-parts.parts c.in_ok-goal.goal c.cut_moves.new.sets c.cut_unmet.new.sets
     (subst (HasSome (tree_in c.args.trial.now.scope.now) c.args.trial.now.live.now c.cut_moves.new.sets) (sym c.as_slice-some.ensures.value) c.in_ok-some.ensures)
     c.in_ok-parts.ensures.asks c.in_ok-goal.ensures.asks cut))
     c.cut_unmet.ensures.cut
 
-pub cover_moves::free_columns-returns-clause-asks : goal.cover_moves::free_columns-returns-clause-asks
-cover_moves::free_columns-returns-clause-asks g t c = record {
+pub cover_moves::independent_columns-returns-clause-asks : goal.cover_moves::independent_columns-returns-clause-asks
+cover_moves::independent_columns-returns-clause-asks g t c = record {
   wide = c.as_slice-wide.result.now;
   before_live = subst (AreBeforeLive (tree_in c.args.trial.now.scope.now) c.args.live.now) (sym c.as_slice-wide.ensures.value) c.in_ok-wide.ensures;
   origin = c.in_ok-origin.ensures.asks;
@@ -98,11 +98,11 @@ cover_moves::free_columns-returns-clause-asks g t c = record {
   promoted = c.in_ok-promoted.ensures.asks;
 }
 
-pub cover_moves::free_column-returns-clause-asks : goal.cover_moves::free_column-returns-clause-asks
-cover_moves::free_column-returns-clause-asks g t c =
+pub cover_moves::independent_column-returns-clause-asks : goal.cover_moves::independent_column-returns-clause-asks
+cover_moves::independent_column-returns-clause-asks g t c =
     IfOk_then c.written_column.result c.written_column.ensures.value
     (λ column. asks_free (tree_in c.args.trial.now.scope.now) c.args.trial.now.opened.now c.args.trial.now.scope.now.names.now (written_tree c.args.written.now) c.args.live.now column
-    (c.is_free_and_written.ensures c.if-not-is_free_and_written.false))
+    (c.is_independent_and_written.ensures c.if-not-is_independent_and_written.false))
 
 pub covers::cover_all-loop-class-init : goal.covers::cover_all-loop-class-init
 covers::cover_all-loop-class-init g t c = record { cut = cut_same c.args.trial.now.live.now _ c.args.sets.now; cost = refl }
@@ -171,10 +171,10 @@ covers::cover_set-returns-in_ok-cover_set-in-Pair-clause-cut g t c =
     c.in_ok-cover_set-in-Pair.ensures.cut cut)
     c.cover_related.ensures.cut
 
-pub covers::cover-returns-else-not-is_own-clause-cut : goal.covers::cover-returns-else-not-is_own-clause-cut
-covers::cover-returns-else-not-is_own-clause-cut g t c =
+pub covers::cover-returns-else-not-gives_only_name-clause-cut : goal.covers::cover-returns-else-not-gives_only_name-clause-cut
+covers::cover-returns-else-not-gives_only_name-clause-cut g t c =
     on_ok_weaker c.cover_related.result
-    (λ cut. turned_cut (tried c.args.trial.now) (filter_tree c.args.asked.now) c.in-Pair.pair c.turned.result
+    (λ cut. turned_cut (tried c.args.trial.now) (filter_tree c.args.asked.now) c.in-Pair.pair c.converse.result
     (filter_tree c.deref-in-Pair-2.result.now) (filter_tree c.deref-in-Pair.result.now) c.args.sets.now c.cover_related.new.sets
     (record {
       at = c.args.asked.now.at;
@@ -182,7 +182,7 @@ covers::cover-returns-else-not-is_own-clause-cut g t c =
           ∙ sym (ap₂ (λ p q. filter_at c.args.asked.now.at (pair c.in-Pair.pair (filter_tree p) (filter_tree q))) c.deref-in-Pair-2.ensures c.deref-in-Pair.ensures);
       which = c.is_attack.ensures c.if-not-is_attack.false;
     })
-    (record { attacks = c.turned.ensures.attacks; attacked = c.turned.ensures.attacked }) (c.is_own-in-Pair.ensures c.if-not-is_own.false)
+    (record { attacks = c.converse.ensures.attacks; attacked = c.converse.ensures.attacked }) (c.gives_only_name-in-Pair.ensures c.if-not-gives_only_name.false)
     cut)
     c.cover_related.ensures.cut
 
@@ -219,15 +219,15 @@ cover_squares::cover_pair-returns-clause-cut g t c =
     paired_cut (tried c.args.trial.now) c.as_slice-some.result.now c.args.inner.now (filter_tree c.args.squares.now) (filter_tree c.args.part.now)
     c.in_ok-column.column c.args.sets.now c.cut_paired.new.sets c.requires.other
     (subst (HasSome (tree_in c.args.trial.now.scope.now) c.args.trial.now.live.now c.args.sets.now) (sym c.as_slice-some.ensures.value) c.in_ok-some.ensures)
-    (record { free = c.is_free.ensures c.if-not-is_free.false; column = c.in_ok-column.ensures.value }) c.cut_paired.ensures.cut
+    (record { free = c.is_independent.ensures c.if-not-is_independent.false; column = c.in_ok-column.ensures.value }) c.cut_paired.ensures.cut
 
-pub covers::cover_elsewhere-returns-clause-cut : goal.covers::cover_elsewhere-returns-clause-cut
-covers::cover_elsewhere-returns-clause-cut g t c =
+pub covers::cover_other_nodes-returns-clause-cut : goal.covers::cover_other_nodes-returns-clause-cut
+covers::cover_other_nodes-returns-clause-cut g t c =
     elsewhere_cut (tried c.args.trial.now) c.args.word (λ e. value (tree_in c.args.trial.now.scope.now) [] e (filter_tree c.args.part.now))
     c.as_slice-wide.result.now c.in_ok-there.there.items c.cover.new.sets c.args.sets.now c.cut.new.sets c.requires.asked
     (record {
-      sure = sym c.looks_elsewhere.ensures ∙ c.if-not-looks_elsewhere.false;
-      looked = subst (AreLookedAt (tree_in c.args.trial.now.scope.now) c.args.word c.args.trial.now.live.now) (sym c.as_slice-wide.ensures.value) c.in_ok-wide.ensures;
+      sure = sym c.reads_other_nodes.ensures ∙ c.if-not-reads_other_nodes.false;
+      looked = subst (CoverSourceNodes (tree_in c.args.trial.now.scope.now) c.args.word c.args.trial.now.live.now) (sym c.as_slice-wide.ensures.value) c.in_ok-wide.ensures;
       among = c.any_squares.result;
       all = c.any_squares.ensures;
       every = c.in_ok-there.ensures;
@@ -236,20 +236,20 @@ covers::cover_elsewhere-returns-clause-cut g t c =
     (λ e. value (tree_in c.args.trial.now.scope.now) [] e (filter_tree c.args.part.now))) old c.cover.new.sets) c.deref_mut.ensures.value c.in_ok-cover.ensures.cut)
     (record {
       back = c.in_ok-back.back.items;
-      brought = subst (λ left. AreBroughtBack c.args.trial.now.scope.now.game.now.nodes c.args.word left c.in_ok-back.back.items)
+      brought = subst (λ left. GatherSourceSquares c.args.trial.now.scope.now.game.now.nodes c.args.word left c.in_ok-back.back.items)
           (written_sets c.in_ok-there.there.len c.cover.new.sets c.in_ok-there.there.items (omega (arith, c.cover.ensures.len, c.deref_mut.ensures.len))) c.in_ok-back.ensures;
       cut = c.cut.ensures;
     })
 
 pub covers::cover-returns-in-Unary-clause-cut : goal.covers::cover-returns-in-Unary-clause-cut
 covers::cover-returns-in-Unary-clause-cut g t c =
-    on_ok_weaker c.cover_elsewhere.result
+    on_ok_weaker c.cover_other_nodes.result
     (λ cut. unary_cut (tried c.args.trial.now) (filter_tree c.args.asked.now)
-    (filter_tree c.deref.result.now) c.args.asked.now.at c.in-Unary.word c.args.sets.now c.cover_elsewhere.new.sets
+    (filter_tree c.deref.result.now) c.args.asked.now.at c.in-Unary.word c.args.sets.now c.cover_other_nodes.new.sets
     (ap (λ form. filter_at c.args.asked.now.at (form_tree form)) c.in-Unary.is
     ∙ sym (ap (λ p. filter_at c.args.asked.now.at (unary c.in-Unary.word (filter_tree p))) c.deref.ensures))
     cut)
-    c.cover_elsewhere.ensures.cut
+    c.cover_other_nodes.ensures.cut
 
 pub cover_some::cover_some-loop-part-init : goal.cover_some::cover_some-loop-part-init
 cover_some::cover_some-loop-part-init g t c = record {
@@ -301,8 +301,8 @@ cover_some::add_covered-returns-clause-added g t c =
       c.deref_mut.ensures.len,
     ))) c.add_sets.ensures)
 
-pub covers::cover_free-returns : goal.covers::cover_free-returns
-covers::cover_free-returns g t c = record {
+pub covers::cover_independent-returns : goal.covers::cover_independent-returns
+covers::cover_independent-returns g t c = record {
   cut = free_cut (tree_in c.args.trial.now.scope.now) c.args.trial.now.live.now c.in_ok-some.some.items c.deref.result.now c.deref-2.result.now c.args.trial.now.opened.now
       c.args.trial.now.scope.now.names.now c.args.trial.now.name.now (filter_tree c.args.asked.now) c.in_ok-column.column c.args.sets.now c.cut_where_fails.new.sets
       c.deref.ensures.value c.deref-2.ensures.value c.in_ok-some.ensures c.requires.free c.in_ok-column.ensures.value c.cut_where_fails.ensures;
@@ -310,12 +310,12 @@ covers::cover_free-returns g t c = record {
   cost = no_steps _ _ _ (c.requires.free.cost (searched_len (tree_in c.args.trial.now.scope.now))) c.evaluate.ensures.cost c.evaluate.ensures.rises;
 }
 
-pub covers::cover_free-returns-in_err-column-clause-cost : goal.covers::cover_free-returns-in_err-column-clause-cost
-covers::cover_free-returns-in_err-column-clause-cost g t c =
+pub covers::cover_independent-returns-in_err-column-clause-cost : goal.covers::cover_independent-returns-in_err-column-clause-cost
+covers::cover_independent-returns-in_err-column-clause-cost g t c =
     no_steps _ _ _ (c.requires.free.cost (searched_len (tree_in c.args.trial.now.scope.now))) c.evaluate.ensures.cost c.evaluate.ensures.rises
 
-pub covers::cover_free_set-returns : goal.covers::cover_free_set-returns
-covers::cover_free_set-returns g t c = record {
+pub covers::cover_independent_set-returns : goal.covers::cover_independent_set-returns
+covers::cover_independent_set-returns g t c = record {
   cut = free_set_cut (tree_in c.args.trial.now.scope.now) c.args.trial.now.live.now c.in_ok-some.some.items c.deref.result.now c.deref-2.result.now c.args.trial.now.opened.now
       c.args.trial.now.scope.now.names.now c.args.trial.now.name.now (filter_tree c.args.asked.now) c.in_ok-column.column c.args.sets.now c.cut.new.sets
       c.deref.ensures.value c.deref-2.ensures.value c.in_ok-some.ensures c.requires.free c.in_ok-column.ensures.value c.cut.ensures;
@@ -323,19 +323,19 @@ covers::cover_free_set-returns g t c = record {
   cost = no_steps _ _ _ (c.requires.free.cost (searched_len (tree_in c.args.trial.now.scope.now))) c.evaluate.ensures.cost c.evaluate.ensures.rises;
 }
 
-pub covers::cover_free_set-returns-in_err-column-clause-cost : goal.covers::cover_free_set-returns-in_err-column-clause-cost
-covers::cover_free_set-returns-in_err-column-clause-cost g t c =
+pub covers::cover_independent_set-returns-in_err-column-clause-cost : goal.covers::cover_independent_set-returns-in_err-column-clause-cost
+covers::cover_independent_set-returns-in_err-column-clause-cost g t c =
     no_steps _ _ _ (c.requires.free.cost (searched_len (tree_in c.args.trial.now.scope.now))) c.evaluate.ensures.cost c.evaluate.ensures.rises
 
 pub covers::cover_related-returns : goal.covers::cover_related-returns
 covers::cover_related-returns g t c = record {
   cut = related_cut (tree_in c.args.trial.now.scope.now) c.args.trial.now.live.now c.in_ok-some.some.items c.deref.result.now c.deref-2.result.now c.args.trial.now.opened.now
       c.args.trial.now.scope.now.names.now c.args.trial.now.name.now (filter_tree c.args.second.now) c.in_ok-column.column c.args.sets.now c.cut_related.new.sets
-      c.deref.ensures.value c.deref-2.ensures.value c.in_ok-some.ensures (c.is_free.ensures c.if-not-is_free.false) c.in_ok-column.ensures.value c.args.pair c.cut_related.ensures;
+      c.deref.ensures.value c.deref-2.ensures.value c.in_ok-some.ensures (c.is_independent.ensures c.if-not-is_independent.false) c.in_ok-column.ensures.value c.args.pair c.cut_related.ensures;
   len = c.cut_related.ensures.count;
-  cost = no_steps _ _ _ ((c.is_free.ensures c.if-not-is_free.false).cost (searched_len (tree_in c.args.trial.now.scope.now))) c.evaluate.ensures.cost c.evaluate.ensures.rises;
+  cost = no_steps _ _ _ ((c.is_independent.ensures c.if-not-is_independent.false).cost (searched_len (tree_in c.args.trial.now.scope.now))) c.evaluate.ensures.cost c.evaluate.ensures.rises;
 }
 
 pub covers::cover_related-returns-in_err-column-clause-cost : goal.covers::cover_related-returns-in_err-column-clause-cost
 covers::cover_related-returns-in_err-column-clause-cost g t c =
-    no_steps _ _ _ ((c.is_free.ensures c.if-not-is_free.false).cost (searched_len (tree_in c.args.trial.now.scope.now))) c.evaluate.ensures.cost c.evaluate.ensures.rises
+    no_steps _ _ _ ((c.is_independent.ensures c.if-not-is_independent.false).cost (searched_len (tree_in c.args.trial.now.scope.now))) c.evaluate.ensures.cost c.evaluate.ensures.rises

@@ -56,9 +56,9 @@ unfolding unflat
 evaluate-evaluate-requires-in-Square g t c = λ κs low.
     (search (rules, the_lemmas), (low, (c.requires.tree, (c.requires.asked, boxed_flat _ _ c.deref-in-Square.ensures (none_first _ _ (form_flat c.args.f.now _ (ap form_tree c.in-Square.is) c.requires.flat))))))
 
-pub evaluate-asked_truths-truths-requires : goal.evaluate-asked_truths-truths-requires
+pub evaluate-square_filter_truths-truths-requires : goal.evaluate-square_filter_truths-truths-requires
 unfolding unflat
-evaluate-asked_truths-truths-requires g t c = λ κs low.
+evaluate-square_filter_truths-truths-requires g t c = λ κs low.
     (search (rules, the_lemmas), (low, (c.requires.tree, (c.requires.asked, boxed_flat _ _ c.deref-in-Square-2.ensures (none_rest _ _ (form_flat c.args.f.now _ (ap form_tree c.in-Square.is) c.requires.flat))))))
 
 pub evaluate-played_column-requires : goal.evaluate-played_column-requires
@@ -91,9 +91,9 @@ unfolding unflat
 covers::cover-cover_all-requires g t c = λ κs low.
     (search (rules, the_lemmas), (low, (c.requires.tree, (c.requires.asked, (c.requires.count, form_flat c.args.asked.now _ (ap form_tree c.in-Chain.is) c.requires.flat)))))
 
-pub covers::cover-cover_elsewhere-requires : goal.covers::cover-cover_elsewhere-requires
+pub covers::cover-cover_other_nodes-requires : goal.covers::cover-cover_other_nodes-requires
 unfolding unflat
-covers::cover-cover_elsewhere-requires g t c = λ κs low.
+covers::cover-cover_other_nodes-requires g t c = λ κs low.
     (search (rules, the_lemmas), (low, (c.requires.tree, (c.requires.asked, (c.requires.count, boxed_flat _ _ c.deref.ensures (form_flat c.args.asked.now _ (ap form_tree c.in-Unary.is) c.requires.flat))))))
 
 pub covers::cover-cover_played-requires : goal.covers::cover-cover_played-requires
@@ -104,7 +104,7 @@ covers::cover-cover_played-requires g t c = λ κs low.
 pub covers::cover-cover_related-requires : goal.covers::cover-cover_related-requires
 unfolding unflat
 covers::cover-cover_related-requires g t c = λ κs low.
-    (search (rules, the_lemmas), (low, (c.requires.tree, (c.requires.asked, (c.requires.count, (boxed_flat _ _ c.deref-in-Pair-2.ensures (none_first _ _ (form_flat c.args.asked.now _ (ap form_tree c.in-Pair.is) c.requires.flat)), c.turned.ensures.attack))))))
+    (search (rules, the_lemmas), (low, (c.requires.tree, (c.requires.asked, (c.requires.count, (boxed_flat _ _ c.deref-in-Pair-2.ensures (none_first _ _ (form_flat c.args.asked.now _ (ap form_tree c.in-Pair.is) c.requires.flat)), c.converse.ensures.attack))))))
 
 pub covers::cover_set-cover_each-requires : goal.covers::cover_set-cover_each-requires
 unfolding unflat

@@ -8,37 +8,37 @@ use Rattle.cql_syntax.specs.Trees.{filter_at, unary, direction, pair, square, if
 use Rattle.cql_syntax.specs.Values.{amount, as_number, as_truth, holds, square_of, chain_of, pair_of, any_of, reached_of, total_of}
 use Rattle.cql_columns.specs.Scopes.{tree_in, value_in, values_in}
 use Rattle.cql_values.proofs.Evaluated.{word_here}
-use Rattle.cql_columns.specs.Columns.{AreTruths, IsColumn, is_live, is_so, shown}
+use Rattle.cql_columns.specs.Columns.{AreTruths, IsColumn, is_live, is_as_wanted, shown}
 use Rattle.cql_columns.specs.Costs.{filter_cost, searched_len}
 use Rattle.cql_operators.proofs.SquareTurns.{unary_form, square_form, if_form}
 use Rattle.cql_eval.proofs.FlatLaw.{no_family}
 use Rattle.cql_eval.proofs.HitsLaw.{sort_form}
 use Rattle.cql_operators.proofs.Lives.{none_live}
 use Rattle.cql_eval.proofs.FormLaws.{IfOk_then, number_form, elo_form, comment_form, pair_form, parts_form, designator_form, plain_form, direction_form, chain_form, sum_form, line_form, played_form, sorted_form, any_form, if_where, part_form, if_parts, within, within_first, within_both}
-use Rattle.cql_operators.specs.Elsewhere.{asks_elsewhere, AreLookedAt}
+use Rattle.cql_operators.specs.OtherNodes.{is_from_other_nodes, CoverSourceNodes}
 use Rattle.cql_eval.proofs.evaluate.+evaluate.Goals as goal
 
-pub unary_column-returns-then-looks_elsewhere-clause-value : goal.unary_column-returns-then-looks_elsewhere-clause-value
-unary_column-returns-then-looks_elsewhere-clause-value g t c =
+pub unary_column-returns-then-reads_other_nodes-clause-value : goal.unary_column-returns-then-reads_other_nodes-clause-value
+unary_column-returns-then-reads_other_nodes-clause-value g t c =
     IfOk_then c.found_column.result c.found_column.ensures
     (λ found is. is (value_in c.args.scope.now (filter_tree c.args.part.now)) c.in_ok-column.ensures.value c.args.live.now c.requires.asked
-    (subst (AreLookedAt (tree_in c.args.scope.now) c.args.word c.args.live.now) (sym c.as_slice-wide.ensures.value) c.in_ok-wide.ensures))
+    (subst (CoverSourceNodes (tree_in c.args.scope.now) c.args.word c.args.live.now) (sym c.as_slice-wide.ensures.value) c.in_ok-wide.ensures))
 
 pub unary_column-returns-clause-value : goal.unary_column-returns-clause-value
 unary_column-returns-clause-value g t c =
-    let here = sym c.looks_elsewhere.ensures ∙ c.if-looks_elsewhere.false in
+    let here = sym c.reads_other_nodes.ensures ∙ c.if-reads_other_nodes.false in
     IfOk_then c.here_column.result c.here_column.ensures
     (λ column is n l. is n l
     ∙ word_here (tree_in c.args.scope.now) c.args.word (value_in c.args.scope.now (filter_tree c.args.part.now)) n (shown c.in_ok-column-2.column n)
-    (λ e. let no = sym (ap asks_elsewhere e) ∙ here in cc) (λ e. let no = sym (ap asks_elsewhere e) ∙ here in cc)
-    (λ e. let no = sym (ap asks_elsewhere e) ∙ here in cc) (λ e. let no = sym (ap asks_elsewhere e) ∙ here in cc)
+    (λ e. let no = sym (ap is_from_other_nodes e) ∙ here in cc) (λ e. let no = sym (ap is_from_other_nodes e) ∙ here in cc)
+    (λ e. let no = sym (ap is_from_other_nodes e) ∙ here in cc) (λ e. let no = sym (ap is_from_other_nodes e) ∙ here in cc)
     (c.in_ok-column-2.ensures.value n l))
 
 pub column_where-returns-clause-value : goal.column_where-returns-clause-value
 column_where-returns-clause-value g t c =
     IfOk_then c.evaluate.result c.evaluate.ensures.value
     (λ column is n l so. is n (ap (λ x. is_live x n) c.deref.ensures.value ∙ c.in_ok-there.ensures.narrowed.each n
-    ∙ ap (λ b. b && is_so c.args.want (holds (shown c.args.first.now n))) l ∙ so))
+    ∙ ap (λ b. b && is_as_wanted c.args.want (holds (shown c.args.first.now n))) l ∙ so))
 
 pub chain_column-returns-in-Or-clause-value : goal.chain_column-returns-in-Or-clause-value
 chain_column-returns-in-Or-clause-value g t c =
@@ -86,7 +86,7 @@ evaluate-returns-in_ok-truths-in-Square g t c = record {
       let b = c.deref-in-Square-2.result.now in
       subst (λ r. IfOk r (λ truths. AreTruths truths.items c.args.live.now (λ n. square_of every (shown c.in_ok-squares-in-Square.squares n)
       (λ s. holds (value (tree_in c.args.scope.now) [] ((text, s) ∷ c.args.scope.now.names.now) (filter_tree b) n))))) c.in_ok-truths-in-Square.was
-      c.asked_truths-truths.ensures.value n l
+      c.square_filter_truths-truths.ensures.value n l
       ∙ ap (λ x. square_of every x (λ s. holds (value (tree_in c.args.scope.now) [] ((text, s) ∷ c.args.scope.now.names.now)
       (filter_tree b) n))) (c.in_ok-squares-in-Square.ensures.value n l)
       ∙ square_form (tree_in c.args.scope.now) c.args.scope.now.names.now (filter_tree f) (filter_tree a) (filter_tree b) f.at every text
@@ -94,8 +94,8 @@ evaluate-returns-in_ok-truths-in-Square g t c = record {
       ∙ ap (λ x. filter_at f.at (square every x (filter_tree c.in-Square.squares.value) (filter_tree c.in-Square.asked.value))) (sym c.as_slice-in-Square.ensures)
       ∙ ap₂ (λ p q. filter_at f.at (square every text (filter_tree p) (filter_tree q))) (sym c.deref-in-Square.ensures) (sym c.deref-in-Square-2.ensures)) n;
   cost = within_both _ _ _ _ _ _ (ap (filter_cost (searched_len (tree_in c.args.scope.now))) (parts_form c.args.f.now.at (form_tree c.args.f.now.form) (square c.in-Square.every c.in-Square.name) _ _ c.deref-in-Square.result.now c.deref-in-Square-2.result.now (ap form_tree c.in-Square.is) c.deref-in-Square.ensures c.deref-in-Square-2.ensures))
-      c.evaluate-in-Square.ensures.cost c.asked_truths-truths.ensures.cost;
-  rises = omega (arith, c.evaluate-in-Square.ensures.rises, c.asked_truths-truths.ensures.rises);
+      c.evaluate-in-Square.ensures.cost c.square_filter_truths-truths.ensures.cost;
+  rises = omega (arith, c.evaluate-in-Square.ensures.rises, c.square_filter_truths-truths.ensures.rises);
 }
 
 pub evaluate-returns-in-Squares : goal.evaluate-returns-in-Squares
@@ -202,7 +202,7 @@ evaluate-returns-in_ok-third-in-If g t c = record {
 pub evaluate-returns-in-Number : goal.evaluate-returns-in-Number
 evaluate-returns-in-Number g t c = record {
   value = λ n l.
-      c.counted.ensures
+      c.count_value.ensures
       ∙ number_form (tree_in c.args.scope.now) c.args.scope.now.names.now (filter_tree c.args.f.now) c.args.f.now.at _ (ap (λ form. filter_at c.args.f.now.at (form_tree form)) c.in-Number.is) n;
   cost = omega arith;
   rises = omega arith;
@@ -338,8 +338,8 @@ unfolding filter_cost
 evaluate-returns-in_err-truths-in-Square g t c = record {
   value = search rules;
   cost = within_both _ _ _ _ _ _ (ap (filter_cost (searched_len (tree_in c.args.scope.now))) (parts_form c.args.f.now.at (form_tree c.args.f.now.form) (square c.in-Square.every c.in-Square.name) _ _ c.deref-in-Square.result.now c.deref-in-Square-2.result.now (ap form_tree c.in-Square.is) c.deref-in-Square.ensures c.deref-in-Square-2.ensures))
-      c.evaluate-in-Square.ensures.cost c.asked_truths-truths.ensures.cost;
-  rises = omega (arith, c.evaluate-in-Square.ensures.rises, c.asked_truths-truths.ensures.rises);
+      c.evaluate-in-Square.ensures.cost c.square_filter_truths-truths.ensures.cost;
+  rises = omega (arith, c.evaluate-in-Square.ensures.rises, c.square_filter_truths-truths.ensures.rises);
 }
 
 pub evaluate-returns-in_err-first-in-If : goal.evaluate-returns-in_err-first-in-If

@@ -8,12 +8,12 @@ use Rattle.cql_syntax.specs.Values.{as_truth, square_of}
 use Rattle.cql_columns.specs.Columns.{shown}
 use Rattle.cql_columns.specs.Scopes.{tree_in}
 use Rattle.cql_columns.specs.FlatTrees.{unflat}
-use Rattle.cql_pruning.specs.Moved.{AsksGoal}
+use Rattle.cql_pruning.specs.MoveTargets.{AsksGoal}
 use Rattle.cql_pruning.specs.Promoting.{ArePromoting}
 use Rattle.cql_pruning.proofs.AttackLaw.{only_one}
 use Rattle.cql_eval.proofs.FlatLaw.{filter_flat, form_flat}
 use Rattle.cql_eval.proofs.FormLaws.{IfOk_then}
-use Rattle.cql_pruning.proofs.MovedLaw.{goal_alone, goal_chain, goal_form, goal_met_is, went}
+use Rattle.cql_pruning.proofs.MoveTargetsLaw.{goal_alone, goal_chain, goal_form, goal_met_is, went}
 use Rattle.cql_eval.proofs.evaluate.+evaluate.Goals as goal
 
 pub goals::goal_truths-returns-in-Played-clause-value : goal.goals::goal_truths-returns-in-Played-clause-value
@@ -48,7 +48,7 @@ goals::goal_met-returns-clause-value g t c =
     let tree = tree_in c.args.binding.now.scope.now in
     let looked : ArePromoting tree c.is_some-promotes.result c.args.live.now c.as_slice-some.result.now
     = subst (ArePromoting tree c.is_some-promotes.result c.args.live.now) (sym c.as_slice-some.ensures.value) c.in_ok-some.ensures in
-    IfOk_then c.moved_there-there.result c.moved_there-there.ensures (λ there given. IfSome_then there given (λ truths are n l.
+    IfOk_then c.moves_to_square-there.result c.moves_to_square-there.ensures (λ there given. IfSome_then there given (λ truths are n l.
     let at = are n in
     ap as_truth at.2
     ∙ goal_met_is c.args.binding.now c.args.played.now c.args.live.now c.as_slice-some.result.now at.0 n c.in_ok-parts.parts

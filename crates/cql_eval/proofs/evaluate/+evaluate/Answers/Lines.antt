@@ -11,7 +11,7 @@ use Rattle.cql_columns.proofs.Filling.{live_below}
 use Rattle.cql_columns.proofs.Costing.{ItemOf}
 use Rattle.cql_lines.specs.Tables.{holds_in}
 use Rattle.cql_operators.specs.LineAtoms.{AreAllAsked}
-use Rattle.cql_operators.specs.SpelledParts.{IsLive, EndsHere}
+use Rattle.cql_operators.specs.SpelledParts.{IsLive, SpellsNothing}
 use Rattle.cql_operators.proofs.SpelledAlike.{all_never, reach_from, wide_leads, wide_ends, group_leads, leads_at, ends_at, onward_at, not_met, group_ends}
 use Rattle.cql_operators.proofs.LineTables.{walk_in, row_in, of_body, stage, started, table_begun, table_more, table_all, ends_all, filled_all, at_all, atom_tabled, atom_leads, atom_form, leads_form, ends_form, group_tabled, group_never, never_form, atom_never, not_some}
 use Rattle.cql_operators.proofs.LinesLaw.{held_put, no_line, parts_cost_more, parts_cost_within, atoms_within}
@@ -177,7 +177,7 @@ lines::put_once-returns-in_ok-starts-in-Group-clause-ends g t c =
 
 pub lines::put_part-returns-in-Once-clause-ends : goal.lines::put_part-returns-in-Once-clause-ends
 lines::put_part-returns-in-Once-clause-ends g t c =
-    subst (λ m. OnOk c.put_once.result (c.args.row.now.met ≡ true → c.put_once.new.row.met ≡ false → EndsHere (tree_in c.args.way.now.scope.now)
+    subst (λ m. OnOk c.put_once.result (c.args.row.now.met ≡ true → c.put_once.new.row.met ≡ false → SpellsNothing (tree_in c.args.way.now.scope.now)
     c.args.way.now.back c.args.starts.now.items
     (marked m (body_in c.args.way.now.scope.now (body_tree c.args.part.now.body))))) (sym c.in-Once.is) c.put_once.ensures.ends
 

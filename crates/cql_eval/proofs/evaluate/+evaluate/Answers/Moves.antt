@@ -6,7 +6,7 @@ use Rattle.cql_columns.specs.Columns.{shown}
 use Rattle.cql_columns.specs.Costs.{searched_len}
 use Rattle.cql_operators.specs.Trees.{AreBeforeLive}
 use Rattle.cql_pruning.specs.Promoting.{ArePromoting}
-use Rattle.cql_pruning.specs.Moved.{is_as_asked}
+use Rattle.cql_pruning.specs.MoveTargets.{is_as_asked}
 use Rattle.cql_eval.proofs.FormLaws.{IfOk_then, within}
 use Rattle.cql_pruning.proofs.MoveLaw.{met_is, move_is, move_costs, part_is, no_part_is, part_costs}
 use Rattle.cql_eval.proofs.evaluate.+evaluate.Goals as goal

@@ -7,7 +7,7 @@ use Rattle.cql_syntax.specs.Values.{holds}
 use Rattle.cql_columns.specs.Scopes.{tree_in}
 use Rattle.cql_columns.specs.Columns.{IsColumn, shown}
 use Rattle.std.proofs.Math.Path.{fun_ext}
-use Rattle.cql_columns.specs.Asked.{AreHaving, AreLeftOpen}
+use Rattle.cql_columns.specs.SquareTrials.{AreNodesWithSquare, AreLeftOpen}
 use Rattle.cql_columns.specs.Columns.{AreTruths}
 use Rattle.cql_columns.specs.Costs.{filter_cost, searched_len}
 use Rattle.cql_columns.proofs.Costing.{square_cost}
@@ -69,7 +69,7 @@ squares::square_turn-returns-clause-value g t c =
     (value (tree_in c.args.binding.now.scope.now) [] ((c.args.binding.now.name.now, c.args.square) ∷ c.args.binding.now.scope.now.names.now)
     (filter_tree c.args.asked.now)) c.args.square c.args.left.items c.in_ok-there.there.items
     c.unsettled-later.result.items c.in_ok-column.column
-    (subst (λ live. AreHaving (shown c.args.binding.now.squares.now) c.args.square live c.in_ok-there.there.items) c.deref.ensures.value c.in_ok-there.ensures)
+    (subst (λ live. AreNodesWithSquare (shown c.args.binding.now.squares.now) c.args.square live c.in_ok-there.there.items) c.deref.ensures.value c.in_ok-there.ensures)
     (subst (λ live. IsColumn c.in_ok-column.column live
     (value (tree_in c.args.binding.now.scope.now) [] ((c.args.binding.now.name.now, c.args.square) ∷ c.args.binding.now.scope.now.names.now)
     (filter_tree c.args.asked.now))) c.deref-3.ensures.value
@@ -103,8 +103,8 @@ squares::covered_sets-returns-clause-worth g t c =
     (subst (λ old. AreCut c.args.live.now (MayHold c.args.opened.now c.args.binding.now.scope.now.names.now c.args.binding.now.name.now
     (λ e. value (tree_in c.args.binding.now.scope.now) [] e (filter_tree c.args.asked.now))) old c.cover.new.sets) c.deref_mut.ensures.value c.in_ok-cover.ensures.cut))
 
-pub squares::asked_truths-returns-clause-value : goal.squares::asked_truths-returns-clause-value
-squares::asked_truths-returns-clause-value g t c =
+pub squares::square_filter_truths-returns-clause-value : goal.squares::square_filter_truths-returns-clause-value
+squares::square_filter_truths-returns-clause-value g t c =
     IfOk_then c.square_truths-truths.result c.square_truths-truths.ensures.value (λ truths are n l. are n l
     ∙ tried_same c.args.binding.now.every (shown c.args.binding.now.squares.now n) (shown (Sets c.in_ok-sets.sets) n)
     (λ s. holds (value (tree_in c.args.binding.now.scope.now) [] ((c.args.binding.now.name.now, s) ∷ c.args.binding.now.scope.now.names.now)

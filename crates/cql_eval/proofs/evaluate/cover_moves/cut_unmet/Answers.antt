@@ -2,7 +2,7 @@ use Rattle.std.proofs.Common.{◌≡◌, ◌∙◌, false, get_or, option_map, t
 use Rattle.cql_syntax.specs.Values.{as_truth, holds}
 use Rattle.cql_columns.specs.Columns.{is_live, shown}
 use Rattle.cql_columns.specs.Scopes.{tree_in}
-use Rattle.cql_pruning.specs.Moved.{is_as_asked}
+use Rattle.cql_pruning.specs.MoveTargets.{is_as_asked}
 use Rattle.cql_pruning.proofs.CoverForms.{yes_both}
 use Rattle.cql_pruning.proofs.CoverLaw.{cut_as}
 use Rattle.cql_eval.proofs.evaluate.cover_moves.cut_unmet.Goals as goal

@@ -10,7 +10,7 @@ use Rattle.cql_operators.proofs.LineAtoms.{few_atoms, few_places, atoms_below}
 use Rattle.cql_operators.proofs.LinesLaw.{ShapeOf, line_flat, line_spelled, numbers_are, wide_at, atoms_within, looks_within}
 use Rattle.cql_lines.specs.PatternTrees.{pattern_tree}
 use Rattle.cql_lines.specs.Tables.{atoms_of, holds_in}
-use Rattle.cql_lines.specs.Trees.{spots_of}
+use Rattle.cql_lines.specs.Trees.{tree_nodes_of}
 use Rattle.cql_eval.proofs.evaluate.lines.spelled_column.Goals as goal
 
 pub parts_pattern-requires : goal.parts_pattern-requires
@@ -42,7 +42,7 @@ pub returns-clause-value : goal.returns-clause-value
 returns-clause-value g c = λ n asked.
     let spots = ap length c.in_ok-shape.ensures.spots in
     let shape : ShapeOf (tree_in c.args.scope.now) c.args.line.now = record {
-      spots = spots_of c.in_ok-shape.shape;
+      spots = tree_nodes_of c.in_ok-shape.shape;
       back = _;
       primary = _;
       limits = _;
@@ -62,17 +62,17 @@ returns-clause-value g c = λ n asked.
 
 pub returns-clause-cost : goal.returns-clause-cost
 returns-clause-cost g c = λ before h.
-    looks_within (tree_in c.args.scope.now) c.args.line.now before _ c.line_values.new.steps (atoms_of c.args.table.now) (spots_of c.in_ok-shape.shape)
+    looks_within (tree_in c.args.scope.now) c.args.line.now before _ c.line_values.new.steps (atoms_of c.args.table.now) (tree_nodes_of c.in_ok-shape.shape)
     c.in_ok-shape.ensures.spots c.requires.atoms h c.line_values.ensures.cost
 
 pub returns-in_err-numbers-clause-cost : goal.returns-in_err-numbers-clause-cost
 returns-in_err-numbers-clause-cost g c = λ before h.
-    looks_within (tree_in c.args.scope.now) c.args.line.now before _ c.line_values.new.steps (atoms_of c.args.table.now) (spots_of c.in_ok-shape.shape)
+    looks_within (tree_in c.args.scope.now) c.args.line.now before _ c.line_values.new.steps (atoms_of c.args.table.now) (tree_nodes_of c.in_ok-shape.shape)
     c.in_ok-shape.ensures.spots c.requires.atoms h c.line_values.ensures.cost
 
 pub returns-in_err-values-clause-cost : goal.returns-in_err-values-clause-cost
 returns-in_err-values-clause-cost g c = λ before h.
-    looks_within (tree_in c.args.scope.now) c.args.line.now before _ c.line_values.new.steps (atoms_of c.args.table.now) (spots_of c.in_ok-shape.shape)
+    looks_within (tree_in c.args.scope.now) c.args.line.now before _ c.line_values.new.steps (atoms_of c.args.table.now) (tree_nodes_of c.in_ok-shape.shape)
     c.in_ok-shape.ensures.spots c.requires.atoms h c.line_values.ensures.cost
 
 pub returns-in_err-shape-clause-cost : goal.returns-in_err-shape-clause-cost

@@ -1,7 +1,7 @@
 use Rattle.std.proofs.Common.{◌≡◌, ℕ, ◌+◌, ◌<◌, Bool, false, ◌||◌, ap, sym, ◌∙◌, inl, inr, arith}
 use Rattle.std.proofs.Math.Bool.{or-false}
 use Rattle.std.proofs.lemmas.Bool.{cases_eq}
-use Rattle.cql_lines.specs.Lengths.{is_set, at}
+use Rattle.cql_lines.specs.Internal.Lengths.{is_set, at}
 use Rattle.cql_lines.proofs.table.AtomTable.held.Goals as goal
 
 -- one atom more is read

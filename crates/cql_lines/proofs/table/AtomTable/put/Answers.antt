@@ -1,5 +1,5 @@
 use Rattle.std.proofs.Common.{ap, ◌∙◌}
-use Rattle.cql_lines.specs.Lengths.{is_set}
+use Rattle.cql_lines.specs.Internal.Lengths.{is_set}
 use Rattle.cql_lines.proofs.Puts.{put_there, any_default}
 use Rattle.cql_lines.proofs.table.AtomTable.put.Goals as goal
 

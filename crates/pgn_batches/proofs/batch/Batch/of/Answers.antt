@@ -1,8 +1,8 @@
 use Rattle.std.proofs.Common.{◌≡◌, ◌+◌, ◌<◌, ◌≤◌, ◌^◌, ◌++◌, ℕ, [], ◌∷◌, All, length, map, take, subst, sym, ap, ◌∙◌, rules}
 use Rattle.std.proofs.lemmas.List.{length-map, take_all}
 use Rattle.pgn_cut.specs.Spans.{EndsBy}
-use Rattle.pgn_batches.specs.Kept.{kept}
-use Rattle.pgn_batches.specs.declared.kept.KeptGame.{KeptGame}
+use Rattle.pgn_batches.specs.KeptGames.{kept}
+use Rattle.pgn_batches.specs.declared.kept_game.KeptGame.{KeptGame}
 use Rattle.pgn_batches.proofs.Windows.{inside_of, more_kept, starts_of}
 use Rattle.pgn_batches.proofs.batch.Batch.of.Goals as goal
 

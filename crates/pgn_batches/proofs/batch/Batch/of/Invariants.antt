@@ -1,5 +1,5 @@
 use Rattle.std.proofs.Common.{◌≡◌, map, take}
-use Rattle.pgn_batches.specs.Kept.{kept}
+use Rattle.pgn_batches.specs.KeptGames.{kept}
 use Rattle.pgn_batches.proofs.batch.Batch.of.Given as goal
 
 abbrev pub invariant-loop-i : goal.invariant-loop-i

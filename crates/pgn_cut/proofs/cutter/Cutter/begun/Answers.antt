@@ -24,4 +24,4 @@ returns-in-None c = λ fed games r.
     meets c.open_lexemes_settle.ensures.closes c.args.self fed c.args.b games r c.longest_reading-kind.result.kind (c.args.b == 42)
     (subst (λ l. IsOneLexeme c.args.self.first (l ++ c.args.b ∷ []) c.longest_reading-kind.result.kind (c.args.b == 42) Whenever) (sym none)
     (subst (λ k. IsOneLexeme c.args.self.first (c.args.b ∷ []) k (c.args.b == 42) Whenever) (sym read) one))
-    _ _ c.met.ensures.rest c.met.ensures.deeper c.met.ensures.cuts
+    _ _ c.after_lexeme.ensures.rest c.after_lexeme.ensures.deeper c.after_lexeme.ensures.cuts

@@ -10,8 +10,8 @@ returns-in-Between-clause-ends c = λ fed stands.
 
 pub returns-in_default : goal.returns-in_default
 returns-in_default c =
-    let deeper = c.met.ensures.deeper in
-    let between = c.met.ensures.rest in
+    let deeper = c.after_lexeme.ensures.deeper in
+    let between = c.after_lexeme.ensures.rest in
     let at = between.at in
     let place = between.place_ in
     let low = c.requires.depth in
@@ -30,6 +30,6 @@ returns-in_default c =
           ends_here c.args.self fed t c.kind_at_end-kind.result c.is_marker_at_end-marker.result
           (subst (λ k. IsOneLexeme c.args.self.first t.bytes k c.is_marker_at_end-marker.result (EndsBefore c.args.self.state)) (sym c.kind_at_end-kind.ensures)
           (subst (λ m. IsOneLexeme c.args.self.first t.bytes (kind_at_end c.args.self.state) m (EndsBefore c.args.self.state)) marker one))
-          _ _ c.met.ensures.rest c.met.ensures.deeper c.met.ensures.cuts)
+          _ _ c.after_lexeme.ensures.rest c.after_lexeme.ensures.deeper c.after_lexeme.ensures.cuts)
           stands;
     }

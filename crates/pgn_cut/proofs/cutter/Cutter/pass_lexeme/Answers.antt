@@ -1,6 +1,6 @@
 use Rattle.std.proofs.Common.{◌+◌, ◌≤◌, sym, subst}
 use Rattle.pgn_cut.specs.Progress.{IsStepOfCut}
-use Rattle.pgn_cut.proofs.Settled.{lexeme_met}
+use Rattle.pgn_cut.proofs.SettledLexemes.{lexeme_met}
 use Rattle.pgn_cut.proofs.cutter.Cutter.pass_lexeme.Goals as goal
 
 pub returns : goal.returns

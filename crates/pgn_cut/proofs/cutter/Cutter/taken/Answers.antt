@@ -9,7 +9,7 @@ returns-then-finishes c = λ fed games r.
     let one = c.open_lexemes_settle.ensures.with_last c.args.self.first c.args.self.state r.bytes c.args.b r.opened r.belongs (sym c.finishes.ensures ∙ c.if-finishes.true) in
     meets c.open_lexemes_settle.ensures.closes c.args.self fed c.args.b games r c.kind_with_last-kind.result false
     (subst (λ k. IsOneLexeme c.args.self.first (r.bytes ++ c.args.b ∷ []) k false Whenever) (sym c.kind_with_last-kind.ensures) one)
-    _ _ c.met.ensures.rest c.met.ensures.deeper c.met.ensures.cuts
+    _ _ c.after_lexeme.ensures.rest c.after_lexeme.ensures.deeper c.after_lexeme.ensures.cuts
 
 pub returns : goal.returns
 returns c = λ fed games r.

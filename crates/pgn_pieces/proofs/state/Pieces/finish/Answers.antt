@@ -30,5 +30,5 @@ returns-clause-ends c =
     (adds_after c.args.self.least c.args.self.open_piece c.in_ok-last.last c.as_slice.result.now c.new-lines.result c.add_all.new.text c.args.text.now lines c.new-lines.ensures
     c.in_ok-last.ensures refl)
     (added ∙ ap (λ (l : List _). c.args.text.now ++ l) (c.as_slice-2.ensures ∙ c.in_ok-push_last.ensures)
-    ∙ sym (append_assoc c.args.text.now c.add_all.new.text (table (last_piece c.in_ok-last.last.here c.args.self.taken c.in_ok-last.last.games)))))
+    ∙ sym (append_assoc c.args.text.now c.add_all.new.text (table (last_piece c.in_ok-last.last.begin c.args.self.taken c.in_ok-last.last.games)))))
     c.push_all.ensures.ok

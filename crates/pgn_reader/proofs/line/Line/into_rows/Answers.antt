@@ -1,5 +1,5 @@
 use Rattle.std.proofs.Common.{ap, ◌∙◌}
-use Rattle.pgn_reader.specs.Frame.{whole}
+use Rattle.pgn_reader.specs.Internal.Frame.{whole}
 use Rattle.pgn_reader.proofs.Groups.{in_order}
 use Rattle.pgn_reader.proofs.line.Line.into_rows.Goals as goal
 

@@ -3,7 +3,7 @@ use Rattle.std.specs.Prelude.{codes}
 use Rattle.std.specs.Option.{option_copied}
 use Rattle.std.proofs.lemmas.Slice.Eq.{bytes_eq-Decides}
 use Rattle.cq_position.specs.Games.{tag_value}
-use Rattle.pgn_reader.specs.Preface.{Preface}
+use Rattle.pgn_reader.specs.Internal.Preface.{Preface}
 use Rattle.pgn_reader.proofs.FirstFen.{first_fen}
 use Rattle.pgn_reader.proofs.preface.Preface.start_with.Goals as goal
 

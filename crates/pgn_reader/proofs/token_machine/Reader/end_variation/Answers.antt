@@ -1,6 +1,6 @@
 use Rattle.std.proofs.Common.{refl, sym, ap, ap₂, ◌∙◌}
 use Rattle.std.specs.Option.{is_some}
-use Rattle.pgn_reader.specs.Frame.{with_variation}
+use Rattle.pgn_reader.specs.Internal.Frame.{with_variation}
 use Rattle.pgn_reader.proofs.Ends.{end_step}
 use Rattle.pgn_reader.proofs.token_machine.Reader.end_variation.Goals as goal
 

@@ -1,5 +1,5 @@
 use Rattle.std.proofs.Common.{[], ◌∷◌, ◌++◌, refl, sym, ap, ◌∙◌, arith}
-use Rattle.pgn_reader.specs.Frame.{begin}
+use Rattle.pgn_reader.specs.Internal.Frame.{begin}
 use Rattle.pgn_reader.proofs.Opens.{open_step}
 use Rattle.pgn_reader.proofs.token_machine.Reader.open_variation.Goals as goal
 

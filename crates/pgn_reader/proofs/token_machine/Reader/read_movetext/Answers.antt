@@ -1,7 +1,7 @@
 use Rattle.std.proofs.Common.{sym, ap, ◌∙◌, subst}
 use Rattle.pgn_reader.specs.Words.{remarks, body_of, line_body_of, sense_of}
 use Rattle.pgn_tree.specs.Words.{without_braces}
-use Rattle.pgn_reader.specs.Shown.{IsSenseStep}
+use Rattle.pgn_reader.specs.Internal.ReaderView.{IsSenseStep}
 use Rattle.pgn_reader.proofs.token_machine.Reader.read_movetext.Goals as goal
 
 pub returns-in-Null : goal.returns-in-Null

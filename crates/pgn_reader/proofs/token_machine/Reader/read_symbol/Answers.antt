@@ -1,6 +1,6 @@
 use Rattle.std.proofs.Common.{sym, ◌∙◌, subst, Some, None}
 use Rattle.pgn_lexer.specs.declared.token.TokenKind.TheVariants.{Symbol}
-use Rattle.pgn_reader.specs.Shown.{IsSenseStep}
+use Rattle.pgn_reader.specs.Internal.ReaderView.{IsSenseStep}
 use Rattle.pgn_reader.proofs.Symbols.{symbol_digits, symbol_other}
 use Rattle.pgn_reader.proofs.token_machine.Reader.read_symbol.Goals as goal
 

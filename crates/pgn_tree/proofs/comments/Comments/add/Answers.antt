@@ -1,6 +1,6 @@
 use Rattle.std.proofs.Common.{◌≡◌, ◌++◌, ◌∷◌, [], length, sym, ap, ◌∙◌, arith, append-nil}
 use Rattle.cq_position.specs.Comments.{words, comment_of}
-use Rattle.pgn_tree.specs.Comments.{parts}
+use Rattle.pgn_tree.specs.Internal.Comments.{parts}
 use Rattle.pgn_tree.specs.Words.{without_braces}
 use Rattle.pgn_tree.proofs.Parts.{grown, kept_grown, not_grown, same_text, when_ok, pushed}
 use Rattle.pgn_tree.proofs.comments.Comments.add.Goals as goal

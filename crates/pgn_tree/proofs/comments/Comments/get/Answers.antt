@@ -1,5 +1,5 @@
 use Rattle.std.proofs.Common.{◌≡◌, ℕ, ◌<◌, ◌≤◌, ◌-◌, List, length, take, drop, get_or, [], sym, ap, ◌∙◌, subst, arith}
-use Rattle.pgn_tree.specs.Comments.{parts, start_of}
+use Rattle.pgn_tree.specs.Internal.Comments.{parts, start_of}
 use Rattle.pgn_tree.proofs.Parts.{length_parts, in_order, in_text, part_is}
 use Rattle.pgn_tree.proofs.comments.Comments.get.Goals as goal
 

@@ -1,5 +1,5 @@
 use Rattle.std.proofs.Common.{[], sym, ap, ◌∙◌, subst}
-use Rattle.pgn_tree.specs.Comments.{parts, AreComments}
+use Rattle.pgn_tree.specs.Internal.Comments.{parts, AreComments}
 use Rattle.pgn_tree.proofs.Parts.{none_kept, no_parts}
 use Rattle.pgn_tree.proofs.comments.Comments.new.Goals as goal
 

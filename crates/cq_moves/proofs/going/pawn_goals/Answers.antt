@@ -1,5 +1,0 @@
-use Rattle.cq_square_sets.proofs.Marked.{marks_or}
-use Rattle.cq_moves.proofs.going.pawn_goals.Goals as goal
-
-pub returns : goal.returns
-returns c = marks_or _ _ _ _ (marks_or _ _ _ _ c.single_goals.ensures c.double_goals.ensures) c.captures-2.ensures

@@ -1,0 +1,16 @@
+use Rattle.std.proofs.Common.{◌≡◌, length}
+use Rattle.std.specs.List.{list_any}
+use Rattle.cq_position.specs.Legality.{legal_test}
+use Rattle.cq_moves.specs.LegalMoves.{moves_from, moves_between}
+use Rattle.cq_moves.proofs.Bits.{set_squares}
+use Rattle.cq_moves.proofs.Walk.{AreReached}
+use Rattle.cq_moves.proofs.mate.has_legal_move_from.Given as goal
+
+abbrev pub invariant-loop-left : goal.invariant-loop-left
+invariant-loop-left l =
+    (list_any (λ b. list_any (legal_test l.position) (moves_between l.origin.from b)) (set_squares l.left)
+    ≡ list_any (legal_test l.position) (moves_from l.origin.from))
+    × AreReached l.position l.origin.from l.left
+
+abbrev pub decreases-loop-left : goal.decreases-loop-left
+decreases-loop-left l = length (set_squares l.left)

@@ -1,0 +1,4 @@
+use Rattle.cq_position.proofs.attack_test.is_attacked_by_pawn.Goals as goal
+
+pub returns : goal.returns
+returns c = c.meets.ensures _ _ c.squares_of_piece.ensures (rw c.opponent.ensures at c.pawn_squares.ensures)

@@ -1,4 +1,0 @@
-use Rattle.cq_position.proofs.outward.is_attacked_by_pawn.Goals as goal
-
-pub returns : goal.returns
-returns c = c.meets.ensures _ _ c.squares_of_piece.ensures (rw c.opponent.ensures at c.pawn_squares.ensures)

@@ -1,0 +1,18 @@
+//! How a refusal of the next batch ends a call.
+ghost use Rattle.std.specs.Prelude.{◌≡◌};
+ghost use Rattle.cq_search.specs.Internal.BatchRefusal.{status_after};
+
+use cq_common::Refusal;
+use cq_queries::Status;
+use pgn_batches::BatchFault;
+
+/// The status of a call that was refused the next batch.
+pub fn status_of(refusal: Refusal<BatchFault>) -> Status
+    ensures { result ≡ status_after refusal }
+{
+    match refusal {
+        Refusal::Fault(BatchFault::ReadFault) => Status::ReadFault,
+        Refusal::Fault(BatchFault::ArchiveTooLong) => Status::ArchiveTooLong,
+        Refusal::NoMemory => Status::NoMemory,
+    }
+}

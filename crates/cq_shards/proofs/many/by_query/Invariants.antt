@@ -1,5 +1,0 @@
-use Rattle.cq_shards.proofs.Takings.{IsHanding}
-use Rattle.cq_shards.proofs.many.by_query.Given as goal
-
-abbrev pub invariant-loop-query : goal.invariant-loop-query
-invariant-loop-query g l = IsHanding (g.A.AllAsked.queries l.asked) l.query l.batch l.rows.items l.lists.items

@@ -1,9 +1,0 @@
-use Rattle.std.proofs.Common.{drop, length}
-use Rattle.cq_shards.proofs.Takings.{IsTaking}
-use Rattle.cq_shards.proofs.many.taken_off.Given as goal
-
-abbrev pub invariant-loop-row : goal.invariant-loop-row
-invariant-loop-row g l = IsTaking (drop l.query (g.A.AllAsked.queries l.asked)) l.batch l.rows.items l.left.items l.answers.items
-
-abbrev pub decreases-loop-row : goal.decreases-loop-row
-decreases-loop-row g l = length l.rows.items

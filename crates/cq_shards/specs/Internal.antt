@@ -1,0 +1,4 @@
+pub mod Comparing
+pub mod Finders
+pub mod GameRows
+pub mod WorkerAnswers

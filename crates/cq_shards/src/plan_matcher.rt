@@ -1,0 +1,31 @@
+//! The query of a plan, which is asked of games.
+ghost use Rattle.cq_shards.specs.PlanQuery.{query_in};
+
+use crate::match_plan::find;
+use crate::{Matcher, GameAnswer, build_answer};
+use cq_common::NoMemory;
+use cql_plan::Plan;
+use pgn_tree::Game;
+use std::alloc::Global;
+
+/// A plan whose query is asked.
+#[derive(Drop)]
+pub(crate) struct PlanMatcher<'a> {
+    pub(crate) plan: &'a Plan,
+}
+
+impl<'a> Matcher for PlanMatcher<'a> {
+    ghost query = { λ matcher. query_in matcher.plan.now };
+
+    fn answer(&self, alloc: Global, game: &Game, index: u64) -> Result<GameAnswer, NoMemory> {
+        let found = match_plan(alloc, self.plan, game)?;
+        build_answer(
+            alloc,
+            self.plan.query(),
+            game,
+            index,
+            found.nodes(),
+            found.keys(),
+        )
+    }
+}

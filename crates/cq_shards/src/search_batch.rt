@@ -1,0 +1,71 @@
+//! The answers of one query to a batch.
+ghost use Rattle.std.specs.Prelude.{◌≤◌, length, IfOk};
+ghost use Rattle.pgn_batches.specs.Games.{games_of};
+ghost use Rattle.cq_shards.specs.Answers.{AreAnswersOf};
+ghost use Rattle.cq_shards.specs.Internal.WorkerAnswers.{HasAnswered};
+
+use crate::search_game::search_game;
+use crate::answers::GameAnswer;
+use crate::matcher::Matcher;
+use cq_common::NoMemory;
+use cq_outside::Gate;
+use cq_workers::{GameTask, unit_states, run_workers};
+use pgn_batches::Batch;
+use std::alloc::Global;
+use std::thread::Threads;
+
+/// Makes the answer of each game of a batch.
+#[derive(Drop)]
+struct AnswerTask<'a, A, G> {
+    matcher: &'a A,
+    batch: &'a Batch,
+    gate: &'a G,
+}
+
+impl<'a, A: Matcher, G: Gate> GameTask for AnswerTask<'a, A, G> {
+    type Output = GameAnswer;
+
+    type State = ();
+
+    ghost games = { λ task. length (games_of task.batch.now) };
+
+    ghost has_made = { λ task _ numbers answers. HasAnswered (A.query task.matcher.now) task.batch.now numbers answers };
+
+    fn len(&self) -> u64 {
+        u64::from(self.batch.len())
+    }
+
+    fn make(
+        &self,
+        alloc: Global,
+        me: u64,
+        number: u64,
+        _kept: &mut (),
+    ) -> Result<Option<GameAnswer>, NoMemory> {
+        self.gate.enter(me, number);
+        let answer = search_game(alloc, self.matcher, self.batch, number)?;
+        self.gate.leave(me, number, answer.text());
+        Ok(Some(answer))
+    }
+}
+
+/// The answers of the games of a batch, each game's once, in any order. So many workers, from 1 to 64, which is a condition, draw the games
+/// one by one: a game is entered at the gate by the worker that drew it, before it is read, and left with its export once it is answered.
+/// A thread that can't be started is no refusal: this thread does that worker's work, after that of the later workers. `NoMemory` means
+/// that a worker, or the call itself, found no memory; no answer is given then.
+pub fn search_batch<R: Threads + Sync, A: Matcher + Sync, G: Gate + Sync>(
+    rt: &R,
+    alloc: Global,
+    matcher: &A,
+    batch: &Batch,
+    workers: u32,
+    gate: &G,
+) -> Result<Vec<GameAnswer>, NoMemory>
+    requires { (1 ≤ workers) × (workers ≤ 64) }
+    ensures { IfOk result (λ answers. AreAnswersOf (A.query matcher.now) batch.now answers.items) }
+{
+    let task = AnswerTask { matcher, batch, gate };
+    let kept = unit_states(alloc, workers)?;
+    let (_, answers) = run_workers(rt, alloc, &task, kept)?;
+    Ok(answers)
+}

@@ -1,0 +1,12 @@
+use Rattle.std.proofs.Common.{Bool, ◌+◌, ◌≤◌, take, drop}
+use Rattle.cq_shared.specs.Matching.{is_class, costs_if, AreLeft}
+use Rattle.cq_shared.specs.StepBounds.{both, AdmitsAll}
+use Rattle.cq_shared.specs.declared.part.Part.{Part}
+use Rattle.cq_shared.proofs.matching.narrow_by_class.Given as goal
+
+abbrev pub invariant-loop-k : goal.invariant-loop-k
+invariant-loop-k g l = record {
+  left : AreLeft (is_class l.class) l.game (take l.k l.parts) l.fn.left.items l.later.items;
+  cost : (want : Part → Bool) → AdmitsAll want l.fn.left.items l.parts
+      → l.steps + costs_if (both (is_class l.class) want) l.game (drop l.k l.parts) ≤ l.fn.steps + costs_if (both (is_class l.class) want) l.game l.parts;
+}

@@ -1,0 +1,2 @@
+pub mod FirstNodes
+pub mod Reading

@@ -1,5 +1,0 @@
-use Rattle.cq_workers.proofs.CrewDraws.{IsDrawing}
-use Rattle.cq_workers.proofs.crew.draw_all.Given as goal
-
-abbrev pub invariant-loop-turn : goal.invariant-loop-turn
-invariant-loop-turn g l = IsDrawing (g.M.Maker.has_made l.maker) l.board l.worker.seat l.worker.kept l.worker.made.items l._turn

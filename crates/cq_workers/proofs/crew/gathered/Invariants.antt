@@ -1,9 +1,0 @@
-use Rattle.std.proofs.Common.{length}
-use Rattle.cq_workers.proofs.CrewDraws.{IsGathering}
-use Rattle.cq_workers.proofs.crew.gathered.Given as goal
-
-abbrev pub invariant-loop-worker : goal.invariant-loop-worker
-invariant-loop-worker g l = IsGathering (g.M.Maker.has_made l.maker) l.board l.slots.items (record { seats = l.seats.items; kept = l.kept.items; made = l.made.items })
-
-abbrev pub decreases-loop-worker : goal.decreases-loop-worker
-decreases-loop-worker g l = length l.slots.items

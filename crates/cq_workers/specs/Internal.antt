@@ -1,0 +1,2 @@
+pub mod WorkerStates
+pub mod Starts

@@ -1,0 +1,2 @@
+pub mod TypingContexts
+pub mod Walks

@@ -1,0 +1,92 @@
+//! After which moves a filter may hold, as far as that is plain.
+ghost use Rattle.std.specs.Prelude.{◌≡◌, ◌<◌, ◌&&◌, true, length, IfSome};
+ghost use Rattle.cql_local.specs.Internal.MovesSought.{allows, IsBound, LedByAllowedMove, HoldsAfterMoves, MayMeet};
+ghost use Rattle.cql_syntax.specs.TreeOf.{filter_tree, written_tree};
+
+use crate::move_ends::{MoveEnds, ends_of};
+use cq_geometry::Square;
+use cql_syntax::{Filter, Form};
+use cql_values::names::Names;
+use cql_values::sets::has_square;
+use pgn_tree::Game;
+
+/// The moves after which a filter may hold, and nowhere else.
+#[derive(Clone, Copy)]
+pub(crate) struct MoveConstraint {
+    /// Whether it holds after a move alone; else it may hold anywhere.
+    pub(crate) moved: bool,
+    /// The squares that the move may come from; all where there is no set.
+    pub(crate) origins: Option<u64>,
+    /// The squares that it may go to.
+    pub(crate) goals: Option<u64>,
+}
+
+/// The moves after which a filter may hold, as far as their squares are asked for by names.
+pub(crate) fn moves_sought(f: &Filter, names: &Names) -> MoveConstraint
+    ensures { HoldsAfterMoves names.now (filter_tree f.now) result }
+{
+    match &f.form {
+        Form::Played(played) => MoveConstraint {
+            moved: true,
+            origins: squares_met(&played.origin, names),
+            goals: squares_met(&played.goal, names),
+        },
+        _ => MoveConstraint {
+            moved: false,
+            origins: None,
+            goals: None,
+        },
+    }
+}
+
+// The squares that meet a part of a move, where it is a name.
+fn squares_met(part: &Option<Box<Filter>>, names: &Names) -> Option<u64>
+    ensures { MayMeet names.now (written_tree part.now) result }
+{
+    match part {
+        Some(part) => bound(part, names),
+        None => None,
+    }
+}
+
+// The squares of a filter that is a name.
+#[tactic(auto, unfolding(cql_syntax::specs::Meaning::value))]
+fn bound(f: &Filter, names: &Names) -> Option<u64>
+    ensures { IfSome result (IsBound names.now (filter_tree f.now)) }
+{
+    match &f.form {
+        Form::Name(name) => Some(names.squares_of(name.as_slice()).squares()),
+        _ => None,
+    }
+}
+
+/// Whether a filter may hold at a node.
+pub(crate) fn may_hold(moves: &MoveConstraint, game: &Game, n: u32) -> bool
+    requires { n < length game.now.nodes }
+    ensures { (moves.now.moved ≡ true → LedByAllowedMove moves.now game.now.nodes n) → result ≡ true }
+{
+    if !moves.moved {
+        return true;
+    }
+    match ends_of(game, n) {
+        Some(ends) => allows_move(moves, &ends),
+        None => false,
+    }
+}
+
+// Whether a move is one of those that are sought.
+fn allows_move(moves: &MoveConstraint, ends: &MoveEnds) -> bool
+    ensures { result ≡ (allows moves.now.origins ends.now.origin && allows moves.now.goals ends.now.goal) }
+{
+    is_allowed(moves.origins, ends.origin) && is_allowed(moves.goals, ends.goal)
+}
+
+// Whether a square is one of a set, or any where there is none.
+fn is_allowed(set: Option<u64>, square: Square) -> bool
+    ensures { result ≡ allows set square }
+{
+    match set {
+        Some(set) => has_square(set, square),
+        None => true,
+    }
+}

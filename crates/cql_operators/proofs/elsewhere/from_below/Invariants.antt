@@ -1,5 +1,0 @@
-use Rattle.cql_operators.proofs.ElsewhereLaw.{RaisedSetsTo}
-use Rattle.cql_operators.proofs.elsewhere.from_below.Given as goal
-
-abbrev pub invariant-loop-turn : goal.invariant-loop-turn
-invariant-loop-turn l = RaisedSetsTo l.game.nodes l.fn.there.items l.turn l.back.items

@@ -1,5 +1,0 @@
-use Rattle.cql_operators.proofs.ElsewhereLaw.{ChildSetsTo}
-use Rattle.cql_operators.proofs.elsewhere.from_children.Given as goal
-
-abbrev pub invariant-loop-k : goal.invariant-loop-k
-invariant-loop-k l = ChildSetsTo l.game.nodes l.there l.k l.back.items

@@ -1,0 +1,99 @@
+//! What a filter gives at a node of a game.
+ghost use Rattle.std.specs.Prelude.{◌≡◌, ◌<◌, length, IfOk};
+ghost use Rattle.cq_position.specs.Search.{SearchedTree};
+ghost use Rattle.cq_symmetry.specs.Images.{mask_of};
+ghost use Rattle.cql_syntax.specs.Meaning.{value};
+ghost use Rattle.cql_syntax.specs.TreeOf.{filter_tree};
+ghost use Rattle.cql_syntax.specs.Values.{holds, has, amount};
+ghost use Rattle.cql_values.specs.ValueModel.{as_value};
+ghost use Rattle.cql_values.specs.Trees.{searched_tree};
+
+use crate::evaluate::evaluate;
+use crate::scope::Scope;
+use cq_common::NoMemory;
+use cq_symmetry::Mapping;
+use cql_syntax::Filter;
+use cql_values::names::Names;
+use cql_values::value::Value;
+use pgn_tree::Game;
+use std::alloc::Global;
+
+/// What a filter gives at a node of a game, of which the variations are searched or the main line alone.
+pub fn value_at(
+    alloc: Global,
+    f: &Filter,
+    game: &Game,
+    variations: bool,
+    node: u32,
+    context: &[Mapping],
+    names: &Names,
+) -> Result<Value, NoMemory>
+    requires { node < length game.now.nodes }
+    ensures { IfOk result (λ v. as_value v ≡ value (searched_tree game.now variations) context.now names.now (filter_tree f.now) node) }
+{
+    // A game's nodes are a tree.
+    prove!(game.is_tree());
+    let scope = Scope {
+        game,
+        variations,
+        context,
+        names,
+    };
+    evaluate(alloc, f, &scope, node)
+}
+
+/// Whether a filter holds at a node of a game, of which the variations are searched or the main line alone: a set holds where it has a
+/// square, and a number where it has a value.
+///
+/// The context is the list of the mappings inside of which the filter is read, the innermost first. A name that isn't bound is no
+/// square.
+pub fn holds_at(
+    alloc: Global,
+    f: &Filter,
+    game: &Game,
+    variations: bool,
+    node: u32,
+    context: &[Mapping],
+    names: &Names,
+) -> Result<bool, NoMemory>
+    requires { node < length game.now.nodes }
+    ensures { IfOk result (λ b. b ≡ holds (value (searched_tree game.now variations) context.now names.now (filter_tree f.now) node)) }
+{
+    let value = value_at(alloc, f, game, variations, node, context, names)?;
+    Ok(value.holds())
+}
+
+/// The squares of a filter at a node of a game: bit k is square k. A filter that is no set has none.
+pub fn set_at(
+    alloc: Global,
+    f: &Filter,
+    game: &Game,
+    variations: bool,
+    node: u32,
+    context: &[Mapping],
+    names: &Names,
+) -> Result<u64, NoMemory>
+    requires { node < length game.now.nodes }
+    ensures { IfOk result (λ set. set
+        ≡ mask_of (has (value (searched_tree game.now variations) context.now names.now (filter_tree f.now) node))) }
+{
+    let value = value_at(alloc, f, game, variations, node, context, names)?;
+    Ok(value.squares())
+}
+
+/// The number of a filter at a node of a game, where it has a value. A filter that is no number has none.
+pub fn number_at(
+    alloc: Global,
+    f: &Filter,
+    game: &Game,
+    variations: bool,
+    node: u32,
+    context: &[Mapping],
+    names: &Names,
+) -> Result<Option<i64>, NoMemory>
+    requires { node < length game.now.nodes }
+    ensures { IfOk result (λ n. n ≡ amount (value (searched_tree game.now variations) context.now names.now (filter_tree f.now) node)) }
+{
+    let value = value_at(alloc, f, game, variations, node, context, names)?;
+    Ok(value.number())
+}

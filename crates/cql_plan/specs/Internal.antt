@@ -1,0 +1,3 @@
+pub mod CommonParts
+pub mod Items
+pub mod KeyRows

@@ -1,0 +1,15 @@
+-- What a move takes, by the men before and after it.
+use Rattle.std.specs.Prelude.{◌≡◌, ℕ, true, false, Option, Some, None}
+use Rattle.cq_position.specs.Board.{Board, man_at}
+use Rattle.cq_position.specs.Men.{is_of_side, opponent}
+use Rattle.cq_position.specs.Led.{PlainLed}
+
+-- the square on which a move took a man, if it took any
+abbrev pub taken_by : Option PlainLed → Option ℕ
+taken_by None = None
+taken_by (Some l) = l.taken
+
+-- on the square stood a man of the side that didn't move, and none of its men stands there after the move
+pub record IsCapturedOn (before after : Board) (square : ℕ) : Type 0 where
+  pub stood : is_of_side (opponent before.side) (man_at before.men square) ≡ true
+  pub gone : is_of_side (opponent before.side) (man_at after.men square) ≡ false

@@ -1,0 +1,184 @@
+//! Filters in which names don't stand, and filters that give no square but that of a name.
+ghost use Rattle.std.specs.Prelude.{◌≡◌, ◌⊎◌, ◌∷◌, [], true, false, IfOk};
+ghost use Rattle.std.specs.Str.{bytes_eq};
+ghost use Rattle.cql_syntax.specs.Meaning as meaning;
+ghost use Rattle.cql_syntax.specs.Values as spec;
+ghost use Rattle.cql_syntax.specs.TreeOf.{filter_tree, filters_tree, played_tree, written_tree};
+ghost use Rattle.cql_syntax.specs.declared.leaves.Chain.TheVariants.{Or, And, All, Intersect};
+ghost use Rattle.cql_syntax.specs.declared.leaves.Pair.TheVariants.{Attacks, AttackedBy};
+ghost use Rattle.cql_pruning.specs.Covers.{IsIndependent, AreIndependent, IsIndependentMove, IsIndependentPart, GivesOnlyName, PartGivesOnlyName};
+
+use cq_common::NoMemory;
+use cq_geometry::Square;
+use cql_syntax::{Chain, Filter, Filters, Form, Pair, Played};
+use cql_values::names::Names;
+use std::alloc::Global;
+
+/// True only where no line, and none of these names, stands in a filter so that it could change its value or its steps. Forms that aren't
+/// looked into give false.
+#[cycle(is_independent)]
+#[tactic(auto, unfolding(cql_syntax::specs::Meaning::value, cql_syntax::specs::Contexts::designator_image, cql_columns::specs::Costs::filter_cost))]
+pub fn is_independent(opened: &Names, f: &Filter) -> bool
+    ensures { result ≡ true → IsIndependent opened.now (filter_tree f.now) }
+{
+    match &f.form {
+        Form::Squares(_) | Form::Number(_) | Form::Plain(_) | Form::Tagged(..) => true,
+        Form::Outcome(_) | Form::Elo(_) | Form::Comment(_) => true,
+        Form::Name(name) => !opened.squares_of(name.as_slice()).holds(),
+        Form::Unary(_, part) => is_independent(opened, part),
+        Form::Steps(_, _, _, part) => is_independent(opened, part),
+        Form::Chain(_, parts) => are_independent(opened, parts),
+        Form::Any(_, parts) => are_independent(opened, parts),
+        Form::Pair(_, first, second) => is_independent(opened, first) && is_independent(opened, second),
+        Form::Square(_, _, first, second) => is_independent(opened, first) && is_independent(opened, second),
+        Form::Played(played) => is_independent_move(opened, played),
+        Form::Sum(_) | Form::If(..) | Form::Sort(..) | Form::Line(_) | Form::Transform(..) => false,
+    }
+}
+
+#[cycle(is_independent)]
+fn are_independent(opened: &Names, parts: &Filters) -> bool
+    ensures { result ≡ true → AreIndependent opened.now (filters_tree parts.now) }
+{
+    for part in parts.as_slice() {
+        if !is_independent(opened, part) {
+            return false;
+        }
+    }
+    true
+}
+
+#[cycle(is_independent)]
+#[tactic(auto, unfolding(cql_syntax::specs::Meaning::value, cql_columns::specs::Costs::filter_cost))]
+fn is_independent_move(opened: &Names, played: &Played) -> bool
+    ensures { result ≡ true → IsIndependentMove opened.now (played_tree played.now) }
+{
+    is_independent_part(opened, &played.origin)
+        && is_independent_part(opened, &played.goal)
+        && is_independent_part(opened, &played.taken)
+        && is_independent_part(opened, &played.promoted)
+}
+
+/// Whether no name of these stands in a part, if it is written.
+#[cycle(is_independent)]
+#[tactic(auto, unfolding(cql_syntax::specs::Meaning::value, cql_columns::specs::Costs::filter_cost))]
+pub fn is_independent_part(opened: &Names, part: &Option<Box<Filter>>) -> bool
+    ensures { result ≡ true → IsIndependentPart opened.now (written_tree part.now) }
+{
+    match part {
+        Some(part) => is_independent(opened, part),
+        None => true,
+    }
+}
+
+/// Whether a part is written, and no name of these stands in it.
+pub fn is_independent_and_written(opened: &Names, part: &Option<Box<Filter>>) -> bool
+    ensures { result ≡ true → IsIndependentPart opened.now (written_tree part.now) }
+{
+    part.is_some() && is_independent_part(opened, part)
+}
+
+/// Whether a filter gives no square but the one that is bound to a name.
+#[cycle(gives_only_name)]
+#[tactic(auto, unfolding(cql_syntax::specs::Meaning::value))]
+pub fn gives_only_name(name: &[u8], f: &Filter) -> bool
+    ensures { result ≡ true → GivesOnlyName name.now (λ tree e n. meaning.value tree [] e (filter_tree f.now) n) }
+{
+    match &f.form {
+        Form::Name(text) => text.as_slice() == name,
+        Form::Chain(chain, parts) => is_intersection(*chain) && some_gives_only_name(name, parts),
+        Form::Pair(pair, first, _) => is_attack(*pair) && gives_only_name(name, first),
+        _ => false,
+    }
+}
+
+#[cycle(gives_only_name)]
+fn some_gives_only_name(name: &[u8], parts: &Filters) -> bool
+    ensures { result ≡ true → GivesOnlyName name.now (λ tree e n. spec.intersection_of (meaning.values tree [] e (filters_tree parts.now) n)) }
+{
+    for part in parts.as_slice() {
+        if gives_only_name(name, part) {
+            return true;
+        }
+    }
+    false
+}
+
+/// Whether a chain is of the squares that sets have in common.
+pub fn is_intersection(chain: Chain) -> bool
+    ensures { result ≡ true → chain ≡ Intersect }
+{
+    match chain {
+        Chain::Intersect => true,
+        _ => false,
+    }
+}
+
+/// Whether a pair asks which squares of the first set attack the second, or are attacked by it.
+pub fn is_attack(pair: Pair) -> bool
+    ensures { result ≡ true → (pair ≡ Attacks) ⊎ (pair ≡ AttackedBy) }
+{
+    match pair {
+        Pair::Attacks | Pair::AttackedBy => true,
+        _ => false,
+    }
+}
+
+/// Whether all filters of a chain must hold.
+pub fn is_all(chain: Chain) -> bool
+    ensures { result ≡ true → (chain ≡ And) ⊎ (chain ≡ All) }
+{
+    match chain {
+        Chain::And | Chain::All => true,
+        _ => false,
+    }
+}
+
+/// Whether one filter of a chain must hold.
+pub fn is_or(chain: Chain) -> bool
+    ensures { result ≡ true → chain ≡ Or }
+{
+    match chain {
+        Chain::Or => true,
+        _ => false,
+    }
+}
+
+/// Whether a part is written, and gives no square but the one that is bound to a name.
+pub fn part_gives_only_name(name: &[u8], part: &Option<Box<Filter>>) -> bool
+    ensures { result ≡ true → PartGivesOnlyName name.now (written_tree part.now) }
+{
+    match part {
+        Some(part) => gives_only_name(name, part),
+        None => false,
+    }
+}
+
+/// Whether some square is asked for, under a name that differs from another.
+pub fn is_other(every: bool, inner: &[u8], name: &[u8]) -> bool
+    ensures some { result ≡ true → every ≡ false }
+    ensures other { result ≡ true → bytes_eq inner.now name.now ≡ false }
+{
+    !every && inner != name
+}
+
+/// A name alone, bound to some square.
+pub fn only_name(alloc: Global, name: &[u8]) -> Result<Names, NoMemory>
+    ensures { IfOk result (λ opened. opened ≡ (name.now, 0) ∷ []) }
+{
+    let mut opened = Names::new(alloc);
+    opened.bind(name, Square::new(0))?;
+    Ok(opened)
+}
+
+/// How the second of two sets stands to the first.
+pub fn converse(pair: Pair) -> Pair
+    ensures attack { (result ≡ Attacks) ⊎ (result ≡ AttackedBy) }
+    ensures attacks { pair ≡ Attacks → result ≡ AttackedBy }
+    ensures attacked { pair ≡ AttackedBy → result ≡ Attacks }
+{
+    match pair {
+        Pair::AttackedBy => Pair::Attacks,
+        _ => Pair::AttackedBy,
+    }
+}

@@ -1,0 +1,69 @@
+//! Squares that are tried one by one, where the move is asked whether it went to the square: all at once.
+ghost use Rattle.std.specs.Prelude.{◌≡◌, ◌&&◌, ℕ, ◌<◌, length, get_or, true, false, IfOk};
+ghost use Rattle.cq_position.specs.Games.{IsTree};
+ghost use Rattle.cql_syntax.specs.TreeOf.{written_tree};
+ghost use Rattle.cql_columns.specs.Columns.{IsNodeSet, is_live};
+ghost use Rattle.cql_columns.specs.Scopes.{tree_in};
+ghost use Rattle.cql_pruning.specs.MoveTargets.{AsksGoal, IsNamePart, goes_as_asked};
+
+use crate::attacks::is_name;
+use crate::independent::is_independent_part;
+use crate::moves::{PartColumns, meets_parts};
+use cq_common::NoMemory;
+use cql_columns::filter_column::{blank_truths, set_at};
+use cql_columns::scope::Scope;
+use cql_syntax::{Filter, Played};
+use cql_values::names::Names;
+use cql_values::value::Value;
+use std::alloc::Global;
+
+/// Whether of the move it is asked that it went to the square of a name, and nothing else in which an open name stands.
+pub fn asks_goal(opened: &Names, name: &[u8], played: &Played) -> bool
+    ensures { result ≡ true → AsksGoal opened.now name.now played.now }
+{
+    is_name_part(name, &played.goal)
+        && is_independent_part(opened, &played.origin)
+        && is_independent_part(opened, &played.taken)
+        && is_independent_part(opened, &played.promoted)
+}
+
+fn is_name_part(name: &[u8], part: &Option<Box<Filter>>) -> bool
+    ensures { result ≡ true → IsNamePart name.now (written_tree part.now) }
+{
+    match part {
+        Some(part) => is_name(name, part),
+        None => false,
+    }
+}
+
+/// Whether a node is of a set, and the move to it is as columns ask and went to a square of the node's set.
+pub fn moves_to(
+    alloc: Global,
+    scope: &Scope,
+    parts: &PartColumns,
+    sets: &[u64],
+    live: &[bool],
+) -> Result<Vec<bool>, NoMemory>
+    requires tree { IsTree scope.now.game.now.nodes }
+    requires asked { IsNodeSet (tree_in scope.now) live.now }
+    ensures { IfOk result (λ truths. (n : ℕ) → get_or truths.items n false
+        ≡ (is_live live.now n && goes_as_asked (tree_in scope.now) parts.now (get_or sets.now n 0) n)) }
+{
+    let mut truths = blank_truths(alloc, scope.game.len() as usize)?;
+    for n in 0..scope.game.len() {
+        truths[n as usize] = is_moved_to(live[n as usize], scope, parts, sets, n);
+    }
+    Ok(truths)
+}
+
+fn is_moved_to(asked: bool, scope: &Scope, parts: &PartColumns, sets: &[u64], n: u32) -> bool
+    requires tree { IsTree scope.now.game.now.nodes }
+    requires node { n < length scope.now.game.now.nodes }
+    ensures { result ≡ (asked && goes_as_asked (tree_in scope.now) parts.now (get_or sets.now n 0) n) }
+{
+    if !asked {
+        return false;
+    }
+    let set = set_at(sets, n as usize);
+    meets_parts(scope, parts, Some(Value::Set(set)), n)
+}

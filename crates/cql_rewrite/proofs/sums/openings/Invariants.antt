@@ -1,7 +1,0 @@
-use Rattle.std.proofs.Common.{◌≡◌, drop}
-use Rattle.cql_syntax.specs.TreeOf.{term_trees}
-use Rattle.cql_rewrite.specs.Sums as spec
-use Rattle.cql_rewrite.proofs.sums.openings.Given as goal
-
-abbrev pub invariant-loop-k : goal.invariant-loop-k
-invariant-loop-k l = l.text ≡ spec.openings (term_trees (drop l.k l.terms))

@@ -1,0 +1,2 @@
+pub mod DistinctMembers
+pub mod Sums

@@ -1,0 +1,3 @@
+pub mod PairRuns
+pub mod SettledLexemes
+pub mod WordRuns

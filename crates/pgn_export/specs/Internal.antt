@@ -1,0 +1,4 @@
+pub mod Column
+pub mod Page
+pub mod NodeWords
+pub mod PlainTags

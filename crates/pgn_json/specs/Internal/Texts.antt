@@ -1,0 +1,111 @@
+-- What is written of the games of batches, as the private functions give it.
+use Rattle.std.specs.Prelude.{◌≡◌, ℕ, ◌+◌, ◌-◌, ◌<◌, List, [], ◌∷◌, ◌++◌, length, take, Option, None, Some, Result, Ok, Err}
+use Rattle.std.specs.List.{flat_map, sum_by}
+use Rattle.pgn_batches.specs.KeptGames.{KeptGames}
+use Rattle.cq_outside.specs.Faults.{Rose}
+use Rattle.cq_outside.specs.Flow.{Grew}
+use Rattle.cq_report.specs.Games.{summary_line}
+use Rattle.pgn_json.specs.Lines.{Entry, fault_lines, faulty, lines}
+use Rattle.pgn_json.specs.Internal.Parts.{Part}
+use Rattle.pgn_json.specs.Writing.{NoWriteFailed, OneWriteFailed, SinkView, Sinks, Writes}
+use Rattle.pgn_json.specs.declared.status.Status.{Status}
+use Rattle.pgn_json.specs.declared.status.Status.TheVariants.{Done, DoneWithRefusals, WriteFault, NoMemory}
+use Rattle.pgn_json.specs.declared.texts.Texts.{Texts}
+use Rattle.pgn_reader.specs.Verdict.{IsRead}
+
+-- these are games that batches keep, the first having this number
+abbrev pub AreKept : ℕ → KeptGames → List Entry → Type 0
+AreKept number [] [] = Unit {0}
+AreKept number [] (e ∷ es) = ⊥
+AreKept number (g ∷ gs) [] = ⊥
+AreKept number (g ∷ gs) (e ∷ es) =
+    ((e.number ≡ number) × (e.byte ≡ g.start) × IsRead g.start g.first g.bytes e.outcome) × AreKept (number + 1) gs es
+
+-- what is written of some games, the first having this number
+pub record AreTextsOf (mark : List ℕ) (number : ℕ) (games : KeptGames) (texts : Texts) : Type 0 where
+  pub entries : List Entry
+  pub are : AreKept number games entries
+  pub lines_ : texts.lines ≡ lines mark entries
+  pub faults_ : texts.faults ≡ fault_lines entries
+  pub faulty_ : texts.faulty ≡ faulty entries
+
+-- games of an archive from its first one on were taken, so many of which are faulty: they were written
+pub record HasTaken (mark : List ℕ) (was now : Sinks) (count : ℕ) (games : KeptGames) : Type 0 where
+  pub entries : List Entry
+  pub are : AreKept 1 games entries
+  pub count_is : count ≡ faulty entries
+  pub writes : Writes was now (lines mark entries) (fault_lines entries)
+  pub unfailed : NoWriteFailed was now
+
+-- such games were written, then the first ones of the next batch, and of some after these a front of what is due
+pub record IsCutShort (mark : List ℕ) (was now : Sinks) (games batch : KeptGames) : Type 0 where
+  pub first : KeptGames
+  pub part : KeptGames
+  pub rest : KeptGames
+  pub split : batch ≡ first ++ (part ++ rest)
+  pub entries : List Entry
+  pub next : List Entry
+  pub are : AreKept 1 (games ++ first) entries
+  pub next_are : AreKept (1 + length (games ++ first)) part next
+  pub out_count : ℕ
+  pub err_count : ℕ
+  pub writes : Writes was now (lines mark entries ++ take out_count (lines mark next))
+      (fault_lines entries ++ take err_count (fault_lines next))
+
+-- it was stopped at the games of the next batch: a write failed, or no memory was found
+abbrev pub HasStopped : List ℕ → Sinks → Sinks → KeptGames → KeptGames → Status → Type 0
+HasStopped mark was now games batch WriteFault = IsCutShort mark was now games batch × OneWriteFailed was now
+HasStopped mark was now games batch NoMemory = IsCutShort mark was now games batch × NoWriteFailed was now
+HasStopped mark was now games batch _ = ⊥
+
+-- what is written of several games, one after the other, and how many of them are faulty
+abbrev pub all_lines : List Texts → List ℕ
+all_lines texts = flat_map (λ t. t.lines) texts
+
+abbrev pub all_faults : List Texts → List ℕ
+all_faults texts = flat_map (λ t. t.faults) texts
+
+abbrev pub all_faulty : List Texts → ℕ
+all_faulty texts = sum_by (λ t. t.faulty) texts
+
+-- the games of a part were written, so many of which are faulty
+pub record HasWritten (part : Part) (was now : Sinks) (count : ℕ) : Type 0 where
+  pub texts : Texts
+  pub are : AreTextsOf part.mark (part.before + 1) part.games texts
+  pub writes : Writes was now texts.lines texts.faults
+  pub count_is : count ≡ texts.faulty
+  pub unfailed : NoWriteFailed was now
+
+-- a front of what is to be written of some first games of a part was written
+pub record HasWrittenFront (part : Part) (was now : Sinks) : Type 0 where
+  pub games : KeptGames
+  pub rest : KeptGames
+  pub split : part.games ≡ games ++ rest
+  pub next : List Entry
+  pub are : AreKept (part.before + 1) games next
+  pub out_count : ℕ
+  pub err_count : ℕ
+  pub writes : Writes was now (take out_count (lines part.mark next)) (take err_count (fault_lines next))
+
+-- what a call answers that writes a part
+abbrev pub AnswersPart : Part → Sinks → Sinks → Result ℕ Status → Type 0
+AnswersPart part was now (Ok count) = HasWritten part was now count
+AnswersPart part was now (Err WriteFault) = HasWrittenFront part was now × OneWriteFailed was now
+AnswersPart part was now (Err NoMemory) = HasWrittenFront part was now × NoWriteFailed was now
+AnswersPart part was now (Err _) = ⊥
+
+-- what a call answers that writes a batch: nothing, or why it was stopped
+abbrev pub AnswersBatch : List ℕ → Sinks → Sinks → ℕ → KeptGames → KeptGames → Option Status → Type 0
+AnswersBatch mark was now count games batch None = HasTaken mark was now count (games ++ batch)
+AnswersBatch mark was now count games batch (Some status) = HasStopped mark was now games batch status
+
+-- the last line of a report was written, by which no game is faulty or some are, or a front of it
+abbrev pub WritesSummary : (games faulty : ℕ) → SinkView → SinkView → Status → Type 0
+WritesSummary games count was now Done =
+    (count ≡ 0) × Grew was.taken now.taken (summary_line games (games - count) count) × (now.faults ≡ was.faults)
+WritesSummary games count was now DoneWithRefusals =
+    (0 < count) × Grew was.taken now.taken (summary_line games (games - count) count) × (now.faults ≡ was.faults)
+WritesSummary games count was now WriteFault =
+    ((k : ℕ) × Grew was.taken now.taken (take k (summary_line games (games - count) count))) × Rose was.faults now.faults
+WritesSummary games count was now NoMemory = now ≡ was
+WritesSummary games count was now _ = ⊥

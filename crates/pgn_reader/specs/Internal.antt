@@ -1,0 +1,10 @@
+pub mod GameAssembly
+pub mod Building
+pub mod Frame
+pub mod LineInside
+pub mod Machine
+pub mod Preface
+pub mod PrefaceInside
+pub mod Reading
+pub mod NodeRowInside
+pub mod ReaderView
