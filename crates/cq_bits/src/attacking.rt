@@ -9,8 +9,8 @@ use crate::attacks::{Kind, either_side, standing};
 use cq_geometry::Square;
 use cq_position::{Man, Men, Position, attacks_from};
 use cq_square_sets::{
-    BitSet64, king_attacks, knight_attacks, lowest_square, bishop_attacks, black_pawn_attacks, white_pawn_attacks,
-    rook_attacks,
+    BitSet64, bishop_attacks, black_pawn_attacks, king_attacks, knight_attacks, lowest_square,
+    rook_attacks, white_pawn_attacks,
 };
 
 /// The squares on which a man stands that attacks a square of `to` (FIDE Laws of Chess, articles 3.1 to 3.8).

@@ -6,7 +6,7 @@ ghost use Rattle.cq_board.specs.declared.seat.ClaimSeat.{ClaimSeat as ASeat};
 ghost use Rattle.cq_board.specs.Seats.{numbers_of, seats_of, IsSeatOf, drawn, all_drawn, HasEnded};
 
 use crate::seat::{Board, ClaimSeat};
-use crate::view::{Draw, SplitSeat, JoinSeat, BoardSize};
+use crate::view::{BoardSize, Draw, JoinSeat, SplitSeat};
 use atomic_table::Table;
 use cq_common::NoMemory;
 use std::alloc::Global;

@@ -3,7 +3,7 @@ ghost use Rattle.std.specs.Prelude.{◌≡◌, ◌^◌, ◌<◌, ◌≤◌, []};
 ghost use Rattle.std.specs.List.Sorted.{IsStrictlyIncreasing};
 ghost use Rattle.cq_board.specs.Views.{share};
 
-use crate::view::{DrawnOnce, BoardSize, SeatView};
+use crate::view::{BoardSize, DrawnOnce, SeatView};
 use atomic_table::{Seat, Table};
 use cq_common::Shared;
 use std::alloc::Global;

@@ -4,7 +4,7 @@ ghost use Rattle.cq_first.specs.Seats.{IsSeatOf};
 ghost use Rattle.cq_first.specs.Views.{looking, IsSeen};
 
 use crate::seat::{FirstBoard, FirstSeat};
-use crate::view::{LookTarget, Look};
+use crate::view::{Look, LookTarget};
 
 /// The word, as one load finds it.
 pub(crate) fn look_at<K: LookTarget>(board: &FirstBoard, seat: &mut FirstSeat, k: u64) -> u64

@@ -4,9 +4,9 @@ ghost use Rattle.cq_position.specs.Games.{IsTree};
 ghost use Rattle.cq_maker.specs.GeneratedArchive as made;
 ghost use Rattle.cq_maker.specs.Internal.DrawnMoves.{nodes_of_rows};
 
+use crate::drawn_move::DrawnMove;
 use crate::draws::Draws;
 use crate::line::draw_line;
-use crate::drawn_move::DrawnMove;
 use cq_common::NoMemory;
 use cq_moves::legal_moves;
 use cq_position::{GameResult, Position, Side, in_check, opponent};

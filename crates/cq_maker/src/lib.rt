@@ -4,10 +4,10 @@
 #![tactic(auto)]
 
 mod archive;
+mod drawn_move;
 mod draws;
 mod game;
 pub mod laws;
 mod line;
-mod drawn_move;
 
 pub use archive::make_archive;

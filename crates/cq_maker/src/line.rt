@@ -7,8 +7,8 @@ ghost use Rattle.cq_maker.specs.Draws.{next};
 ghost use Rattle.cq_maker.specs.Line as drawn;
 ghost use Rattle.cq_maker.specs.Internal.DrawnMoves.{node_of_row, nodes_of_rows};
 
-use crate::draws::Draws;
 use crate::drawn_move::DrawnMove;
+use crate::draws::Draws;
 use arrayvec::ArrayVec;
 use cq_common::NoMemory;
 use cq_moves::{legal_moves, play};
@@ -54,7 +54,12 @@ pub(crate) fn draw_line(alloc: Global, draws: &mut Draws, most: u32) -> Result<L
 }
 
 // Draws a legal move of a position, which is that of node `parent`.
-fn draw_row(draws: &mut Draws, parent: u32, position: &Position, moves: &ArrayVec<Move, 512>) -> DrawnMove
+fn draw_row(
+    draws: &mut Draws,
+    parent: u32,
+    position: &Position,
+    moves: &ArrayVec<Move, 512>,
+) -> DrawnMove
     requires moves { moves.now.items ≡ legal_list position.now }
     requires some { 0 < length moves.now.items }
     ensures row { node_of_row result ≡ node_of parent (drawn.ply_drawn position.now draws.old) }

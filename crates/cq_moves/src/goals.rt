@@ -8,8 +8,8 @@ ghost use Rattle.cq_position.specs.Men as men_spec;
 ghost use Rattle.cq_moves.specs.Candidates.{double_goal};
 ghost use Rattle.cq_moves.specs.Internal.Mover.{IsMover, IsOrigin, is_free};
 
-use crate::men_after::middle;
 use crate::castling::castles;
+use crate::men_after::middle;
 use crate::mover::{Mover, Origin};
 use cq_geometry::{Square, Step, rank};
 use cq_position::attacks::{is_occupied, squares_attacked};

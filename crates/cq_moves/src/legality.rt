@@ -12,9 +12,9 @@ ghost use Rattle.cq_position.specs.Legality as legality;
 ghost use Rattle.cq_moves.specs.Candidates.{may_come};
 ghost use Rattle.cq_moves.specs.Internal.Mover as mover;
 
-use crate::men_after::men_after;
 use crate::castling::castles;
 use crate::goals::free_squares;
+use crate::men_after::men_after;
 use crate::reach::{attacks, pawn_moves, promotion_is_right, reaches};
 use cq_geometry::Square;
 use cq_position::attacks::is_attacked;

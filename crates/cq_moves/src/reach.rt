@@ -7,8 +7,8 @@ ghost use Rattle.cq_moves.specs.Candidates.{is_ahead, may_come};
 ghost use Rattle.cq_position.specs.Position.{IsPosition};
 ghost use Rattle.cq_moves.specs.LegalMoves as list;
 
-use crate::men_after::middle;
 use crate::castling::castles;
+use crate::men_after::middle;
 use cq_geometry::{Square, Step, rank};
 use cq_position::attacks::{is_occupied, is_pawn_attack, squares_attacked};
 use cq_position::home_squares::king_home;

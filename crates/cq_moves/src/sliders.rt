@@ -7,7 +7,7 @@ ghost use Rattle.cq_position.specs.AttackTest.{is_orthogonal_slider, is_diagonal
 use cq_geometry::Square;
 use cq_position::attacks::{diagonal_sliders, orthogonal_sliders};
 use cq_position::{Men, Side};
-use cq_square_sets::{meets, bishop_lines, rook_lines};
+use cq_square_sets::{bishop_lines, meets, rook_lines};
 
 /// Whether a rook or queen of a side stands on the file or rank of a square, or a bishop or queen on a diagonal, whatever is between.
 #[inline]

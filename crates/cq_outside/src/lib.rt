@@ -3,7 +3,6 @@
 #![tactic(auto)]
 
 mod arguments;
-mod name_map;
 pub mod calls;
 pub mod desk;
 pub mod edge;
@@ -11,6 +10,7 @@ pub mod gate;
 pub mod mem_desk;
 pub mod mem_sink;
 pub mod mem_source;
+mod name_map;
 pub mod read_write;
 pub mod sink;
 pub mod source;

@@ -9,10 +9,10 @@ ghost use Rattle.cq_outside.specs.MemSource.{after_read, result_of};
 ghost use Rattle.cq_outside.specs.MemDesk.{FailingDesk, ReadsOn, files_of, desk_files_of, fails_next, just_opened, after_open};
 ghost use Rattle.cq_common.specs.declared.faults.OpenFault.TheVariants.{Failed as failed, NoMemory as no_memory};
 
-use crate::name_map::{place_of, push_name, put};
 use crate::calls::Calls;
 use crate::desk::Desk;
 use crate::mem_source::MemSource;
+use crate::name_map::{place_of, push_name, put};
 use crate::source::Source;
 use cq_common::{Bytes, Failed, NoMemory, OpenFault};
 use std::alloc::Global;

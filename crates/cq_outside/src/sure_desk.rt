@@ -5,8 +5,8 @@ ghost use Rattle.std.specs.FinMap as map;
 ghost use Rattle.cq_outside.specs.Faults.{HasCause};
 ghost use Rattle.cq_outside.specs.DeskFiles.{KnownDesk, desk_files_of, bytes_of};
 
-use crate::name_map::{place_of, push_name, put};
 use crate::desk::Desk;
+use crate::name_map::{place_of, push_name, put};
 use crate::source::Source;
 use crate::sure_source::SureSource;
 use cq_common::{Bytes, Failed, NoMemory, OpenFault};

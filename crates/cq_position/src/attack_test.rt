@@ -14,8 +14,7 @@ use crate::men::{Man, Piece, Side, opponent};
 use crate::planes::Men;
 use cq_geometry::Square;
 use cq_square_sets::{
-    king_attacks, knight_attacks, meets, bishop_lines, bishop_attacks, rook_lines,
-    rook_attacks,
+    bishop_attacks, bishop_lines, king_attacks, knight_attacks, meets, rook_attacks, rook_lines,
 };
 
 /// Whether a man of a side attacks a square of this board, also where the man may not move (FIDE Laws of Chess, article 3.9.1).

@@ -4,14 +4,15 @@ ghost use Rattle.cq_geometry.specs.Lines as lines;
 ghost use Rattle.cq_position.specs.Attacks as attack;
 ghost use Rattle.cq_square_sets.specs.Bitboards.{IsBitboard};
 
+pub use crate::attack_test::{diagonal_sliders, is_attacked, orthogonal_sliders};
 use crate::king::king_square;
 use crate::men::{Man, Side, king_of, opponent};
-pub use crate::attack_test::{is_attacked, diagonal_sliders, orthogonal_sliders};
 use crate::planes::Men;
 use crate::position::{Position, stands};
 use cq_geometry::{Square, between, files_apart, rank};
 use cq_square_sets::{
-    king_attacks, knight_attacks, bishop_attacks, black_pawn_attacks, white_pawn_attacks, rook_attacks,
+    bishop_attacks, black_pawn_attacks, king_attacks, knight_attacks, rook_attacks,
+    white_pawn_attacks,
 };
 
 /// The squares that the man on a square attacks, whatever stands there (FIDE Laws of Chess, articles 3.2 to 3.8): bit k of the

@@ -4,6 +4,7 @@
 //! `specs/Legal` the moves and the position after each.
 #![tactic(auto)]
 
+mod attack_test;
 pub mod attacks;
 pub mod fen;
 pub mod games;
@@ -12,7 +13,6 @@ pub mod king;
 pub mod laws;
 pub mod men;
 pub mod moves;
-mod attack_test;
 pub mod planes;
 pub mod position;
 

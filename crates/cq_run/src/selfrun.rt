@@ -6,7 +6,7 @@ ghost use Rattle.cq_run.specs.Run.{OverText, RunsMade, call_of};
 use cq_common::Refusal;
 use cq_outside::{Gate, Sink};
 use cq_queries::{Status, drop_query, read_query, refuse_query};
-use cq_search::{RunContext, MADE_LIMIT, search_made_archive};
+use cq_search::{MADE_LIMIT, RunContext, search_made_archive};
 use cq_words::{SelfRunSettings, Settings};
 use std::alloc::Global;
 use std::thread::Threads;

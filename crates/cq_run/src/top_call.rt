@@ -22,7 +22,7 @@ use cq_queries::{
     Status, accept_query, drop_queries, drop_query, explain, queries_in_file, query_in_file,
     read_query, refuse_query, report_queries_refusal, report_refusal,
 };
-use cq_search::{RunContext, search_archive_many, search_archive};
+use cq_search::{RunContext, search_archive, search_archive_many};
 use cq_words::{Job, read_words};
 use cql_syntax::TypedQuery;
 use std::alloc::Global;

@@ -144,7 +144,11 @@ fn expect_with<R: Threads + Sync + Abort>(
 }
 
 // Asks for this, and says whether a call failed.
-fn expect<R: Threads + Sync + Abort>(rt: &R, alloc: Global, run: &FailureRun) -> Result<bool, Fail> {
+fn expect<R: Threads + Sync + Abort>(
+    rt: &R,
+    alloc: Global,
+    run: &FailureRun,
+) -> Result<bool, Fail> {
     assert!(rt; run.1 >= 1);
     let mut out = sink_with(alloc, run.1, &[run.3])?;
     expect_with(rt, alloc, run, &mut out)

@@ -11,10 +11,10 @@ ghost use Rattle.cq_queries.specs.Views.{source_view, sink_view, sinks_of};
 ghost use Rattle.cq_search.specs.Internal.Visits.{HaveReadResults, StopsIn, HasVisited, task_of};
 ghost use Rattle.cq_search.specs.Internal.Writing.{FoundSoFar, search_state};
 
-use crate::run_context::RunContext;
+use crate::batch_refusal::status_of;
 use crate::laws::archives_come_in_batches;
 use crate::output::{has_sort_item, write_answers, write_rest};
-use crate::batch_refusal::status_of;
+use crate::run_context::RunContext;
 use crate::tally::Tally;
 use cq_common::{NoMemory, Refusal};
 use cq_outside::{Gate, Sink, Source};
@@ -22,7 +22,7 @@ use cq_queries::Status;
 use cq_shards::laws::ordered_answers_stand_beside_their_games;
 use cq_shards::{GameAnswer, in_order, run_batch};
 use cql_plan::Plan;
-use pgn_batches::{Batch, VisitEnd, BatchVisitor, visit_batches};
+use pgn_batches::{Batch, BatchVisitor, VisitEnd, visit_batches};
 use std::alloc::Global;
 use std::thread::Threads;
 
@@ -129,6 +129,13 @@ pub fn batch_answers<R: Threads + Sync, G: Gate + Sync>(
 {
     ordered_answers_stand_beside_their_games();
     let workers = context.settings.workers;
-    let answers = run_batch(context.rt, context.alloc, plan, batch, workers, context.gate)?;
+    let answers = run_batch(
+        context.rt,
+        context.alloc,
+        plan,
+        batch,
+        workers,
+        context.gate,
+    )?;
     in_order(context.alloc, answers)
 }

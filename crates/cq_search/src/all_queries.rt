@@ -12,11 +12,11 @@ ghost use Rattle.cq_search.specs.Promise.{AnswerPromise};
 ghost use Rattle.cq_queries.specs.Views.{source_view, sink_view, sinks_of};
 ghost use Rattle.cq_search.specs.Internal.Visits.{HaveReadResults, StopsIn, HasVisited};
 
-use crate::run_context::RunContext;
+use crate::batch_refusal::status_of;
 use crate::keeping::{keep_batch, none_kept};
 use crate::laws::archives_come_in_batches;
 use crate::outputs::write_outputs;
-use crate::batch_refusal::status_of;
+use crate::run_context::RunContext;
 use crate::tally::Tally;
 use cq_common::{NoMemory, Refusal};
 use cq_outside::{Gate, Sink, Source};
@@ -26,7 +26,7 @@ use cq_shards::{GameAnswer, ManyAnswers, run_many};
 use cq_shared::SharedPlan;
 use cq_words::Settings;
 use cql_syntax::TypedQuery;
-use pgn_batches::{Batch, VisitEnd, BatchVisitor, visit_batches};
+use pgn_batches::{Batch, BatchVisitor, VisitEnd, visit_batches};
 use std::alloc::Global;
 use std::thread::Threads;
 
@@ -194,7 +194,14 @@ fn search_all_queries<R: Threads + Sync, S: Source, O: Sink, E: Sink, G: Gate + 
         out,
         err,
     ) {
-        Ok(VisitEnd::All(_)) => write_outputs(context.alloc, plan, taker.tally, taker.kept, out, err),
+        Ok(VisitEnd::All(_)) => write_outputs(
+            context.alloc,
+            plan,
+            taker.tally,
+            taker.kept,
+            out,
+            err,
+        ),
         Ok(VisitEnd::Early(status)) => status,
         Err(refusal) => status_of(refusal),
     }
@@ -209,5 +216,12 @@ fn many_answers<R: Threads + Sync, G: Gate + Sync>(
     ensures { IfOk result (λ many. AreManyOf (trees_of (queries_of plan.now)) batch.now (answers_in many)) }
 {
     let workers = context.settings.workers;
-    run_many(context.rt, context.alloc, plan, batch, workers, context.gate)
+    run_many(
+        context.rt,
+        context.alloc,
+        plan,
+        batch,
+        workers,
+        context.gate,
+    )
 }

@@ -6,9 +6,9 @@ ghost use Rattle.cq_search.specs.Promise.{AnswerPromise};
 ghost use Rattle.cq_queries.specs.Views.{source_view, sink_view, sinks_of};
 
 use crate::all_games::search_all_games;
-use crate::run_context::RunContext;
 use crate::first_match::search_first_match;
 use crate::laws::archives_come_in_batches;
+use crate::run_context::RunContext;
 use cq_outside::{Gate, Sink, Source};
 use cq_queries::Status;
 use cq_words::Settings;

@@ -11,17 +11,17 @@ ghost use Rattle.cq_queries.specs.Views.{source_view, sink_view, sinks_of};
 ghost use Rattle.cq_search.specs.Internal.Visits.{FirstStopped, FoundNone, HasVisited};
 ghost use Rattle.cq_search.specs.Internal.Writing.{search_state};
 
-use crate::run_context::RunContext;
+use crate::batch_refusal::status_of;
 use crate::laws::archives_come_in_batches;
 use crate::output::{write_answers, write_summary};
-use crate::batch_refusal::status_of;
+use crate::run_context::RunContext;
 use crate::tally::Tally;
 use cq_common::{NoMemory, Refusal};
 use cq_outside::{Gate, Sink, Source};
 use cq_queries::Status;
 use cq_shards::{GameAnswer, run_first};
 use cql_plan::Plan;
-use pgn_batches::{Batch, VisitEnd, BatchVisitor, visit_batches};
+use pgn_batches::{Batch, BatchVisitor, VisitEnd, visit_batches};
 use std::alloc::Global;
 use std::thread::Threads;
 
@@ -126,5 +126,12 @@ fn first_answers<R: Threads + Sync, G: Gate + Sync>(
     ensures { IfOk result (λ answers. AnswersUpToFirst (query_in plan.now) batch.now answers.items) }
 {
     let workers = context.settings.workers;
-    run_first(context.rt, context.alloc, plan, batch, workers, context.gate)
+    run_first(
+        context.rt,
+        context.alloc,
+        plan,
+        batch,
+        workers,
+        context.gate,
+    )
 }

@@ -4,13 +4,13 @@
 mod all_games;
 mod all_queries;
 mod archives;
-mod run_context;
+mod batch_refusal;
 mod first_match;
 mod keeping;
 mod laws;
 mod output;
 mod outputs;
-mod batch_refusal;
+mod run_context;
 mod selfrun;
 mod sorts;
 mod tally;

@@ -15,8 +15,8 @@ ghost use Rattle.cq_search.specs.Internal.Visits.{HasVisited};
 ghost use Rattle.cq_search.specs.Internal.Writing.{counted};
 
 use crate::all_games::batch_answers;
-use crate::run_context::RunContext;
 use crate::laws::archives_come_in_batches;
+use crate::run_context::RunContext;
 use crate::tally::Tally;
 use crate::totals::Totals;
 use cq_common::{Bytes, NoMemory, Refusal};
@@ -28,7 +28,7 @@ use cq_report::made_line;
 use cq_shards::{Answer, GameAnswer};
 use cql_plan::Plan;
 use cql_syntax::TypedQuery;
-use pgn_batches::{Batch, VisitEnd, BatchVisitor, visit_batches};
+use pgn_batches::{Batch, BatchVisitor, VisitEnd, visit_batches};
 use std::alloc::Global;
 use std::thread::Threads;
 
@@ -84,7 +84,8 @@ struct Counter<'a, F> {
     totals: Totals,
 }
 
-impl<'a, F: Fn(&Batch) -> Result<Vec<GameAnswer>, NoMemory>> BatchVisitor<(), ()> for Counter<'a, F> {
+impl<'a, F: Fn(&Batch) -> Result<Vec<GameAnswer>, NoMemory>> BatchVisitor<(), ()>
+    for Counter<'a, F> {
     type Stop = NoMemory;
 
     ghost has_taken = { λ was now games. ((F.IsAlwaysCallable now.taker.answer

@@ -3,9 +3,9 @@ ghost use Rattle.std.specs.Prelude.{◌≡◌, ◌<◌, length, IfOk, Err};
 ghost use Rattle.pgn_batches.specs.Games.{games_of, number_of};
 ghost use Rattle.cq_shards.specs.Internal.GameRows.{IsRowAt, answers_back};
 
-use crate::search_game::{read_at, refused};
 use crate::answers::GameAnswer;
 use crate::matcher::MultiMatcher;
+use crate::search_game::{read_at, refused};
 use cq_common::NoMemory;
 use pgn_batches::Batch;
 use pgn_reader::GameFault;

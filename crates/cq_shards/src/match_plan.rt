@@ -39,7 +39,11 @@ fn counted<L: Ledger>(
 }
 
 /// The hits of each query of a plan in a game, and its keys.
-pub(crate) fn match_shared_plan(alloc: Global, plan: &SharedPlan, game: &Game) -> Result<Verdicts, NoMemory>
+pub(crate) fn match_shared_plan(
+    alloc: Global,
+    plan: &SharedPlan,
+    game: &Game,
+) -> Result<Verdicts, NoMemory>
     ensures nodes { IfOk result (λ v. all.nodes_of v ≡ map (λ q. hits q game.now) (trees_of (queries_of plan.now))) }
     ensures keys { IfOk result (λ v. all.HaveKeys game.now (trees_of (queries_of plan.now)) (all.nodes_of v) (all.keys_of v)) }
 {

@@ -2,7 +2,7 @@
 ghost use Rattle.cq_shards.specs.PlanQuery.{query_in};
 
 use crate::match_plan::find;
-use crate::{Matcher, GameAnswer, build_answer};
+use crate::{GameAnswer, Matcher, build_answer};
 use cq_common::NoMemory;
 use cql_plan::Plan;
 use pgn_tree::Game;

@@ -4,12 +4,12 @@ ghost use Rattle.pgn_batches.specs.Games.{games_of};
 ghost use Rattle.cq_shards.specs.Answers.{AreAnswersOf};
 ghost use Rattle.cq_shards.specs.Internal.WorkerAnswers.{HasAnswered};
 
-use crate::search_game::search_game;
 use crate::answers::GameAnswer;
 use crate::matcher::Matcher;
+use crate::search_game::search_game;
 use cq_common::NoMemory;
 use cq_outside::Gate;
-use cq_workers::{GameTask, unit_states, run_workers};
+use cq_workers::{GameTask, run_workers, unit_states};
 use pgn_batches::Batch;
 use std::alloc::Global;
 use std::thread::Threads;
@@ -64,7 +64,11 @@ pub fn search_batch<R: Threads + Sync, A: Matcher + Sync, G: Gate + Sync>(
     requires { (1 ≤ workers) × (workers ≤ 64) }
     ensures { IfOk result (λ answers. AreAnswersOf (A.query matcher.now) batch.now answers.items) }
 {
-    let task = AnswerTask { matcher, batch, gate };
+    let task = AnswerTask {
+        matcher,
+        batch,
+        gate,
+    };
     let kept = unit_states(alloc, workers)?;
     let (_, answers) = run_workers(rt, alloc, &task, kept)?;
     Ok(answers)

@@ -4,11 +4,11 @@ ghost use Rattle.pgn_batches.specs.Games.{games_of};
 ghost use Rattle.cq_shards.specs.FirstMatch.{AnswersUpToFirst};
 ghost use Rattle.cq_shards.specs.Internal.Finders.{AreFound, HasSearched, IsSeatAt, HasReported, HasProcessedGame, board_games};
 
-use crate::search_game::search_game;
 use crate::answers::GameAnswer;
-use crate::matcher::Matcher;
 use crate::laws::ordered_answers_are_cut_off_behind_the_first_match;
+use crate::matcher::Matcher;
 use crate::order::{in_order, is_match};
+use crate::search_game::search_game;
 use cq_common::NoMemory;
 use cq_first::{FirstBoard, FirstSeat};
 use cq_outside::Gate;

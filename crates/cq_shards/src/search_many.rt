@@ -5,11 +5,11 @@ ghost use Rattle.cq_shards.specs.Many.{AreManyOf, answers_in};
 ghost use Rattle.cq_shards.specs.Internal.GameRows.{AreRowsOf, AreSplitOff, HasMadeRows};
 
 use crate::answers::GameAnswer;
-use crate::matcher::MultiMatcher;
 use crate::game_rows::{GameRow, search_game_many};
+use crate::matcher::MultiMatcher;
 use cq_common::{NoMemory, Shared};
 use cq_outside::Gate;
-use cq_workers::{GameTask, unit_states, run_workers};
+use cq_workers::{GameTask, run_workers, unit_states};
 use pgn_batches::Batch;
 use std::alloc::Global;
 use std::mem;
@@ -93,7 +93,11 @@ pub fn search_batch_many<R: Threads + Sync, A: MultiMatcher + Sync, G: Gate + Sy
     requires { (1 ≤ workers) × (workers ≤ 64) }
     ensures { IfOk result (λ many. AreManyOf (A.queries matcher.now) batch.now (answers_in many)) }
 {
-    let task = RowTask { matcher, batch, gate };
+    let task = RowTask {
+        matcher,
+        batch,
+        gate,
+    };
     let kept = unit_states(alloc, workers)?;
     let (_, rows) = run_workers(rt, alloc, &task, kept)?;
     by_query(alloc, matcher, batch, rows)

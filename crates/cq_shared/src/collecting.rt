@@ -10,7 +10,7 @@ ghost use Rattle.cq_shared.specs.Verdicts.{nodes_of, keys_of, IsKeyed, HaveKeys}
 use crate::keys::keys;
 use crate::narrowing::is_there;
 use crate::nodes::{NodeSet, SortRow, SortedNodes};
-use crate::part::{PartOwner, Part};
+use crate::part::{Part, PartOwner};
 use crate::verdicts::{HitsAndKeys, Verdicts};
 use cq_common::NoMemory;
 use cql_plan::laws::games_with_a_hit_pass;

@@ -13,7 +13,11 @@ use pgn_tree::Game;
 use std::alloc::Global;
 
 /// For each query the searched nodes of a game, or none where the game hasn't what the query needs.
-pub fn start_nodes(alloc: Global, owners: &[PartOwner], game: &Game) -> Result<Vec<NodeSet>, NoMemory>
+pub fn start_nodes(
+    alloc: Global,
+    owners: &[PartOwner],
+    game: &Game,
+) -> Result<Vec<NodeSet>, NoMemory>
     ensures { IfOk result (λ start_nodes. AreStartNodes game.now owners.now start_nodes.items) }
 {
     let mut start_nodes = Vec::with_capacity(alloc, owners.len())?;

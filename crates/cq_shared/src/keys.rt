@@ -5,7 +5,7 @@ ghost use Rattle.cq_shared.specs.Internal.Reading.{is_least, row_key, row_keys, 
 ghost use Rattle.cq_shared.specs.declared.nodes.SortRow.{SortRow as RowOf};
 
 use crate::nodes::SortRow;
-use crate::part::{PartOwner, Part};
+use crate::part::{Part, PartOwner};
 use crate::single::reading::filter_of;
 use cq_common::NoMemory;
 use cql_plan::key_over;

@@ -4,23 +4,23 @@
 //! part in a game; `specs/Verdicts` the result of each query.
 #![tactic(auto)]
 
-mod part_values;
-mod first_nodes;
-mod finding;
 mod collecting;
-mod keys;
+mod finding;
+mod first_nodes;
 mod interning;
+mod keys;
 pub mod laws;
+mod many_queries;
 mod matching;
 mod narrowing;
 mod nodes;
 mod part;
+mod part_values;
 mod plan;
-mod many_queries;
 mod single;
 mod table;
 mod verdicts;
 
-pub use plan::SharedPlan;
 pub use many_queries::match_all;
+pub use plan::SharedPlan;
 pub use verdicts::Verdicts;

@@ -8,7 +8,7 @@ ghost use Rattle.cq_shared.specs.StepBounds.{needed_parts};
 ghost use Rattle.cq_shared.specs.Verdicts.{nodes_of, keys_of, HaveKeys};
 
 use crate::matching::{nodes_left_by, sort_rows_by};
-use crate::{SharedPlan, Verdicts, start_nodes, collect_verdicts};
+use crate::{SharedPlan, Verdicts, collect_verdicts, start_nodes};
 use cq_common::{NoMemory, Steps};
 use pgn_tree::Game;
 use std::alloc::Global;

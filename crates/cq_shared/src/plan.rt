@@ -6,7 +6,7 @@ ghost use Rattle.cq_shared.specs.Parts.{parts_in_all, different, equal_parts};
 
 pub mod making;
 
-use crate::part::{PartOwner, Part};
+use crate::part::{Part, PartOwner};
 use cq_common::Shared;
 
 /// The queries of a plan and their different parts, each once.

@@ -10,7 +10,7 @@ mod rays;
 pub mod sets;
 pub mod slides;
 
-pub use leaps::{king_attacks, knight_attacks, black_pawn_attacks, white_pawn_attacks};
-pub use lines::{bishop_lines, bishop_attacks, rook_lines, rook_attacks};
-pub use sets::{highest_square, lowest_square, set_of, meets};
+pub use leaps::{black_pawn_attacks, king_attacks, knight_attacks, white_pawn_attacks};
+pub use lines::{bishop_attacks, bishop_lines, rook_attacks, rook_lines};
+pub use sets::{highest_square, lowest_square, meets, set_of};
 pub use slides::{BitSet64, slide};

@@ -1,9 +1,9 @@
 //! Workers that draw games by their numbers, each game once and by one worker, and make something of each.
 #![tactic(auto)]
 
-mod workers;
 mod game_task;
 mod starting;
+mod workers;
 
-pub use workers::{unit_states, run_workers};
 pub use game_task::GameTask;
+pub use workers::{run_workers, unit_states};

@@ -6,7 +6,7 @@
 
 pub mod binding;
 pub mod filter_column;
-pub mod standing_squares;
 pub mod nodes;
 pub mod scope;
 pub mod spans;
+pub mod standing_squares;

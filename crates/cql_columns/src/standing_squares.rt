@@ -10,7 +10,7 @@ ghost use Rattle.cql_columns.specs.Scopes.{tree_in};
 
 use crate::filter_column::blank_sets;
 use crate::scope::Scope;
-use crate::spans::{live_node_end, first_live_node};
+use crate::spans::{first_live_node, live_node_end};
 use cq_common::NoMemory;
 use cq_position::Man;
 use cql_syntax::Designator;

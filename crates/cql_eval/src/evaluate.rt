@@ -34,7 +34,7 @@ use cql_columns::binding::Binding;
 use cql_columns::filter_column::FilterColumn;
 use cql_columns::nodes::any_live;
 use cql_columns::scope::Scope;
-use cql_operators::from_other_nodes::{source_nodes, reads_other_nodes};
+use cql_operators::from_other_nodes::{reads_other_nodes, source_nodes};
 use cql_operators::narrow::part_of;
 use cql_pruning::order::CLASSES;
 use cql_syntax::{Chain, Filter, Filters, Form, Kind, Unary};

@@ -7,8 +7,8 @@
 
 pub mod column;
 mod evaluate;
-mod local;
 pub mod laws;
+mod local;
 mod query;
 
 pub use column::Column;

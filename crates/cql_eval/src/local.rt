@@ -9,7 +9,7 @@ ghost use Rattle.cql_columns.specs.Scopes.{tree_in};
 use cq_common::NoMemory;
 use cql_columns::binding::Binding;
 use cql_columns::filter_column::blank_truths;
-use cql_columns::spans::{live_node_end, first_live_node};
+use cql_columns::spans::{first_live_node, live_node_end};
 use cql_local::{NodeScope, is_cheap_locally, local_square_truth};
 use cql_syntax::Filter;
 use cql_values::names::Names;

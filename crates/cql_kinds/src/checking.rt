@@ -8,8 +8,8 @@ ghost use Rattle.cql_syntax.specs.TreeOf.{query_tree, filters_tree, filter_tree}
 ghost use Rattle.cql_syntax.specs.Weights.{query_weight};
 ghost use Rattle.cql_kinds.specs.Internal.Walks.{no_breaches, walk_result, limit_fault};
 
-use crate::first_breaches::FirstBreaches;
 use crate::bound_names::BoundNames;
+use crate::first_breaches::FirstBreaches;
 use crate::rules::holds_brace;
 use crate::typing_context::TypingContext;
 use crate::walk::walk;

@@ -62,7 +62,11 @@ fn faulty_comment(item: Option<usize>, text: &[u8]) -> Option<QueryReason>
 }
 
 // A name that is not bound.
-fn unbound_name(alloc: Global, names: &BoundNames, name: &[u8]) -> Result<Option<QueryReason>, NoMemory>
+fn unbound_name(
+    alloc: Global,
+    names: &BoundNames,
+    name: &[u8],
+) -> Result<Option<QueryReason>, NoMemory>
     ensures { IfOk result (λ reason. reason ≡ first (unbound_name (names_in names.now) (name_form name.now))) }
 {
     if names.binds(name) {

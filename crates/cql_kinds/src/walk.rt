@@ -6,11 +6,11 @@ ghost use Rattle.cql_syntax.specs.TreeOf.{filter_tree, form_tree, filters_tree, 
 ghost use Rattle.cql_kinds.specs.Internal.TypingContexts.{typing_context_of};
 ghost use Rattle.cql_kinds.specs.Internal.Walks.{walk_result};
 
-use crate::first_breaches::FirstBreaches;
 use crate::bound_names::BoundNames;
+use crate::first_breaches::FirstBreaches;
+use crate::operand_kinds::{pair_operand_kind, unary_operand_kind};
 use crate::rules::broken_rule;
 use crate::typing_context::TypingContext;
-use crate::operand_kinds::{pair_operand_kind, unary_operand_kind};
 use cq_common::Refusal;
 use cql_syntax::{Body, Constituents, Filter, Filters, Form, Kind, Played, QueryFault, Terms};
 use std::alloc::Global;
@@ -47,7 +47,12 @@ fn walk_inner(
     match form {
         Form::Squares(_) | Form::Number(_) | Form::Name(_) | Form::Plain(_) => Ok(firsts),
         Form::Tagged(..) | Form::Outcome(_) | Form::Elo(_) | Form::Comment(_) => Ok(firsts),
-        Form::Unary(unary, part) => walk(alloc, part, standing.part(unary_operand_kind(*unary)), firsts),
+        Form::Unary(unary, part) => walk(
+            alloc,
+            part,
+            standing.part(unary_operand_kind(*unary)),
+            firsts,
+        ),
         Form::Steps(.., part) => walk(alloc, part, standing.part(Kind::Set), firsts),
         Form::Sort(.., part) => walk(alloc, part, standing.part(Kind::Number), firsts),
         Form::Transform(_, part) => walk(alloc, part, standing.part(Kind::Position), firsts),
@@ -69,7 +74,12 @@ fn walk_inner(
             let among = standing.part_of_square(Kind::Set);
             let after_squares = walk(alloc, squares, among, firsts)?;
             let names = BoundNames::Bound(name.as_slice(), standing.names);
-            walk(alloc, asked, standing.square_condition(&names), after_squares)
+            walk(
+                alloc,
+                asked,
+                standing.square_condition(&names),
+                after_squares,
+            )
         }
         Form::Line(line) => walk_parts(alloc, &line.parts, standing.part(Kind::Position), firsts),
         Form::Played(played) => walk_played(alloc, played, standing.part(Kind::Set), firsts),

@@ -8,8 +8,8 @@ ghost use Rattle.cql_lines.specs.PatternTrees.{pattern_tree};
 ghost use Rattle.cql_lines.specs.Automata.{places, IsAutomatonOf, UsesBelow};
 
 use crate::automaton::{Automaton, FollowSet, Transition};
-use crate::pattern::Pattern;
 use crate::binary_pattern::{BinaryPattern, plain_of};
+use crate::pattern::Pattern;
 use cq_common::NoMemory;
 use std::alloc::{AllocError, Global};
 
@@ -123,7 +123,11 @@ fn first_of_times(p: &BinaryPattern, n: u32, at: usize) -> u64
 
 /// Adds the places of a pattern, after which a path goes on by `next`, and answers those that read its first node.
 #[cycle(build)]
-pub fn build(p: &BinaryPattern, next: FollowSet, rules: &mut Vec<Transition>) -> Result<u64, AllocError>
+pub fn build(
+    p: &BinaryPattern,
+    next: FollowSet,
+    rules: &mut Vec<Transition>,
+) -> Result<u64, AllocError>
     requires { length rules.old.items + size (plain_tree p.now) ≤ 64 }
     ensures rows { OnOk result (rules.new.items ≡ rules.old.items ++ rows (plain_tree p.now) next (length rules.old.items)) }
     ensures first { IfOk result (λ f. f ≡ firsts (plain_tree p.now) (length rules.old.items)) }

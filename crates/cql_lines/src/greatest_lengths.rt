@@ -6,8 +6,8 @@ ghost use Rattle.cql_lines.specs.declared.automaton.Transition.{Transition as Ru
 
 use crate::automaton::Transition;
 use crate::masks::{first_place, past_places};
-use crate::state_lengths::StateLengths;
 use crate::shape::Limits;
+use crate::state_lengths::StateLengths;
 
 // The greatest value of the first places that are in the mask.
 fn greatest(mask: u64, row: &[u32; 64], count: usize) -> u32

@@ -9,8 +9,8 @@ ghost use Rattle.cql_lines.specs.declared.automaton.Transition.{Transition as Ru
 
 use crate::automaton::Transition;
 use crate::masks::{first_place, past_places};
-use crate::state_lengths::StateLengths;
 use crate::shape::Limits;
+use crate::state_lengths::StateLengths;
 
 fn with_lengths(set: u128, mask: u64, j: usize, more: u128) -> u128
     requires { j < 64 }

@@ -3,17 +3,17 @@
 #![tactic(auto)]
 
 pub mod automaton;
+mod binary_pattern;
 mod build;
+mod greatest_lengths;
+mod length_sets;
 mod lines;
 mod masks;
 pub mod pattern;
-mod binary_pattern;
-mod state_lengths;
-mod length_sets;
 pub mod shape;
+mod state_lengths;
 pub mod table;
 mod tree;
-mod greatest_lengths;
 mod visits;
 
 pub use automaton::Automaton;

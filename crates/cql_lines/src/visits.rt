@@ -10,15 +10,21 @@ ghost use Rattle.cql_lines.specs.Internal.UpwardPass.{UpInvariant, IsAbove};
 ghost use Rattle.cql_lines.specs.Values.{GreatestWhere};
 
 use crate::automaton::Transition;
-use crate::state_lengths::StateLengths;
 use crate::shape::Shape;
+use crate::state_lengths::StateLengths;
 use crate::table::AtomTable;
 use cq_common::{NoMemory, Steps};
 use std::alloc::{AllocError, Global};
 use std::sync::ledger::Ledger;
 
 // What a node's lengths give to those of the node above.
-fn merge_into_parent<R: StateLengths>(shape: &Shape, node: usize, rows: &mut [R], own: &R, count: usize)
+fn merge_into_parent<R: StateLengths>(
+    shape: &Shape,
+    node: usize,
+    rows: &mut [R],
+    own: &R,
+    count: usize,
+)
     requires count { count ≤ 64 }
     requires past { (j : ℕ) → count ≤ j → R.cells own.now j ≡ 0 }
     requires node { node < length shape.now.tree_nodes.items }

@@ -6,8 +6,8 @@ ghost use Rattle.cql_syntax.specs.TreeOf.{filter_tree};
 ghost use Rattle.cql_syntax.specs.Values as spec;
 ghost use Rattle.cql_values.specs.ValueModel.{as_value};
 
-use crate::local_cost::{is_cheap, is_moved};
 use crate::evaluate::square_at;
+use crate::local_cost::{is_cheap, is_moved};
 use crate::node_scope::NodeScope;
 use cq_common::{NoMemory, Refusal};
 use cql_syntax::Filter;

@@ -145,7 +145,13 @@ fn fixed_or_all(trial: &LocalBinding, part: &Filter) -> u64
 }
 
 // Of men that attack a square, or that are attacked from it.
-fn candidates_in_pair(trial: &LocalBinding, pair: Pair, first: &Filter, second: &Filter, set: u64) -> u64
+fn candidates_in_pair(
+    trial: &LocalBinding,
+    pair: Pair,
+    first: &Filter,
+    second: &Filter,
+    set: u64,
+) -> u64
     requires { IsAt trial.now.place.now }
     ensures { KeepsCandidates (λ s. spec.holds (spec.pair_of (position_of trial.now).men pair
         (value_with trial.now (filter_tree first.now) s) (value_with trial.now (filter_tree second.now) s))) set result }

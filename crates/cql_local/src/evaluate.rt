@@ -16,13 +16,13 @@ ghost use Rattle.cql_values.specs.FilterValues.{settles};
 ghost use Rattle.cql_values.specs.Bindings.{rebound};
 ghost use Rattle.cql_values.specs.ValueModel.{as_value};
 
+use crate::candidates::squares_to_try;
+use crate::leaves::local_leaf;
 use crate::move_ends::ends_of;
+use crate::moves_sought::{MoveConstraint, may_hold, moves_sought};
+use crate::node_scope::NodeScope;
 use crate::not_local::NotLocal;
 use cq_common::Refusal;
-use crate::leaves::local_leaf;
-use crate::node_scope::NodeScope;
-use crate::moves_sought::{MoveConstraint, may_hold, moves_sought};
-use crate::candidates::squares_to_try;
 use cq_geometry::Square;
 use cq_square_sets::lowest_square;
 use cql_played::Led;
@@ -37,7 +37,11 @@ use cql_values::words::directions;
 
 /// What a filter gives at a node.
 #[cycle(evaluate)]
-pub(crate) fn evaluate(f: &Filter, place: &NodeScope, names: &mut Names) -> Result<Value, Refusal<NotLocal>>
+pub(crate) fn evaluate(
+    f: &Filter,
+    place: &NodeScope,
+    names: &mut Names,
+) -> Result<Value, Refusal<NotLocal>>
     requires { IsAt place.now }
     ensures value { IfOk result (λ v. as_value v ≡ value_at place.now names.old (filter_tree f.now) place.now.node) }
     ensures names { names.new ≡ names.old }
@@ -87,7 +91,12 @@ pub(crate) fn evaluate(f: &Filter, place: &NodeScope, names: &mut Names) -> Resu
 
 // What a word or mark before a part gives.
 #[cycle(evaluate)]
-fn unary_at(word: Unary, part: &Filter, place: &NodeScope, names: &mut Names) -> Result<Value, Refusal<NotLocal>>
+fn unary_at(
+    word: Unary,
+    part: &Filter,
+    place: &NodeScope,
+    names: &mut Names,
+) -> Result<Value, Refusal<NotLocal>>
     requires { IsAt place.now }
     ensures value { IfOk result (λ v. as_value v ≡ meaning.unary_of (tree_of place.now) word
         (value_at place.now names.old (filter_tree part.now)) place.now.node) }
@@ -107,7 +116,11 @@ fn unary_at(word: Unary, part: &Filter, place: &NodeScope, names: &mut Names) ->
 
 // Whether a filter holds at the parent of a node, if it has one.
 #[cycle(evaluate)]
-fn at_parent(part: &Filter, place: &NodeScope, names: &mut Names) -> Result<Value, Refusal<NotLocal>>
+fn at_parent(
+    part: &Filter,
+    place: &NodeScope,
+    names: &mut Names,
+) -> Result<Value, Refusal<NotLocal>>
     requires { IsAt place.now }
     ensures value { IfOk result (λ v. as_value v ≡ meaning.some_node (value_at place.now names.old (filter_tree part.now))
         (option_to_list (games.node_at place.now.game.now.nodes place.now.node).parent)) }
@@ -126,7 +139,11 @@ fn at_parent(part: &Filter, place: &NodeScope, names: &mut Names) -> Result<Valu
 
 // Whether a filter holds at a child of a node, one of those that are searched.
 #[cycle(evaluate)]
-fn some_child(part: &Filter, place: &NodeScope, names: &mut Names) -> Result<Value, Refusal<NotLocal>>
+fn some_child(
+    part: &Filter,
+    place: &NodeScope,
+    names: &mut Names,
+) -> Result<Value, Refusal<NotLocal>>
     requires { IsAt place.now }
     ensures value { IfOk result (λ v. as_value v ≡ meaning.some_node (value_at place.now names.old (filter_tree part.now))
         (children_in (tree_of place.now) place.now.node)) }
@@ -149,7 +166,11 @@ fn some_child(part: &Filter, place: &NodeScope, names: &mut Names) -> Result<Val
 
 // Whether a node is searched, and a filter holds there.
 #[cycle(evaluate)]
-fn holds_searched(part: &Filter, place: &NodeScope, names: &mut Names) -> Result<bool, Refusal<NotLocal>>
+fn holds_searched(
+    part: &Filter,
+    place: &NodeScope,
+    names: &mut Names,
+) -> Result<bool, Refusal<NotLocal>>
     requires { IsAt place.now }
     ensures value { IfOk result (λ b. b ≡ (games.is_searched place.now.variations place.now.game.now.nodes place.now.node
         && spec.holds (value_at place.now names.old (filter_tree part.now) place.now.node))) }
@@ -164,7 +185,11 @@ fn holds_searched(part: &Filter, place: &NodeScope, names: &mut Names) -> Result
 
 // Whether a filter holds at a node or at one above it.
 #[cycle(evaluate)]
-fn some_above(part: &Filter, place: &NodeScope, names: &mut Names) -> Result<Value, Refusal<NotLocal>>
+fn some_above(
+    part: &Filter,
+    place: &NodeScope,
+    names: &mut Names,
+) -> Result<Value, Refusal<NotLocal>>
     requires { IsAt place.now }
     ensures value { IfOk result (λ v. as_value v ≡ meaning.some_node (value_at place.now names.old (filter_tree part.now))
         (games.way_up place.now.game.now.nodes place.now.node)) }
@@ -205,7 +230,12 @@ fn holds_after(
 
 // What a chain gives.
 #[cycle(evaluate)]
-fn chain_at(chain: Chain, parts: &Filters, place: &NodeScope, names: &mut Names) -> Result<Value, Refusal<NotLocal>>
+fn chain_at(
+    chain: Chain,
+    parts: &Filters,
+    place: &NodeScope,
+    names: &mut Names,
+) -> Result<Value, Refusal<NotLocal>>
     requires { IsAt place.now }
     ensures value { IfOk result (λ v. as_value v
         ≡ spec.chain_of chain (values_at place.now names.old (filters_tree parts.now) place.now.node)) }
@@ -222,7 +252,12 @@ fn chain_at(chain: Chain, parts: &Filters, place: &NodeScope, names: &mut Names)
 
 // What one of some filters of a kind gives, or all of them together.
 #[cycle(evaluate)]
-fn any_at(kind: Kind, parts: &Filters, place: &NodeScope, names: &mut Names) -> Result<Value, Refusal<NotLocal>>
+fn any_at(
+    kind: Kind,
+    parts: &Filters,
+    place: &NodeScope,
+    names: &mut Names,
+) -> Result<Value, Refusal<NotLocal>>
     requires { IsAt place.now }
     ensures value { IfOk result (λ v. as_value v ≡ spec.any_of kind (values_at place.now names.old (filters_tree parts.now) place.now.node)) }
     ensures names { names.new ≡ names.old }
@@ -252,7 +287,11 @@ fn all_of(parts: &Filters, place: &NodeScope, names: &mut Names) -> Result<Value
 
 // Whether one of some filters holds.
 #[cycle(evaluate)]
-fn some_of(parts: &Filters, place: &NodeScope, names: &mut Names) -> Result<Value, Refusal<NotLocal>>
+fn some_of(
+    parts: &Filters,
+    place: &NodeScope,
+    names: &mut Names,
+) -> Result<Value, Refusal<NotLocal>>
     requires { IsAt place.now }
     ensures value { IfOk result (λ v. as_value v ≡ spec.some_holds (values_at place.now names.old (filters_tree parts.now) place.now.node)) }
     ensures names { names.new ≡ names.old }
@@ -268,7 +307,11 @@ fn some_of(parts: &Filters, place: &NodeScope, names: &mut Names) -> Result<Valu
 
 // The squares that are in one of some sets.
 #[cycle(evaluate)]
-fn union_of(parts: &Filters, place: &NodeScope, names: &mut Names) -> Result<Value, Refusal<NotLocal>>
+fn union_of(
+    parts: &Filters,
+    place: &NodeScope,
+    names: &mut Names,
+) -> Result<Value, Refusal<NotLocal>>
     requires { IsAt place.now }
     ensures value { IfOk result (λ v. as_value v ≡ spec.union_of (values_at place.now names.old (filters_tree parts.now) place.now.node)) }
     ensures names { names.new ≡ names.old }
@@ -283,7 +326,11 @@ fn union_of(parts: &Filters, place: &NodeScope, names: &mut Names) -> Result<Val
 
 // The squares that are in each of some sets.
 #[cycle(evaluate)]
-fn common_of(parts: &Filters, place: &NodeScope, names: &mut Names) -> Result<Value, Refusal<NotLocal>>
+fn common_of(
+    parts: &Filters,
+    place: &NodeScope,
+    names: &mut Names,
+) -> Result<Value, Refusal<NotLocal>>
     requires { IsAt place.now }
     ensures value { IfOk result (λ v. as_value v
         ≡ spec.intersection_of (values_at place.now names.old (filters_tree parts.now) place.now.node)) }
@@ -356,7 +403,11 @@ fn some_settles(
 // Whether the move that led to a node is as it is asked for: where it came from and what it took is asked at the node before, its goal and
 // what it became at the node itself.
 #[cycle(evaluate)]
-fn played_at(played: &Played, place: &NodeScope, names: &mut Names) -> Result<bool, Refusal<NotLocal>>
+fn played_at(
+    played: &Played,
+    place: &NodeScope,
+    names: &mut Names,
+) -> Result<bool, Refusal<NotLocal>>
     requires { IsAt place.now }
     ensures value { IfOk result (λ b. b ≡ meaning.played_value (tree_of place.now) [] names.old (played_tree played.now) place.now.node) }
     ensures names { names.new ≡ names.old }

@@ -5,21 +5,25 @@ ghost use Rattle.cql_syntax.specs.Meaning as meaning;
 ghost use Rattle.cql_syntax.specs.TreeOf.{filter_tree};
 ghost use Rattle.cql_values.specs.ValueModel.{as_value};
 
+use crate::node_scope::NodeScope;
 use crate::not_local::NotLocal;
 use cq_common::Refusal;
-use crate::node_scope::NodeScope;
 use cq_position::in_check;
 use cql_syntax::{Filter, Form, Plain};
 use cql_values::headers::{has_text, is_result, rating, year};
 use cql_values::names::Names;
 use cql_values::numbers::count_value;
 use cql_values::value::Value;
-use cql_values::words::{is_white, is_mated, is_stalemated, standing_on};
+use cql_values::words::{is_mated, is_stalemated, is_white, standing_on};
 
 /// What a filter without parts gives; one that has parts, or asks for other nodes, is answered elsewhere.
 #[inline(always)]
 #[tactic(auto, unfolding(cql_syntax::specs::Meaning::value, cql_syntax::specs::Contexts::designator_image))]
-pub(crate) fn local_leaf(f: &Filter, place: &NodeScope, names: &Names) -> Result<Value, Refusal<NotLocal>>
+pub(crate) fn local_leaf(
+    f: &Filter,
+    place: &NodeScope,
+    names: &Names,
+) -> Result<Value, Refusal<NotLocal>>
     requires { IsAt place.now }
     ensures { IfOk result (λ v. as_value v ≡ value_at place.now names.now (filter_tree f.now) place.now.node) }
 {

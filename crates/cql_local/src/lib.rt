@@ -5,14 +5,14 @@
 #![tactic(auto)]
 
 mod calls;
+mod candidates;
+mod evaluate;
+mod leaves;
 mod local_cost;
 mod move_ends;
-mod evaluate;
-mod not_local;
-mod leaves;
-mod node_scope;
 mod moves_sought;
-mod candidates;
+mod node_scope;
+mod not_local;
 
 pub use calls::{is_cheap_locally, local_square_truth};
 pub use node_scope::NodeScope;

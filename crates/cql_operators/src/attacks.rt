@@ -10,8 +10,8 @@ ghost use Rattle.cql_columns.specs.Scopes.{tree_in};
 use crate::combine::{held, pair_column};
 use cq_common::NoMemory;
 use cql_columns::filter_column::FilterColumn;
-use cql_columns::standing_squares::standing_sets;
 use cql_columns::scope::Scope;
+use cql_columns::standing_squares::standing_sets;
 use cql_syntax::{Designator, Pair};
 use std::alloc::Global;
 

@@ -14,7 +14,7 @@ use cq_common::NoMemory;
 use cq_geometry::Compass;
 use cql_columns::filter_column::{FilterColumn, blank_sets, blank_truths, blank_values};
 use cql_columns::scope::Scope;
-use cql_columns::spans::{live_node_end, live_end, first_live_node, first_live};
+use cql_columns::spans::{first_live, first_live_node, live_end, live_node_end};
 use cql_syntax::{Chain, Kind, Pair, Unary};
 use cql_values::combine::{any_of, chain_of, compares, if_of, related, unary_of_value};
 use cql_values::numbers::total;
@@ -24,7 +24,11 @@ use pgn_tree::Game;
 use std::alloc::Global;
 
 /// Where a column doesn't hold.
-pub fn negated_truths(alloc: Global, column: &FilterColumn, live: &[bool]) -> Result<Vec<bool>, NoMemory>
+pub fn negated_truths(
+    alloc: Global,
+    column: &FilterColumn,
+    live: &[bool],
+) -> Result<Vec<bool>, NoMemory>
     ensures { IfOk result (λ truths. AreTruths truths.items live.now (λ n. spec.as_truth (not (spec.holds (shown column.now n))))) }
 {
     let end = live_end(live);

@@ -7,7 +7,8 @@ ghost use Rattle.cql_columns.specs.Scopes.{tree_in};
 ghost use Rattle.cql_operators.specs.OtherNodes.{is_from_other_nodes, CoverSourceNodes, FindSourceNodes, GatherSourceSquares, AddSquaresToParent, set_of_node};
 
 use crate::tree::{
-    above, below, children, with_descendants, none, of_parents, parents, with_ancestors, with_parents,
+    above, below, children, none, of_parents, parents, with_ancestors, with_descendants,
+    with_parents,
 };
 use cq_common::NoMemory;
 use cql_columns::filter_column::{blank_sets, set_at};

@@ -10,7 +10,7 @@ use cq_common::NoMemory;
 use cql_columns::filter_column::{FilterColumn, number_at, set_at, truth_at, value_at};
 use cql_columns::nodes::same;
 use cql_columns::scope::Scope;
-use cql_columns::spans::{live_end, first_live};
+use cql_columns::spans::{first_live, live_end};
 use cql_values::value::Value;
 use std::alloc::Global;
 

@@ -11,7 +11,7 @@ use cq_common::NoMemory;
 use cq_geometry::Square;
 use cql_columns::filter_column::{FilterColumn, set_at, truth_at};
 use cql_columns::nodes::same;
-use cql_columns::spans::{live_end, first_live};
+use cql_columns::spans::{first_live, live_end};
 use cql_values::sets::has_square;
 use cql_values::value::Value;
 use std::alloc::Global;

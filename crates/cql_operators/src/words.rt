@@ -11,7 +11,7 @@ ghost use Rattle.cql_columns.specs.Scopes.{tree_in};
 use cq_common::NoMemory;
 use cql_columns::filter_column::blank_values;
 use cql_columns::scope::Scope;
-use cql_columns::spans::{live_node_end, first_live_node};
+use cql_columns::spans::{first_live_node, live_node_end};
 use cql_syntax::Plain;
 use cql_values::counts::counts;
 use cql_values::numbers::count_value;

@@ -89,7 +89,12 @@ fn new_pair(alloc: Global, first: Filter, pair: Pair, second: Filter) -> Result<
 }
 
 // A row of two filters.
-fn new_infix(alloc: Global, first: Filter, joint: InfixOperator, second: Filter) -> Result<Form, NoMemory>
+fn new_infix(
+    alloc: Global,
+    first: Filter,
+    joint: InfixOperator,
+    second: Filter,
+) -> Result<Form, NoMemory>
     ensures { IfOk result (λ f. form_tree f ≡ new_infix (filter_tree first) joint (filter_tree second)) }
 {
     match joint {
@@ -124,7 +129,12 @@ fn longer_sum(terms: Terms, minus: bool, next: Filter) -> Result<Form, NoMemory>
 }
 
 // A row, and one filter more at its end.
-fn longer_infix(alloc: Global, row: Filter, joint: InfixOperator, next: Filter) -> Result<Form, NoMemory>
+fn longer_infix(
+    alloc: Global,
+    row: Filter,
+    joint: InfixOperator,
+    next: Filter,
+) -> Result<Form, NoMemory>
     ensures { IfOk result (λ f. form_tree f ≡ longer_infix (form_tree row.form) (filter_tree row) joint (filter_tree next)) }
 {
     let at = row.at;

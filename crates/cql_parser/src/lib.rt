@@ -1,16 +1,16 @@
 //! The grammar of queries: which query a list of tokens spells.
 #![tactic(auto)]
 
-mod partial_filter;
 mod head;
-mod laws;
-mod production;
-mod parsing;
-mod rule_state;
-mod parser;
-mod role;
 mod infix;
+mod laws;
 mod open_rule;
+mod parser;
+mod parsing;
+mod partial_filter;
+mod production;
+mod role;
+mod rule_state;
 mod stack;
 
 pub use laws::{

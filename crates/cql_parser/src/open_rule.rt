@@ -5,7 +5,7 @@ ghost use Rattle.cql_parser.specs.RuleStates.{next};
 ghost use Rattle.cql_parser.specs.Internal.TreeBuilder.{tree_builder};
 ghost use Rattle.cql_parser.specs.Internal.Models.{node_model, partial_filter_model, rule_model};
 
-use crate::partial_filter::{PartialFilter, Node};
+use crate::partial_filter::{Node, PartialFilter};
 use crate::rule_state::RuleState;
 use cq_common::NoMemory;
 use cql_syntax::QueryToken;
@@ -33,7 +33,12 @@ impl OpenRule {
 
     /// The rule with a token more along it, and the place after that. A refused one is dropped, by a call, whose proof is shorter than
     /// that of a `?`.
-    pub fn add(self, alloc: Global, token: &QueryToken, place: RuleState) -> Result<OpenRule, NoMemory>
+    pub fn add(
+        self,
+        alloc: Global,
+        token: &QueryToken,
+        place: RuleState,
+    ) -> Result<OpenRule, NoMemory>
         ensures { IfOk result (λ r. rule_model r ≡ tree_builder.add_of (rule_model self) token.now place) }
     {
         let mut rule = self;

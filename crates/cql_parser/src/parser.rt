@@ -11,12 +11,12 @@ ghost use Rattle.cql_parser.specs.Internal.Models.{node_model, partial_filter_mo
 ghost use Rattle.cql_parser.specs.Internal.Frames.{frame_model};
 ghost use Rattle.cql_parser.specs.Internal.ParserStates.{at_start, head_in, items_in, frames_in, state_model, is_fault, step_model, HasEnded, query_in};
 
-use crate::partial_filter::{Node, filter_in};
 use crate::head::Head;
-use crate::rule_state::{HeadState, RuleState, goes, heads, opens};
-use crate::role::{Role, joins, infix_level, infix_operator_of, role_of, takes};
 use crate::infix::joined;
 use crate::open_rule::OpenRule;
+use crate::partial_filter::{Node, filter_in};
+use crate::role::{Role, infix_level, infix_operator_of, joins, role_of, takes};
+use crate::rule_state::{HeadState, RuleState, goes, heads, opens};
 use crate::stack::{DEPTH_LIMIT, Frame, Stack};
 use cq_common::NoMemory;
 use cql_syntax::{Filters, Query, QueryToken};
@@ -100,7 +100,12 @@ impl Parser {
     }
 
     // A token where a filter is due.
-    fn start(&mut self, alloc: Global, token: &QueryToken, role: Role) -> Result<ParserState, NoMemory>
+    fn start(
+        &mut self,
+        alloc: Global,
+        token: &QueryToken,
+        role: Role,
+    ) -> Result<ParserState, NoMemory>
         ensures { IfOk result (λ r. state_model r self.new ≡
             start tree_builder most_open (head_in self.old) (items_in self.old) (frames_in self.old) token.now role) }
     {
@@ -254,7 +259,12 @@ impl Parser {
 
     // A token after the head.
     #[tactic(auto, unfolding(crate::specs::Internal::Machine::feed))]
-    fn read(&mut self, alloc: Global, token: &QueryToken, role: Role) -> Result<ParserState, NoMemory>
+    fn read(
+        &mut self,
+        alloc: Global,
+        token: &QueryToken,
+        role: Role,
+    ) -> Result<ParserState, NoMemory>
         requires { role ≡ role_by token.now.kind }
         ensures { IfOk result (λ r. state_model r self.new ≡
             feed tree_builder most_open (reading (head_in self.old) (items_in self.old) (frames_in self.old)) token.now) }

@@ -3,8 +3,8 @@ ghost use Rattle.std.specs.Prelude.{◌≡◌, IfOk};
 ghost use Rattle.cql_parser.specs.Faults.{IsEnded, Parses};
 ghost use Rattle.cql_parser.specs.Internal.ParserStates.{reason_of};
 
+use crate::parser::{Parser, ParserState};
 use crate::rule_state::HeadState;
-use crate::parser::{ParserState, Parser};
 use cq_common::{Bytes, NoMemory, Refusal};
 use cql_syntax::{Query, QueryFault, QueryReason, QueryToken, QueryTokenKind};
 use std::alloc::Global;

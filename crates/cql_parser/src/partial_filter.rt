@@ -83,7 +83,11 @@ fn extent_between(least: Option<PathLength>, most: Option<PathLength>) -> Extent
 
 impl PartialFilter {
     /// The first token of a rule, which leads to a place.
-    pub fn new(alloc: Global, token: &QueryToken, place: RuleState) -> Result<PartialFilter, NoMemory>
+    pub fn new(
+        alloc: Global,
+        token: &QueryToken,
+        place: RuleState,
+    ) -> Result<PartialFilter, NoMemory>
         ensures { IfOk result (λ d. partial_filter_model d ≡ partial_filter_of token.now place) }
     {
         Ok(PartialFilter {
@@ -176,7 +180,12 @@ impl PartialFilter {
     }
 
     /// A token along the rule, by the place before it.
-    pub fn add(&mut self, alloc: Global, token: &QueryToken, place: RuleState) -> Result<(), NoMemory>
+    pub fn add(
+        &mut self,
+        alloc: Global,
+        token: &QueryToken,
+        place: RuleState,
+    ) -> Result<(), NoMemory>
         ensures { OnOk result (partial_filter_model self.new ≡ say (partial_filter_model self.old) token.now.kind place) }
     {
         match &token.kind {
@@ -197,9 +206,10 @@ impl PartialFilter {
         ensures { OnOk result (partial_filter_model self.new ≡ take (partial_filter_model self.old) (node_model node) place) }
     {
         match place {
-            RuleState::Condition | RuleState::SquaresDue | RuleState::BetweenFirst | RuleState::Origin => {
-                fill(&mut self.slots.one, alloc, node)
-            }
+            RuleState::Condition
+            | RuleState::SquaresDue
+            | RuleState::BetweenFirst
+            | RuleState::Origin => { fill(&mut self.slots.one, alloc, node) }
             RuleState::Consequence | RuleState::BetweenSecond | RuleState::Goal => {
                 fill(&mut self.slots.two, alloc, node)
             }

@@ -320,9 +320,13 @@ fn word_state(place: RuleState, word: Word) -> Option<RuleState>
         (RuleState::LineStart, Word::Primary) => Some(RuleState::LineExtent),
         (RuleState::Move, Word::From) => Some(RuleState::Origin),
         (RuleState::Move | RuleState::MovedFrom, Word::To) => Some(RuleState::Goal),
-        (RuleState::Move | RuleState::MovedFrom | RuleState::MovedTo, Word::Capture) => Some(RuleState::Taken),
-        (RuleState::Move | RuleState::MovedFrom | RuleState::MovedTo | RuleState::MovedTaking, Word::Promote) =>
-            Some(RuleState::Promoted),
+        (RuleState::Move | RuleState::MovedFrom | RuleState::MovedTo, Word::Capture) => Some(
+            RuleState::Taken,
+        ),
+        (
+            RuleState::Move | RuleState::MovedFrom | RuleState::MovedTo | RuleState::MovedTaking,
+            Word::Promote,
+        ) => Some(RuleState::Promoted),
         _ => None,
     }
 }
@@ -336,16 +340,14 @@ fn sign_state(place: RuleState, sign: Sign) -> Option<RuleState>
         (RuleState::FindDue, Sign::BackArrow) => Some(RuleState::Pre),
         (RuleState::BetweenOpen, Sign::Open) => Some(RuleState::BetweenFirst),
         (RuleState::ListOpen, Sign::Open) => Some(RuleState::ListFirst),
-        (RuleState::BetweenClose | RuleState::ListMore | RuleState::ParensClose, Sign::Close) => Some(
-            RuleState::Closed,
-        ),
+        (RuleState::BetweenClose | RuleState::ListMore | RuleState::ParensClose, Sign::Close) =>
+            Some(RuleState::Closed),
         (RuleState::BracesMore, Sign::CloseBrace) => Some(RuleState::Closed),
-        (RuleState::LineStart | RuleState::LineExtent | RuleState::LineArrow, Sign::Arrow) => Some(RuleState::Part(
-            false, false,
-        )),
-        (RuleState::LineStart | RuleState::LineExtent | RuleState::LineArrow, Sign::BackArrow) => Some(
-            RuleState::Part(false, true),
+        (RuleState::LineStart | RuleState::LineExtent | RuleState::LineArrow, Sign::Arrow) => Some(
+            RuleState::Part(false, false),
         ),
+        (RuleState::LineStart | RuleState::LineExtent | RuleState::LineArrow, Sign::BackArrow) =>
+            Some(RuleState::Part(false, true)),
         (RuleState::Bare(group, back), sign) => unmarked_part_state(group, back, sign),
         (RuleState::Counted(group, back), sign) => count_mark_state(group, back, sign),
         (RuleState::UpEnd(group, back), Sign::CloseBrace) => Some(RuleState::Marked(group, back)),
@@ -478,8 +480,10 @@ impl RuleState {
             RuleState::Condition => RuleState::ThenDue,
             RuleState::Consequence => RuleState::ElseDue,
             RuleState::SquaresDue => RuleState::Pre,
-            RuleState::Tight | RuleState::Direction | RuleState::OneNumber | RuleState::TwoNumbers =>
-                RuleState::TightDone,
+            RuleState::Tight
+            | RuleState::Direction
+            | RuleState::OneNumber
+            | RuleState::TwoNumbers => RuleState::TightDone,
             RuleState::BetweenFirst => RuleState::BetweenSecond,
             RuleState::BetweenSecond => RuleState::BetweenClose,
             RuleState::ListFirst => RuleState::ListSecond,

@@ -5,10 +5,10 @@ ghost use Rattle.cql_parser.specs.Internal.Machine.{depth as open_in, due as due
 ghost use Rattle.cql_parser.specs.Internal.TreeBuilder.{tree_builder};
 ghost use Rattle.cql_parser.specs.Internal.Frames.{frame_model, stack_model, opened, Popped};
 
-use crate::partial_filter::Node;
-use crate::rule_state::OperandContext;
-use crate::role::{InfixOperator, infix_level};
 use crate::open_rule::OpenRule;
+use crate::partial_filter::Node;
+use crate::role::{InfixOperator, infix_level};
+use crate::rule_state::OperandContext;
 use cq_common::NoMemory;
 use std::alloc::Global;
 

@@ -16,8 +16,8 @@ ghost use Rattle.cql_plain.specs.Internal.Scopes.{tree_in, value_in, candidate_n
 mod lines;
 mod played;
 
-use crate::scope::Scope;
 use crate::occupied_squares::occupied_squares;
+use crate::scope::Scope;
 use cq_common::NoMemory;
 use cq_geometry::Square;
 use cq_symmetry::{Family, Mapping, member, size as family_size};

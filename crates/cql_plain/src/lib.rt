@@ -4,12 +4,12 @@
 //! `cql_syntax/specs/Meaning` has the meaning, `cql_values` the values and their combination.
 #![tactic(auto)]
 
-mod typed_values;
 mod evaluate;
-mod paths;
-mod path_places;
-mod scope;
 mod occupied_squares;
+mod path_places;
+mod paths;
+mod scope;
+mod typed_values;
 
-pub use typed_values::{holds_at, number_at, set_at, value_at};
 pub use cql_values::Names;
+pub use typed_values::{holds_at, number_at, set_at, value_at};

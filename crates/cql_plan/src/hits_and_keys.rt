@@ -64,7 +64,12 @@ pub(crate) fn keys(alloc: Global, told: &QueryColumn, nodes: &[u32]) -> Result<V
 
 // Adds the key of an item, where it is a sort item.
 #[tactic(auto, unfolding(cql_syntax::specs::Meaning::value))]
-fn add_key(keys: &mut Vec<i64>, item: &Filter, told: &QueryColumn, nodes: &[u32]) -> Result<(), NoMemory>
+fn add_key(
+    keys: &mut Vec<i64>,
+    item: &Filter,
+    told: &QueryColumn,
+    nodes: &[u32],
+) -> Result<(), NoMemory>
     requires some { 0 < length nodes.now }
     requires holds { All (λ n. item_holds (searched_tree told.now.game.now told.now.query.now.variations) n item.now ≡ true) nodes.now }
     requires rows { AreRowsFrom (searched_tree told.now.game.now told.now.query.now.variations) nodes.now (keys_of told.now.column)

@@ -4,9 +4,9 @@
 //! of the query that is asked: it has the query's hits and keys, and costs no more looks. `cql_syntax/specs/Hits` has hits and keys.
 #![tactic(auto)]
 
+mod hashing;
 mod hits_and_keys;
 mod joining;
-mod hashing;
 mod keys;
 pub mod laws;
 mod lifting;

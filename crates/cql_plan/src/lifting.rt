@@ -65,7 +65,12 @@ fn divide(alloc: Global, parts: &Filters, members: &Filters) -> Result<CommonAnd
     Ok(divided)
 }
 
-fn put(alloc: Global, part: &Filter, members: &Filters, to: &mut CommonAndRest) -> Result<(), NoMemory>
+fn put(
+    alloc: Global,
+    part: &Filter,
+    members: &Filters,
+    to: &mut CommonAndRest,
+) -> Result<(), NoMemory>
     ensures parts { OnOk result ((parts : FilterTrees) → AreDivided parts (filters_tree to.old.common) (filters_tree to.old.rest)
         → AreDivided (with_filter parts (filter_tree part.now)) (filters_tree to.new.common) (filters_tree to.new.rest)) }
     ensures common { OnOk result (AreCommon (filters_tree members.now) (filters_tree to.old.common)

@@ -15,7 +15,7 @@ use crate::independent::is_all;
 use cq_common::NoMemory;
 use cql_columns::filter_column::{FilterColumn, set_at};
 use cql_columns::nodes::same;
-use cql_columns::spans::{live_end, first_live};
+use cql_columns::spans::{first_live, live_end};
 use cql_syntax::{Designator, Filter, Form};
 use cql_values::value::Value;
 use std::alloc::Global;

@@ -15,8 +15,8 @@ use crate::independent::is_all;
 use cq_common::NoMemory;
 use cq_symmetry::SquarePart;
 use cql_columns::filter_column::set_at;
-use cql_columns::standing_squares::standing_sets;
 use cql_columns::scope::Scope;
+use cql_columns::standing_squares::standing_sets;
 use cql_syntax::{Designator, Filter, Filters, Form};
 use std::alloc::Global;
 
@@ -179,7 +179,12 @@ fn is_known(occupancies: &[Occupancy], men: u16) -> bool {
 }
 
 // Where these men stand.
-fn occupancy_of(alloc: Global, men: u16, scope: &Scope, live: &[bool]) -> Result<Occupancy, NoMemory>
+fn occupancy_of(
+    alloc: Global,
+    men: u16,
+    scope: &Scope,
+    live: &[bool],
+) -> Result<Occupancy, NoMemory>
     requires asked { IsNodeSet (tree_in scope.now) live.now }
     ensures { IfOk result (IsOccupancy (tree_in scope.now) live.now) }
 {

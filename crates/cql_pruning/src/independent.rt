@@ -29,8 +29,10 @@ pub fn is_independent(opened: &Names, f: &Filter) -> bool
         Form::Steps(_, _, _, part) => is_independent(opened, part),
         Form::Chain(_, parts) => are_independent(opened, parts),
         Form::Any(_, parts) => are_independent(opened, parts),
-        Form::Pair(_, first, second) => is_independent(opened, first) && is_independent(opened, second),
-        Form::Square(_, _, first, second) => is_independent(opened, first) && is_independent(opened, second),
+        Form::Pair(_, first, second) => is_independent(opened, first)
+            && is_independent(opened, second),
+        Form::Square(_, _, first, second) => is_independent(opened, first)
+            && is_independent(opened, second),
         Form::Played(played) => is_independent_move(opened, played),
         Form::Sum(_) | Form::If(..) | Form::Sort(..) | Form::Line(_) | Form::Transform(..) => false,
     }

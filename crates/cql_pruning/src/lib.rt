@@ -5,6 +5,7 @@
 #![tactic(auto)]
 
 pub mod attacks;
+pub mod by_occupancy;
 pub mod covers;
 pub mod ever_standing;
 pub mod independent;
@@ -12,4 +13,3 @@ pub mod move_targets;
 pub mod moves;
 pub mod order;
 pub mod pairs;
-pub mod by_occupancy;

@@ -12,7 +12,7 @@ use cq_position::Promotion;
 use cql_columns::filter_column::{FilterColumn, blank_truths};
 use cql_columns::nodes::same;
 use cql_columns::scope::Scope;
-use cql_columns::spans::{live_node_end, first_live_node};
+use cql_columns::spans::{first_live_node, live_node_end};
 use cql_values::move_filter::{before, led_to, meets_all};
 use cql_values::value::Value;
 use pgn_tree::Game;

@@ -11,7 +11,7 @@ ghost use Rattle.cql_pruning.specs.Covers.{GivesOnlyName};
 ghost use Rattle.cql_pruning.specs.Pairs.{LeavesPaired};
 
 use crate::covers::cut_related;
-use crate::independent::{is_all, is_attack, gives_only_name, converse};
+use crate::independent::{converse, gives_only_name, is_all, is_attack};
 use cql_columns::filter_column::FilterColumn;
 use cql_columns::scope::Scope;
 use cql_syntax::{Chain, Filter, Filters, Form, Pair};
@@ -35,7 +35,8 @@ pub fn asks_pair(name: &[u8], other: &[u8], asked: &Filter) -> bool {
         Form::Square(_, _, _, part) => asks_pair(name, other, part),
         Form::Pair(pair, first, second) => {
             is_attack(*pair)
-                && (each_gives_only_name(name, first, other, second) || each_gives_only_name(other, first, name, second))
+                && (each_gives_only_name(name, first, other, second)
+                    || each_gives_only_name(other, first, name, second))
         }
         _ => false,
     }
@@ -139,7 +140,13 @@ fn cut_pair(sets: &mut [u64], paired: &PairTrial, pair: Pair, first: &Filter, se
         return;
     }
     if each_gives_only_name(paired.other, first, paired.name, second) {
-        cut_related(sets, paired.live, paired.scope, converse(pair), paired.column);
+        cut_related(
+            sets,
+            paired.live,
+            paired.scope,
+            converse(pair),
+            paired.column,
+        );
     }
 }
 

@@ -6,10 +6,10 @@
 
 mod flat;
 mod leaves;
-mod text_pieces;
 mod same;
-mod text_sums;
 mod text;
+mod text_pieces;
+mod text_sums;
 mod text_words;
 
 pub use flat::expand;

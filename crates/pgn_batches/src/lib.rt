@@ -2,17 +2,17 @@
 #![tactic(auto)]
 
 mod batch;
+mod batch_access;
 mod cutting;
 mod kept_game;
 pub mod laws;
-mod batch_access;
 mod queue;
 mod reading;
-mod visits;
 mod state;
+mod visits;
 mod window;
 
 pub use batch::Batch;
 pub use kept_game::KeptGame;
-pub use visits::{VisitEnd, BatchVisitor, visit_batches};
 pub use state::{BatchFault, Batches};
+pub use visits::{BatchVisitor, VisitEnd, visit_batches};

@@ -17,10 +17,10 @@ ghost use Rattle.pgn_cut.specs.declared.span.Span.{Span as ASpan};
 ghost use Rattle.pgn_cut.specs.declared.game.LexemeView.{LexemeView as ALook};
 ghost use Rattle.pgn_cut.specs.declared.state.State.TheVariants.{Between};
 
-use crate::settled_lexeme::{SettledLexeme, settled_lexeme};
 use crate::game::{LexemeView, OpenGame};
 use crate::laws::open_lexemes_settle;
 use crate::pair_runs::pair_len;
+use crate::settled_lexeme::{SettledLexeme, settled_lexeme};
 use crate::span::Span;
 use crate::state::State;
 use crate::word_runs::words_len;
@@ -115,7 +115,13 @@ impl Cutter {
     }
 
     // The cutter after a lexeme from its place to another, and the game that it closes, where it closes one.
-    fn after_lexeme(self, end: u64, column: bool, kind: LexemeKind, marker: bool) -> (Cutter, Option<Span>)
+    fn after_lexeme(
+        self,
+        end: u64,
+        column: bool,
+        kind: LexemeKind,
+        marker: bool,
+    ) -> (Cutter, Option<Span>)
         requires depth { self.game.depth < 2 ^ 63 }
         ensures deeper { result.0.game.depth ≤ self.game.depth + 1 }
         ensures rest { IsBetween result.0 end column }

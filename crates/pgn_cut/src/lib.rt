@@ -7,10 +7,10 @@
 #![tactic(auto)]
 
 mod cutter;
-mod settled_lexeme;
 mod game;
 mod laws;
 mod pair_runs;
+mod settled_lexeme;
 mod span;
 mod state;
 mod whole_archive;

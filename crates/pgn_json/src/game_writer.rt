@@ -6,7 +6,7 @@ ghost use Rattle.pgn_batches.specs.KeptGames.{KeptGames};
 ghost use Rattle.pgn_json.specs.Internal.Texts.{AnswersBatch, HasStopped, HasTaken};
 ghost use Rattle.pgn_json.specs.Writing.{Sinks, sinks_of};
 
-use crate::part_texts::{PART, GameTextTask};
+use crate::part_texts::{GameTextTask, PART};
 use crate::status::Status;
 use crate::writing::write_part;
 use cq_outside::Sink;

@@ -6,21 +6,21 @@
 //! promise of the top call.
 #![tactic(auto)]
 
-mod write_archive;
 mod game;
+mod game_writer;
 mod job;
 mod laws;
 mod line;
-mod part_texts;
 mod node;
 mod notes;
+mod part_texts;
 mod plies;
 mod status;
 mod strings;
-mod game_writer;
 mod texts;
 mod top_call;
 mod words;
+mod write_archive;
 mod writing;
 
 pub use game::json_line;

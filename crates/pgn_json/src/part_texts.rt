@@ -5,7 +5,7 @@ ghost use Rattle.pgn_json.specs.Internal.Parts.{part_at, size};
 
 use crate::texts::{Texts, game_texts};
 use cq_common::{Bytes, NoMemory, Shared};
-use cq_workers::{GameTask, unit_states, run_workers};
+use cq_workers::{GameTask, run_workers, unit_states};
 use pgn_batches::Batch;
 use std::alloc::Global;
 use std::thread::Threads;

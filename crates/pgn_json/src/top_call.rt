@@ -4,10 +4,10 @@ ghost use Rattle.std.specs.String.{string_bytes};
 ghost use Rattle.pgn_json.specs.Promise.{EndsRefused, EndsWithoutWords, EndsWords, Promise, RefusesAnyWords, lent};
 ghost use Rattle.pgn_json.specs.Writing.{pipe_of, view_of};
 
-use crate::write_archive::write_archive;
-use crate::status::Status;
 use crate::game_writer::GameWriter;
+use crate::status::Status;
 use crate::words::read_words;
+use crate::write_archive::write_archive;
 use cq_common::{NoMemory, OpenFault, Refusal};
 use cq_outside::{Desk, Sink, write_all_of};
 use pgn_tree::single_spaced;

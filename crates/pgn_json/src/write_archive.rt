@@ -3,8 +3,8 @@ ghost use Rattle.std.specs.Prelude.{◌≡◌, ◌≤◌, ◌^◌};
 ghost use Rattle.pgn_json.specs.Internal.Texts.{WritesSummary};
 ghost use Rattle.pgn_json.specs.Writing.{Says, pipe_of, view_of};
 
-use crate::status::Status;
 use crate::game_writer::GameWriter;
+use crate::status::Status;
 use cq_common::Refusal;
 use cq_outside::{Sink, Source, write_all_of};
 use cq_report::summary_line;

@@ -38,7 +38,12 @@ pub fn game_of_rows(
 }
 
 // The game of the root alone, which takes comments and no glyphs.
-fn game_at_root(alloc: Global, tags: Tags, ending: GameResult, first: NodeRow) -> Result<Game, NoMemory>
+fn game_at_root(
+    alloc: Global,
+    tags: Tags,
+    ending: GameResult,
+    first: NodeRow,
+) -> Result<Game, NoMemory>
     ensures { IfOk result (λ g. g ≡ record {
       tags = tags;
       result = ending;

@@ -5,16 +5,16 @@
 
 mod comment_words;
 mod comments;
-mod result_marker;
 mod game;
 pub mod laws;
 mod node;
 mod notes;
+mod result_marker;
 mod tags;
 
 pub use comment_words::{first_word, single_spaced};
 pub use cq_position::GameResult;
-pub use result_marker::result_text;
 pub use game::Game;
 pub use notes::Notes;
+pub use result_marker::result_text;
 pub use tags::Tags;

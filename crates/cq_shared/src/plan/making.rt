@@ -14,7 +14,7 @@ ghost use Rattle.cq_shared.specs.Plans.{owners_of, each_part_of, queries_of, pla
 
 use crate::finding::{add_sorts, add_top, count_top};
 use crate::interning::add_all;
-use crate::part::{PartOwner, QueryParts, Part};
+use crate::part::{Part, PartOwner, QueryParts};
 use crate::plan::SharedPlan;
 use crate::table::{PartBucket, empty_buckets};
 use cq_common::NoMemory;
@@ -119,7 +119,14 @@ fn owner_of(
 {
     let parts_of_query = parts_of_query(alloc, query)?;
     let filters = parts_of_query.filters.as_slice();
-    let numbers = add_all(alloc, filters, parts_of_query.variations, number, parts, places)?;
+    let numbers = add_all(
+        alloc,
+        filters,
+        parts_of_query.variations,
+        number,
+        parts,
+        places,
+    )?;
     Ok(PartOwner {
         plan: parts_of_query.plan,
         numbers,

@@ -12,11 +12,11 @@ ghost use Rattle.cql_pruning.specs.MoveTargets.{is_as_asked};
 use cq_common::NoMemory;
 use cq_geometry::Compass;
 use cql_columns::filter_column::FilterColumn;
-use cql_columns::standing_squares::standing_sets;
 use cql_columns::scope::Scope;
+use cql_columns::standing_squares::standing_sets;
 use cql_operators::combine::{
-    any_values, chain_values, if_truths, negated_truths, numbered, pair_column, reached_values, sum_values,
-    unary_values,
+    any_values, chain_values, if_truths, negated_truths, numbered, pair_column, reached_values,
+    sum_values, unary_values,
 };
 use cql_operators::from_other_nodes::nodes_that_find;
 use cql_operators::narrow::narrowed;

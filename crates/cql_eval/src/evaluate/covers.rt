@@ -18,11 +18,13 @@ use super::evaluate;
 use super::trial::Trial;
 use cq_common::{NoMemory, Steps};
 use cql_columns::filter_column::FilterColumn;
-use cql_operators::from_other_nodes::{squares_of_sources, source_nodes, reads_other_nodes};
+use cql_operators::from_other_nodes::{reads_other_nodes, source_nodes, squares_of_sources};
 use cql_pruning::covers::{
     any_left, any_squares, cut, cut_related, cut_where_fails, uniform_sets, with_squares,
 };
-use cql_pruning::independent::{is_all, is_attack, is_independent, is_intersection, is_or, gives_only_name, converse};
+use cql_pruning::independent::{
+    converse, gives_only_name, is_all, is_attack, is_independent, is_intersection, is_or,
+};
 use cql_pruning::order::{SORTS, is_of_class};
 use cql_syntax::{Filter, Filters, Form, Pair, Unary};
 use std::alloc::Global;

@@ -11,8 +11,8 @@ ghost use Rattle.cql_plain.specs.Internal.Scopes.{tree_in, value_in};
 ghost use Rattle.cql_values.specs.ValueModel.{as_value};
 
 use super::evaluate;
-use crate::paths::{PathStep, longest, number_of, paths_from};
 use crate::path_places::{comes_from, fresh, has_some, only_first, where_counted, with_next};
+use crate::paths::{PathStep, longest, number_of, paths_from};
 use crate::scope::Scope;
 use cq_common::NoMemory;
 use cql_syntax::{Body, Constituents, Filter, Line, Mark};
