@@ -1,8 +1,10 @@
 //! The query of a plan, which is asked of games.
 ghost use Rattle.cq_shards.specs.PlanQuery.{query_in};
 
+use crate::answers::GameAnswer;
 use crate::match_plan::find;
-use crate::{GameAnswer, Matcher, build_answer};
+use crate::matcher::Matcher;
+use crate::search_game::build_answer;
 use cq_common::NoMemory;
 use cql_plan::Plan;
 use pgn_tree::Game;

@@ -7,9 +7,12 @@ ghost use Rattle.cql_syntax.specs.QueryTrees.{trees_of};
 ghost use Rattle.cq_shared.specs.Plans.{queries_of};
 ghost use Rattle.cq_shards.specs.PlanQuery.{query_in};
 
+use crate::answers::GameAnswer;
 use crate::plan_matcher::PlanMatcher;
+use crate::search_batch::search_batch;
+use crate::search_first::search_batch_first;
+use crate::search_many::{ManyAnswers, search_batch_many};
 use crate::shared_plan_matcher::SharedPlanMatcher;
-use crate::{GameAnswer, ManyAnswers, search_batch, search_batch_first, search_batch_many};
 use cq_common::NoMemory;
 use cq_outside::Gate;
 use cq_shared::SharedPlan;

@@ -2,8 +2,10 @@
 ghost use Rattle.cql_syntax.specs.QueryTrees.{trees_of};
 ghost use Rattle.cq_shared.specs.Plans.{queries_of};
 
+use crate::answers::GameAnswer;
 use crate::match_plan::match_shared_plan;
-use crate::{GameAnswer, MultiMatcher, build_answer};
+use crate::matcher::MultiMatcher;
+use crate::search_game::build_answer;
 use cq_common::NoMemory;
 use cq_shared::SharedPlan;
 use pgn_tree::Game;

@@ -7,8 +7,11 @@ ghost use Rattle.cq_shared.specs.Plans.{queries_of, plan_parts};
 ghost use Rattle.cq_shared.specs.StepBounds.{needed_parts};
 ghost use Rattle.cq_shared.specs.Verdicts.{nodes_of, keys_of, HaveKeys};
 
+use crate::collecting::collect_verdicts;
+use crate::first_nodes::start_nodes;
 use crate::matching::{nodes_left_by, sort_rows_by};
-use crate::{SharedPlan, Verdicts, collect_verdicts, start_nodes};
+use crate::plan::SharedPlan;
+use crate::verdicts::Verdicts;
 use cq_common::{NoMemory, Steps};
 use pgn_tree::Game;
 use std::alloc::Global;

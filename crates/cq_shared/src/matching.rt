@@ -4,8 +4,10 @@ ghost use Rattle.cq_shared.specs.Matching.{sort_class, is_before, is_class, AreL
 ghost use Rattle.cq_shared.specs.Matching.{IsNarrowedBy, IsNarrowedIf, HasRow, HaveRows};
 ghost use Rattle.cq_shared.specs.StepBounds.{TakesAtMost, TakeAtMost};
 
+use crate::narrowing::{narrowed, wanted_nodes};
+use crate::nodes::{NarrowedNodes, NodeSet, SortRow, SortedNodes};
+use crate::part::Part;
 use crate::part_values::values_at;
-use crate::{NarrowedNodes, NodeSet, Part, SortRow, SortedNodes, narrowed, wanted_nodes};
 use cq_common::{NoMemory, Steps};
 use cql_pruning::order::SORTS;
 use pgn_tree::Game;

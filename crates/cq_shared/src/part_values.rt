@@ -7,7 +7,8 @@ ghost use Rattle.cql_syntax.specs.TreeOf.{filters_tree};
 ghost use Rattle.cq_shared.specs.Matching.{tree_for, sort_class, part_cost, cost_at, ArePartTruths, IsRowAt};
 ghost use Rattle.cq_shared.specs.Singles.{shown};
 
-use crate::{Part, PartValues};
+use crate::nodes::PartValues;
+use crate::part::Part;
 use cq_common::{NoMemory, Steps};
 use cql_eval::{Column, hit_columns_at};
 use cql_pruning::order::SORTS;

@@ -7,7 +7,7 @@ ghost use Rattle.cql_values.specs.Trees.{searched_tree};
 ghost use Rattle.cql_plan.specs.Internal.Items.{item_holds};
 ghost use Rattle.cql_plan.specs.Internal.KeyRows.{AreRowsFrom};
 
-use crate::key_over;
+use crate::keys::key_over;
 use cq_common::NoMemory;
 use cql_eval::Column;
 use cql_syntax::{Filter, FlatQuery, Form};

@@ -10,8 +10,9 @@ ghost use Rattle.cql_syntax.specs.Hits.{hits, keys};
 ghost use Rattle.cql_syntax.specs.TreeOf.{query_tree};
 ghost use Rattle.cql_values.specs.Trees.{searched_tree};
 
+use crate::plan::Plan;
+use crate::plan::making::may_hold;
 use crate::verdict::{Verdict, find};
-use crate::{Plan, may_hold};
 use cq_common::{NoMemory, Steps};
 use pgn_tree::Game;
 use std::alloc::Global;

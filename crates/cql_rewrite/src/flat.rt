@@ -7,7 +7,7 @@ ghost use Rattle.cql_syntax.specs.TreeOf.{filter_tree, form_tree, filters_tree, 
 ghost use Rattle.cql_rewrite.specs.SameMeaning.{MeansTheSame};
 ghost use Rattle.cql_rewrite.specs.Internal.DistinctMembers.{with_new, some_same, flat_if_fits};
 
-use crate::same_filter;
+use crate::same::same_filter;
 use cq_common::{Bytes, NoMemory};
 use cq_symmetry::{Family, Mapping, SquarePart, member, size};
 use cql_contexts::contexts::{

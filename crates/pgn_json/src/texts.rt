@@ -4,10 +4,10 @@ ghost use Rattle.pgn_batches.specs.Games.{games_of, number_of};
 ghost use Rattle.pgn_batches.specs.declared.kept_game.KeptGame.{KeptGame as AGame};
 ghost use Rattle.pgn_json.specs.Internal.Texts.{AreTextsOf};
 
+use crate::game::json_line;
 use cq_common::{Bytes, NoMemory, Refusal, Shared};
 use cq_report::fault_line;
 use pgn_batches::Batch;
-use pgn_json::json_line;
 use pgn_reader::read_game;
 use std::alloc::Global;
 

@@ -6,10 +6,10 @@ ghost use Rattle.pgn_pieces.specs.declared.piece.Piece.{Piece as APiece};
 ghost use Rattle.pgn_pieces.specs.Cutting.{HasCut, Pipe, Says, pipe};
 
 use crate::job::BYTES_LIMIT;
+use crate::state::Pieces;
 use crate::status::Status;
 use cq_common::Bytes;
 use cq_outside::{Sink, Source, read_piece, write_all_of};
-use pgn_pieces::Pieces;
 use std::alloc::Global;
 
 /// How many bytes one read is given room for.

@@ -5,10 +5,10 @@ ghost use Rattle.cql_syntax.specs.TreeOf.{filters_tree, query_tree};
 ghost use Rattle.cql_plan.specs.Needs.{query_passes};
 ghost use Rattle.cql_plan.specs.Plans.{query_of, joined_of, IsJoinedFormOf};
 
+use crate::joining::join;
 use crate::needs::all_needed;
 use crate::plan::Plan;
 use cq_common::NoMemory;
-use cql_plan::join;
 use cql_rewrite::expand;
 use cql_syntax::{FlatQuery, TypedQuery};
 use pgn_tree::Game;
