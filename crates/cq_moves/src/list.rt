@@ -37,7 +37,7 @@ pub fn legal_moves(position: &Position) -> ArrayVec<Move, 512>
 }
 
 // Adds the legal moves from a square. A man that doesn't expose its king and is no pawn has no move that must be judged.
-#[tactic(auto, using(crate::proofs::ValueParts::plain_moves))]
+#[tactic(auto, using(crate::proofs::Parts::plain_moves))]
 fn add_moves_from(position: &Position, mover: &Mover, from: Square, moves: &mut ArrayVec<Move, 512>)
     requires mover { IsMover position.now mover.now }
     requires room { length moves.old.items + length (legal_from position.now from) ≤ 512 }

@@ -110,7 +110,7 @@ fn may_expose(position: &Position, mover: &Mover, from: Square) -> bool
 
 /// Whether a man's move to a square where it goes is known to be legal with no promotion, and with no other: the man doesn't expose its
 /// king, and neither promotes nor captures on the en passant square.
-#[tactic(auto, using(crate::proofs::ValueParts::ordinary_move))]
+#[tactic(auto, using(crate::proofs::Parts::ordinary_move))]
 #[inline]
 pub(crate) fn is_ordinary(position: &Position, origin: &Origin, to: Square) -> bool
     requires origin { IsOrigin position.now origin.now }
