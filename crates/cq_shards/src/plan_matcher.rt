@@ -2,7 +2,7 @@
 ghost use Rattle.cq_shards.specs.PlanQuery.{query_in};
 
 use crate::answers::GameAnswer;
-use crate::match_plan::find;
+use crate::match_plan::match_plan;
 use crate::matcher::Matcher;
 use crate::search_game::build_answer;
 use cq_common::NoMemory;
