@@ -21,7 +21,7 @@ stepped files ranks square =
 abbrev pub steps_away : ℤ → ℤ → ℕ → ℕ → Option ℕ
 steps_away files ranks square n = stepped (pos n *ℤ files) (pos n *ℤ ranks) square
 
--- a direction goes at most one file and at most one rank, and at least one of both
+-- a direction goes at most one file and at most one rank, but not zero of both
 abbrev pub IsDirection : ℤ → ℤ → Type 0
 IsDirection files ranks = max (nat_abs files) (nat_abs ranks) ≡ 1
 

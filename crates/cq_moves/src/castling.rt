@@ -17,7 +17,7 @@ pub fn is_castling(position: &Position, m: &Move) -> bool
     files_apart(m.from, m.to) == 2 && position.at(m.from) == king_of(position.side())
 }
 
-/// Returns true if this is legal castling on this side.
+/// Returns true if the king can castle on this side by this move.
 pub(crate) fn castles(position: &Position, from: Square, to: Square, kingside: bool) -> bool
     ensures { result ≡ legal.castles position.now from to kingside }
 {

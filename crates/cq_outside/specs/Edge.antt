@@ -11,7 +11,7 @@ pub record Stream : Type 0 where
   pub reads : Option ℕ
 
 -- A desk over the real files. It counts reads and opens that failed. It has the number of openings if the system tells it, standard input,
--- and the open input, which is a file with its stream.
+-- and the open input, with its stream if it is a file.
 pub record RealDesk : Type 0 where
   pub read_faults : ℕ
   pub open_faults : ℕ

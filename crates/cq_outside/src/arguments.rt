@@ -6,7 +6,7 @@ ghost use Rattle.cq_outside.specs.Words.{Given, AreWordsOf, MayWantMemory};
 use crate::system::{Words, WordsFault};
 use cq_common::NoMemory;
 
-/// The words after the program's name. There are none if a word is not UTF-8, since no program takes such words.
+/// The words after the program's name. The result is empty if a word is not UTF-8. No program takes such words, nor an empty list.
 ///
 /// # Errors
 ///

@@ -77,7 +77,11 @@ impl Source for SureDesk {
 
     ghost follows = { λ s t. (desk_files_of t ≡ desk_files_of s) × ((bytes : List ℕ) × (s.left ≡ bytes ++ t.left)) };
 
-    /// Moves as many bytes as are left and fit `buf`. It never fails.
+    /// Moves as many bytes as are left and fit `buf`.
+    ///
+    /// # Errors
+    ///
+    /// None: the result is always `Ok`.
     fn read(&mut self, buf: &mut [u8]) -> Result<usize, Failed>
         ensures fills { result ≡ Ok (min (length self.old.left) (length buf.old)) }
         ensures bound { IfOk result (λ n. n ≤ length buf.old) }

@@ -61,7 +61,11 @@ impl Sink for SureSink {
 
     ghost faults = { λ _. 0 };
 
-    /// Takes all of `bytes`. It never fails.
+    /// Takes all of `bytes`.
+    ///
+    /// # Errors
+    ///
+    /// None: the result is always `Ok`.
     fn write(&mut self, bytes: &[u8]) -> Result<usize, Failed>
         ensures all { result ≡ Ok (length bytes.now) }
         ensures within { (before : List ℕ) → self.old.taken ≡ bytes_if_fit self.old.room before

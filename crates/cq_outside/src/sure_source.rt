@@ -40,7 +40,11 @@ impl Source for SureSource {
 
     ghost follows = { λ s t. (bytes : List ℕ) × (s ≡ bytes ++ t) };
 
-    /// Moves as many bytes as are left and fit `buf`. It never fails.
+    /// Moves as many bytes as are left and fit `buf`.
+    ///
+    /// # Errors
+    ///
+    /// None: the result is always `Ok`.
     fn read(&mut self, buf: &mut [u8]) -> Result<usize, Failed>
         ensures fills { result ≡ Ok (min (length self.old) (length buf.old)) }
         ensures bound { IfOk result (λ n. n ≤ length buf.old) }

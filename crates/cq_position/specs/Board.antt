@@ -56,8 +56,8 @@ abbrev pub are_home : List Man → Side → Bool → Bool
 are_home men side kingside = stands men (king_home side) (king_of side) && stands men (rook_home side kingside) (rook_of side)
 
 -- True if the opponent's pawn can just have passed the square by a double step, with this side to move (FIDE Laws of Chess, article 3.7).
--- The square is empty and on the side's sixth rank. As the pawn's own side sees it, the pawn is just before the square. The square just
--- beyond it, from which the pawn came, is empty.
+-- The square is empty and on the side's sixth rank. As the pawn's own side sees it, the pawn is on the square just in front of it. The
+-- square just behind it, from which the pawn came, is empty.
 abbrev pub was_passed : List Man → Side → ℕ → Bool
 was_passed men White square =
     (rank_of square == 5) && stands men square Empty && stands men (square - 8) BlackP && stands men (square + 8) Empty

@@ -44,7 +44,7 @@ unfoldable pub Follows : Board → Continuations → Type 0
 Follows p none = Unit {0}
 Follows p (played move next others) = Leads p move.move move.position × Follows move.position next × Follows p others
 
--- the continuation for the move that led to a node; none for the root, since no move led to it
+-- continuations that begin with the move that led to a node; the root, to which no move led, adds none
 abbrev pub with_move : Node → Option Move → (next others : Continuations) → Continuations
 with_move n None next others = others
 with_move n (Some m) next others = played (record { move = m; position = n.position; nags = n.nags; comments = n.comments }) next others

@@ -15,7 +15,7 @@ pub record PlainLed : Type 0 where
   pub promoted : Bool
 
 -- The square on which a move captures a man: its goal if a man is there. If a pawn goes to another file and its goal is empty, it is the
--- adjoining square on that file (FIDE Laws of Chess, article 3.7, en passant).
+-- adjoining square on that file (FIDE Laws of Chess, article 3.7, en passant). Otherwise there is none.
 abbrev pub taken_square : Board → Move → Option ℕ
 taken_square p m =
     if is_occupied p.men m.to then Some m.to

@@ -94,8 +94,8 @@ reaches p a b =
 abbrev pub promotion_is_right : Board → Move → Bool
 promotion_is_right p m = if is_pawn (man_at p.men m.from) then pawn_promotion_is_right p.side m else is_none m.promotion
 
--- A pseudo-legal move: a man of the side to move goes to a square of the board, and promotes as it must. A check of its own king is not
--- considered here.
+-- A pseudo-legal move: a man of the side to move goes to a square of the board, and promotes as it must. An attack on its own king
+-- afterwards is not considered here.
 unfoldable pub is_pseudo_legal : Board → Move → Bool
 is_pseudo_legal p m = not m.null && nat_lt m.to 64 && reaches p m.from m.to && promotion_is_right p m
 
@@ -118,7 +118,7 @@ is_castling p m = stands p.men m.from (king_of p.side) && (files_apart m.from m.
 abbrev pub is_en_passant_capture : Board → Move → Bool
 is_en_passant_capture p m = is_pawn (man_at p.men m.from) && (files_apart m.from m.to == 1) && is_goal p.passant m.to
 
--- In castling the rook goes to the other side of the king. In a capture en passant the captured pawn is beside the capturing one.
+-- In castling the rook goes to the other side of the king. A capture en passant removes a pawn beside the origin of the capturing one.
 abbrev pub rook_moved : List Man → Side → Bool → List Man
 rook_moved men side kingside =
     slice_set (slice_set men (rook_home side kingside) Empty) (castling_crossed side kingside) (rook_of side)
