@@ -39,7 +39,7 @@ pub(crate) fn free_squares(position: &Position) -> u64
     !men.squares_of_side(side) & !men.squares_of_piece(opponent(side), Piece::King)
 }
 
-// The goals of such a man on the square, before the squares of its own side are removed.
+// The goals of such a man on the square, squares that are not free among them.
 #[tactic(auto, using(cq_square_sets::proofs::Marked::marks_none))]
 fn goals_of(man: Man, position: &Position, origin: &Origin) -> u64
     requires { IsOrigin position.now origin.now }

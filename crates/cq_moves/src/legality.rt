@@ -65,8 +65,8 @@ fn reaches_seen(position: &Position, piece: Piece, seen: u64, m: &Move) -> bool
     goes_seen(position, piece, seen, m) && is_free(position, m.to)
 }
 
-// Returns true if the man goes to the goal, whether occupied or not. Every man but pawns and kings is seen from the goal exactly if it
-// attacks the goal.
+// Returns true if the man goes to the goal. The test that the goal is free is separate. Every man but pawns and kings is seen from the
+// goal exactly if it attacks the goal.
 #[inline]
 fn goes_seen(position: &Position, piece: Piece, seen: u64, m: &Move) -> bool
     requires seen { IsBitboard seen (may_come position.now.side piece (attack.is_occupied position.now.men) m.now.to) }

@@ -27,7 +27,6 @@ use cq_position::{Man, Move, Position, opponent};
 /// Facts about the side to move that are computed once: the square of its king, and the squares without a man of its own and without a
 /// king. Bit k is the square k. A man other than the king that is outside the set `shields` leaves the king safe, except by a capture on
 /// the en passant square.
-/// square k.
 #[derive(Clone, Copy)]
 pub(crate) struct Mover {
     pub king: Square,
