@@ -49,7 +49,7 @@ one_marked set next i x xs within e step so_far s below = (there, back)
         by_case (inl old) = (step s below).1 (inl ((so_far s below).1 old))
         by_case (inr new) = (step s below).1 (inr (sym (eqb-true x s new), refl))
 
--- which squares a filtered list has
+-- the squares of a filtered list
 in_filter : (p : ℕ → Bool) (xs : List ℕ) (s : ℕ) → contains (filter p xs) s ≡ (p s && contains xs s)
 in_filter p [] s = and_no (p s)
   where

@@ -1,4 +1,4 @@
--- What is gathered from the squares of a set, the lowest first.
+-- Sets gathered from the squares of a set, the lowest first.
 use Rattle.std.proofs.Common.{◌≡◌, ℕ, ◌*◌, ◌%◌, ◌^◌, ◌<◌, ◌≤◌, ◌⊎◌, ⊎_elim, refl, sym, ap, ◌∙◌, subst, arith}
 use Rattle.std.specs.Prelude.{bit_and, bit_or}
 use Rattle.std.specs.Int.{bit_at, bit_not, trailing_zeros, w64}
@@ -12,7 +12,7 @@ use Rattle.cq_square_sets.proofs.Bits.{in_both, in_either, from_first, from_seco
 abbrev pub cleared : ℕ → ℕ → ℕ
 cleared set square = bit_and set (bit_not w64 (1 * 2 ^ square % 2 ^ 64))
 
--- what belongs to some square of the set was found, but for those that are left
+-- all that belongs to some square of the set was found, except for the squares still left
 pub record IsGathered (P : ℕ → ℕ → Type 0) (set left found : ℕ) : Type 0 where
   pub inside : (t : ℕ) → t < 64 → Has left t → Has set t
   pub done : IsSetOf found (λ s. (t : ℕ) × (t < 64) × Has set t × (Has left t → ⊥) × P s t)
@@ -83,7 +83,7 @@ gathered_all P set left found none so_far s low = (
   (λ p. (so_far.done s low).1 (p.0, p.1, p.2, (λ h. nothing_there p.0 (subst (λ n. Has n p.0) none h)), p.3)),
 )
 
--- where to each square nothing but itself belongs
+-- each square gathers nothing but itself
 pub gathered_alone : (P : ℕ → Type 0) (set left found : ℕ) → left ≡ 0 → IsGathered (λ s t. (s ≡ t) × P t) set left found → IsSetOf found (λ s. Has set s × P s)
 gathered_alone P set left found none so_far s low =
     let all = gathered_all (λ s t. (s ≡ t) × P t) set left found none so_far s low in (

@@ -1,4 +1,4 @@
--- The squares of a set, and what stands on them.
+-- The squares of a set, and the men on them.
 use Rattle.std.proofs.Common.{true≢false, eqb-true, eq-eqb, not, ◌&&◌, List, ◌≡◌, ℕ, ◌+◌, ◌*◌, ◌%◌, ◌^◌, ◌<◌, ◌≤◌, ◌⊎◌, inl, inr, ⊎_elim, ◌↔◌, Bool, true, false, refl, sym, ◌∙◌, subst, arith}
 use Rattle.std.specs.Prelude.{bit_or, bit_and}
 use Rattle.std.specs.Int.{bit_at, bit_not, w64}

@@ -1,4 +1,4 @@
--- What stands on a square, man by man.
+-- The kinds of men on a square, man by man.
 use Rattle.std.proofs.Common.{◌≡◌, ◌||◌, refl}
 use Rattle.cq_position.specs.declared.men.Man.{Man}
 use Rattle.cq_position.specs.declared.men.Man.TheVariants.{K, Q, R, B, N, P, BlackK, BlackQ, BlackR, BlackB, BlackN, BlackP, Empty}

@@ -1,4 +1,4 @@
--- A man attacks a square where it is seen from there as it sees it.
+-- A man attacks a square exactly if the square sees it as it sees the square.
 use Rattle.std.proofs.Common.{◌≡◌, ℕ, ◌+◌, ◌-◌, ◌<◌, Bool, true, false, ◌&&◌, ◌||◌, ◌==◌, List, refl, sym, ap, ap₂, ◌∙◌, arith}
 use Rattle.std.proofs.Math.Bool.{or-false}
 use Rattle.cq_geometry.specs.Squares.{rank_of, file_of}

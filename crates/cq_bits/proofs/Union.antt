@@ -1,4 +1,4 @@
--- What rooks, bishops and queens reach, and what the other men attack, is what all of them attack.
+-- The squares that rooks, bishops and queens reach, with those that the other men attack, are all attacked squares.
 use Rattle.std.proofs.Common.{◌≡◌, ℕ, ◌<◌, ◌^◌, ◌-◌, ◌⊎◌, inl, inr, ⊎_elim, Bool, true, false, not, true≢false, ◌&&◌, ◌||◌, List, [], ◌∷◌, pos, negsuc, ℤ, refl, sym, ap, ◌∙◌, All}
 use Rattle.std.specs.Prelude.{bit_or, if◌then◌else◌}
 use Rattle.std.proofs.lemmas.List.Elements.{All-head, All-tail}

@@ -1,4 +1,4 @@
--- What the men of a set of squares attack, which men attack it, and what lies between two sets.
+-- Attacks of the men of a set of squares, the men that attack a set, and the squares between two sets.
 use Rattle.std.specs.Prelude.{◌≡◌, ℕ, ◌+◌, ◌<◌, Bool, true, false, ◌&&◌, ◌||◌, ◌==◌, List}
 use Rattle.cq_geometry.specs.Lines.{lies_between}
 use Rattle.cq_geometry.specs.Squares.{rank_of}
@@ -10,7 +10,7 @@ use Rattle.cq_position.specs.declared.men.Man.TheVariants.{K, Q, R, B, N, P, Bla
 use Rattle.cq_position.specs.Men.{same_man}
 pub use Rattle.cq_square_sets.specs.Sets.{Has, has, IsSetOf, IsStepped, IsSlid, reaches}
 
--- a rook and a queen attack along their files and ranks (FIDE Laws of Chess, articles 3.3 and 3.4)
+-- true of a rook and a queen, which attack along their files and ranks (FIDE Laws of Chess, articles 3.3 and 3.4)
 abbrev pub goes_straight : Man → Bool
 goes_straight Q = true
 goes_straight R = true
@@ -18,7 +18,7 @@ goes_straight BlackQ = true
 goes_straight BlackR = true
 goes_straight man = false
 
--- a bishop and a queen attack along their diagonals (articles 3.2 and 3.4)
+-- true of a bishop and a queen, which attack along their diagonals (articles 3.2 and 3.4)
 abbrev pub goes_diagonally : Man → Bool
 goes_diagonally Q = true
 goes_diagonally B = true
@@ -26,14 +26,14 @@ goes_diagonally BlackQ = true
 goes_diagonally BlackB = true
 goes_diagonally man = false
 
--- some square of the set has a man of this kind, and it is this one
+-- the square is in the set and has a man of this kind
 abbrev pub IsChosen : (Man → Bool) → List Man → ℕ → ℕ → Type 0
 IsChosen kind men set square = Has set square × (kind (man_at men square) ≡ true)
 
 abbrev pub slides : Man → Bool
 slides man = goes_straight man || goes_diagonally man
 
--- a king, a knight or a pawn on one of these squares attacks this one, or nothing stands there
+-- the square is in the set, has no rook, bishop or queen, and its man attacks the other square
 abbrev pub IsLeap : List Man → ℕ → ℕ → ℕ → Type 0
 IsLeap men set from to = Has set from × (slides (man_at men from) ≡ false) × (attacks men from to ≡ true)
 
@@ -45,7 +45,7 @@ IsAttacked men set to = (from : ℕ) × (from < 64) × Has set from × (attacks 
 abbrev pub IsAttacker : List Man → ℕ → ℕ → Type 0
 IsAttacker men set from = (to : ℕ) × (to < 64) × Has set to × (attacks men from to ≡ true)
 
--- a king, a knight or a pawn on the second square attacks the first
+-- true if this man is a king, a knight or a pawn, and attacks the first square from the second
 abbrev pub leaps_to : Man → ℕ → ℕ → Bool
 leaps_to man to from =
     (((same_man man N || same_man man BlackN) && is_knight_step to from

@@ -1,4 +1,4 @@
-//! Whose men attack the squares of a set.
+//! The men that attack the squares of a set.
 ghost use Rattle.std.specs.Prelude.{◌≡◌, ◌<◌};
 ghost use Rattle.cq_position.specs.Attacks.{attacks};
 ghost use Rattle.cq_position.specs.Board.{man_at};
@@ -13,7 +13,7 @@ use cq_square_sets::{
     rook_attacks, white_pawn_attacks,
 };
 
-/// The squares on which a man stands that attacks a square of `to` (FIDE Laws of Chess, articles 3.1 to 3.8).
+/// The squares whose men attack a square of `to` (FIDE Laws of Chess, articles 3.1 to 3.8).
 pub fn attackers(position: &Position, to: BitSet64) -> BitSet64
     ensures { IsSetOf result (IsAttacker position.now.men to) }
 {
@@ -27,7 +27,7 @@ pub fn attackers(position: &Position, to: BitSet64) -> BitSet64
     found
 }
 
-/// The squares of `among` on which a man stands that attacks a square of `to`, looked at from the set with fewer squares.
+/// The squares of `among` whose men attack a square of `to`. It searches from the set with fewer squares.
 pub fn attackers_among(position: &Position, among: BitSet64, to: BitSet64) -> BitSet64
     ensures { IsSetOf result (λ from. Has among from × IsAttacker position.now.men to from) }
 {
@@ -38,7 +38,7 @@ pub fn attackers_among(position: &Position, among: BitSet64, to: BitSet64) -> Bi
     }
 }
 
-// The same, looked at from each square of `among`.
+// The same, searched from each square of `among`.
 fn attackers_by_each(position: &Position, among: BitSet64, to: BitSet64) -> BitSet64
     ensures { IsSetOf result (λ from. Has among from × IsAttacker position.now.men to from) }
 {
@@ -52,7 +52,7 @@ fn attackers_by_each(position: &Position, among: BitSet64, to: BitSet64) -> BitS
     found
 }
 
-// A square alone if the man on it attacks a square of `to`, else none.
+// The set of one square if its man attacks a square of `to`, else the empty set.
 fn attacker_alone(position: &Position, square: Square, to: BitSet64) -> BitSet64
     requires { square < 64 }
     ensures { IsSetOf result (λ from. (from ≡ square) × IsAttacker position.now.men to square) }
@@ -64,7 +64,7 @@ fn attacker_alone(position: &Position, square: Square, to: BitSet64) -> BitSet64
     }
 }
 
-// The squares on which a man stands that attacks a square: each is seen from there as it sees it.
+// The squares whose men attack a square. Each is seen from the square as it sees the square.
 fn attackers_of(men: &Men, square: Square) -> BitSet64
     requires { square < 64 }
     ensures { IsBitboard result (λ from. attacks men.now from square) }
@@ -75,7 +75,7 @@ fn attackers_of(men: &Men, square: Square) -> BitSet64
     straight | diagonal | leapers_of(men, square)
 }
 
-// The squares on which a king, a knight or a pawn stands that attacks a square.
+// The squares of kings, knights and pawns that attack a square.
 fn leapers_of(men: &Men, square: Square) -> BitSet64
     requires { square < 64 }
     ensures { IsBitboard result (λ from. leaps_to (man_at men.now from) square from) }

@@ -1,4 +1,4 @@
-//! What the men of a set attack.
+//! The attacks of the men of a set.
 ghost use Rattle.std.specs.Prelude.{◌≡◌, ℕ, ◌<◌, ◌↔◌, ◌⊎◌, ◌||◌, true, false};
 ghost use Rattle.cq_bits.specs.Sets.{Has, IsSetOf, IsAttacked, IsChosen, IsLeap, slides};
 ghost use Rattle.cq_square_sets.specs.Bitboards.{IsBitboard};
@@ -8,17 +8,17 @@ ghost use Rattle.cq_bits.specs.Internal.Kinds.{is_of_kind};
 use cq_position::{Man, Men, Position, attacks_from};
 use cq_square_sets::{BitSet64, lowest_square, slide};
 
-/// Expands to the union of the slides that are listed, each from its set in its direction.
+/// Expands to the union of the listed slides, each from its set in its direction.
 macro_rules! slides {
     ($empty:expr; $(($from:expr, $files:literal, $ranks:literal)),*) => {
         0 $(| slide::<$files, $ranks>($from, $empty))*
     };
 }
 
-/// What may stand on a square.
+/// The kinds of men that slide, and the empty square.
 #[derive(Clone, Copy, Debug, PartialEq, Eq)]
 pub(crate) enum Kind {
-    /// Nothing.
+    /// No man.
     Nothing,
     /// A rook or a queen.
     Straight,
@@ -26,10 +26,10 @@ pub(crate) enum Kind {
     Diagonal,
 }
 
-/// The most squares of which each is looked at by itself, which costs less than to look in all directions at once.
+/// The most squares that are cheaper to take one by one than in all directions at once.
 const FEW: u32 = 3;
 
-/// The squares that the men on the squares of `from` attack, whatever stands there (FIDE Laws of Chess, articles 3.1 to 3.8).
+/// The squares that the men on the squares of `from` attack, whether occupied or not (FIDE Laws of Chess, articles 3.1 to 3.8).
 pub fn attacked(position: &Position, from: BitSet64) -> BitSet64
     ensures { IsSetOf result (IsAttacked position.now.men from) }
 {
@@ -68,14 +68,14 @@ fn attacked_by_each(position: &Position, from: BitSet64) -> BitSet64
     reached
 }
 
-// The squares of `among` on which this stands.
+// The squares of `among` with this kind.
 fn chosen(position: &Position, kind: Kind, among: BitSet64) -> BitSet64
     ensures { IsSetOf result (IsChosen (is_of_kind kind) position.now.men among) }
 {
     among & standing(position.men(), kind)
 }
 
-// The squares on which this stands.
+// The squares with this kind.
 pub(crate) fn standing(men: &Men, kind: Kind) -> BitSet64
     ensures { IsBitboard result (λ square. is_of_kind kind (man_at men.now square)) }
 {
@@ -103,14 +103,14 @@ fn leaps(position: &Position, from: BitSet64) -> BitSet64
     attacked_by_each(position, leapers)
 }
 
-// The squares of a set on which neither a rook, a bishop nor a queen stands.
+// The squares of a set without a rook, a bishop or a queen.
 fn leapers(men: &Men, from: BitSet64) -> BitSet64
     ensures { IsSetOf result (λ square. Has from square × (slides (man_at men.now square) ≡ false)) }
 {
     from & !(standing(men, Kind::Straight) | standing(men, Kind::Diagonal))
 }
 
-/// The set, with the square of this number if `there`.
+/// The set, with the square of this number added if `there`.
 #[tactic(auto, using(crate::proofs::Members::one_more))]
 pub(crate) fn with_square(set: BitSet64, number: u8, there: bool) -> BitSet64
     requires { number < 64 }

@@ -1,4 +1,4 @@
-//! What lies between two sets.
+//! The squares between two sets.
 ghost use Rattle.std.specs.Prelude.{◌≡◌, ◌<◌, All, true};
 ghost use Rattle.cq_geometry.specs.Lines.{lies_between};
 ghost use Rattle.cq_position.specs.Bitboards.{contains};

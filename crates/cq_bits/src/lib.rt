@@ -1,4 +1,4 @@
-//! Attacks by bitboards: what the men of a set attack, which men attack a set, and what lies between two sets.
+//! Attacks by bitboards: the attacks of the men of a set, the men that attack a set, and the squares between two sets.
 #![tactic(auto)]
 
 pub mod attacking;

@@ -1,4 +1,4 @@
--- What holds anyway holds where there is an error.
+-- A property that always holds also holds of an error.
 use Rattle.std.proofs.Common.{Result, Ok, Err}
 use Rattle.std.specs.Prelude.{OnErr}
 

@@ -1,4 +1,4 @@
--- A number is from one to another where the tests say so.
+-- A number is in a range exactly if the tests say so.
 use Rattle.std.proofs.Common.{◌≡◌, ℕ, ◌≤◌, Bool, true, false, ◌&&◌, refl, ap₂}
 use Rattle.std.specs.Prelude.{nat_le}
 use Rattle.std.proofs.lemmas.Bool.{leb-true, le-leb}

@@ -1,6 +1,6 @@
--- The numbers from one to another.
+-- Ranges of numbers.
 use Rattle.std.specs.Prelude.{ℕ, Bool, ◌&&◌, nat_le}
 
--- n is from the least to the most; where the least is above the most, no number is
+-- true if n is in the range from least to most; the range is empty if the least is above the most
 abbrev pub is_within : (least most n : ℕ) → Bool
 is_within least most n = nat_le least n && nat_le n most

@@ -9,7 +9,7 @@ use itoa::Buffer;
 use std::alloc::Global;
 use std::marker::Model;
 
-/// A list of bytes, which contracts see as that list.
+/// A list of bytes. Contracts see it as that list.
 #[derive(Drop, Debug)]
 pub struct Bytes {
     bytes: Vec<u8>,
@@ -26,7 +26,7 @@ impl PartialEq for Bytes {
 
     ghost laws = { partial_equiv_from_equiv nat_list_eq_equiv };
 
-    /// Whether both are the same list.
+    /// Returns true if both are the same list.
     fn eq(&self, other: &Bytes) -> bool
         ensures value { result ≡ pointwise nat_eq self.now other.now }
         ensures same { IsTrue result ↔ (self.now ≡ other.now) }
@@ -40,7 +40,7 @@ impl Eq for Bytes {
 }
 
 impl Bytes {
-    /// No bytes. Takes no memory.
+    /// An empty list. It takes no memory.
     pub fn new(alloc: Global) -> Bytes
         ensures { result ≡ [] }
     {
@@ -50,6 +50,10 @@ impl Bytes {
     }
 
     /// A copy of `bytes`.
+    ///
+    /// # Errors
+    ///
+    /// Returns `NoMemory` if memory runs out.
     pub fn from_slice(alloc: Global, bytes: &[u8]) -> Result<Bytes, NoMemory>
         ensures { IfOk result (λ copy. copy ≡ bytes.now) }
     {
@@ -58,21 +62,21 @@ impl Bytes {
         })
     }
 
-    /// These bytes, which are handed over and not copied. Takes no memory.
+    /// These bytes, moved and not copied. It takes no memory.
     pub fn from_vec(bytes: Vec<u8>) -> Bytes
         ensures { result ≡ bytes.items }
     {
         Bytes { bytes }
     }
 
-    /// How many bytes there are.
+    /// The number of bytes.
     pub fn len(&self) -> usize
         ensures { result ≡ length self.now }
     {
         self.bytes.len()
     }
 
-    /// Whether there are none.
+    /// Returns true if there are no bytes.
     pub fn is_empty(&self) -> bool
         ensures { result ≡ (length self.now == 0) }
     {
@@ -87,6 +91,10 @@ impl Bytes {
     }
 
     /// Adds bytes at the end.
+    ///
+    /// # Errors
+    ///
+    /// Returns `NoMemory` if memory runs out.
     pub fn push_all(&mut self, more: &[u8]) -> Result<(), NoMemory>
         ensures ok { OnOk result (self.new ≡ self.old ++ more.now) }
         ensures err { OnErr result (self.new ≡ self.old) }
@@ -95,7 +103,11 @@ impl Bytes {
         Ok(())
     }
 
-    /// Adds the decimal digits of `n` at the end, after a minus sign where it is below 0.
+    /// Adds the decimal digits of `n` at the end, after a minus sign if it is below 0.
+    ///
+    /// # Errors
+    ///
+    /// Returns `NoMemory` if memory runs out.
     pub fn push_number(&mut self, n: i64) -> Result<(), NoMemory>
         ensures ok { OnOk result (self.new ≡ self.old ++ signed_decimal n) }
         ensures err { OnErr result (self.new ≡ self.old) }

@@ -1,11 +1,11 @@
-//! Why a call may be refused.
+//! The reasons for which a call fails.
 ghost use Rattle.std.specs.Prelude.{◌≡◌};
 ghost use Rattle.cq_common.specs.declared.faults.OpenFault.TheVariants.{NoMemory as no_memory_to_open};
 ghost use Rattle.cq_common.specs.declared.faults.Refusal.TheVariants.{NoMemory as no_memory_left};
 
 use std::alloc::{AllocError, AllocFailed};
 
-/// No memory was found.
+/// Memory ran out.
 #[derive(Clone, Copy, Debug, PartialEq, Eq)]
 pub struct NoMemory;
 
@@ -21,16 +21,16 @@ impl<T: Drop> From<AllocFailed<T>> for NoMemory {
     }
 }
 
-/// The outside failed at a read or a write. The count of faults of that object rose.
+/// A read or a write failed outside the program. The count of faults of its object rose.
 #[derive(Clone, Copy, Debug, PartialEq, Eq)]
 pub struct Failed;
 
 /// A fault of the input, or out of memory.
 #[derive(Clone, Copy, Debug, PartialEq, Eq, Drop)]
 pub enum Refusal<F> {
-    /// What was read or was asked for is refused.
+    /// The input or the request has this fault.
     Fault(F),
-    /// No memory was found.
+    /// Memory ran out.
     NoMemory,
 }
 
@@ -58,12 +58,12 @@ impl<F, T: Drop> From<AllocFailed<T>> for Refusal<F> {
     }
 }
 
-/// Why a file was not opened.
+/// The reasons for which a file was not opened.
 #[derive(Clone, Copy, Debug, PartialEq, Eq)]
 pub enum OpenFault {
     /// The desk failed to open it. The desk's count of open faults rose.
     Failed,
-    /// No memory was found.
+    /// Memory ran out.
     NoMemory,
 }
 

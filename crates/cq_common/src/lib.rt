@@ -1,5 +1,6 @@
-//! What readers of games and of queries, and the outside, share: lists of bytes, why a call may be refused, what threads may share, and a
-//! counter of steps; white space and decimal digits, which are the same in PGN and in queries; and lists that a pattern spells.
+//! Basics that the readers of games, the readers of queries and the outside share. These are lists of bytes, faults of calls, a counter of
+//! steps, and the trait of types that threads share. White space and decimal digits are the same in PGN and in queries. Patterns spell
+//! lists.
 #![tactic(auto)]
 
 pub mod bytes;

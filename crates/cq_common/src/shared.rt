@@ -1,9 +1,9 @@
-//! What threads share, or hand over.
+//! Values that threads share or hand over.
 
 use crate::bytes::Bytes;
 use crate::faults::{Failed, NoMemory, OpenFault, Refusal};
 
-/// A type of which threads may share values, or hand them over.
+/// A type whose values threads can share or hand over.
 pub trait Shared: Send + Sync {}
 
 impl Shared for Bytes {}

@@ -1,10 +1,10 @@
-//! Steps that are counted.
+//! A counter of steps.
 ghost use Rattle.std.specs.Prelude.{◌≡◌, ℕ, ◌+◌, ◌<◌};
 
 use std::marker::Model;
 use std::sync::ledger::{Blank, Book, Ledger, Share};
 
-/// How many steps were taken. It takes no bytes, and only `tick` changes it.
+/// The number of steps taken. It takes no bytes, and only `tick` changes it.
 #[derive(Drop)]
 pub struct Steps<L: Ledger> {
     book: Book<L>,
@@ -20,7 +20,7 @@ impl<L: Ledger> Model for Steps<L> {
 }
 
 impl<L: Ledger> Steps<L> {
-    /// A count that begins at 0, from a blank for its ledger.
+    /// A counter at 0, opened from the blank of its ledger.
     pub fn new(blank: Blank) -> Steps<L>
         requires { (blank.name ≡ L.name) × (blank.parts ≡ L.parts) × (0 < blank.parts) }
         ensures { result ≡ 0 }
@@ -29,7 +29,7 @@ impl<L: Ledger> Steps<L> {
         Steps { book, share }
     }
 
-    /// One step more.
+    /// Adds one step.
     pub fn tick(&mut self)
         ensures { self.new ≡ self.old + 1 }
     {

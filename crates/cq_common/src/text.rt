@@ -5,14 +5,14 @@ ghost use Rattle.std.specs.Char.{is_ascii_digit};
 ghost use Rattle.std.specs.Str.Parse.{digits_value};
 ghost use Rattle.cq_common.specs.Text.{is_white};
 
-/// Whether a byte is white space: 0x09 to 0x0D, or the space, 0x20.
+/// Returns true if a byte is white space: 0x09 to 0x0D, or the space, 0x20.
 pub fn is_white(b: u8) -> bool
     ensures { result ≡ is_white b }
 {
     matches!(b, 0x09..=0x0d | b' ')
 }
 
-/// How many bytes at the start of a text are white space.
+/// The number of bytes of white space at the start of a text.
 pub fn white_len(text: &[u8]) -> usize
     ensures value { result ≡ prefix_len is_white text.now }
     ensures within { result ≤ length text.now }
@@ -20,7 +20,7 @@ pub fn white_len(text: &[u8]) -> usize
     text.iter().take_while(|b| is_white(**b)).count()
 }
 
-/// How many digits stand at the start of a text.
+/// The number of digits at the start of a text.
 #[tactic(auto, using(crate::proofs::Digits::front_digits))]
 pub fn digits_len(text: &[u8]) -> usize
     ensures value { result ≡ prefix_len is_ascii_digit text.now }
@@ -30,8 +30,8 @@ pub fn digits_len(text: &[u8]) -> usize
     text.iter().take_while(|b| b.is_ascii_digit()).count()
 }
 
-/// The number that decimal digits write, or `most` where it is greater. There may be any number of digits, zeros first
-/// among them; no digits write 0.
+/// The number that decimal digits write, or `most` if it is greater. There can be any number of digits, leading zeros among them. No digits
+/// write 0.
 #[tactic(auto, using(crate::proofs::Digits::number_more, crate::proofs::Digits::digit_is))]
 pub fn decimal_up_to(most: u32, digits: &[u8]) -> u32
     requires digits { AllPass is_ascii_digit digits.now }

@@ -27,7 +27,7 @@ on_board_is (pos k) n e =
 is_on_board : (n : ℕ) → n < 8 → on_board (pos n) ≡ Some n
 is_on_board n h = sym (cond_below n 8 (Some n) None h)
 
--- where a step leads
+-- the goal of a step
 pub record LeadsTo (files ranks : ℤ) (a b : ℕ) : Type 0 where
   pub file : pos (file_of a) +ℤ files ≡ pos (file_of b)
   pub rank : pos (rank_of a) +ℤ ranks ≡ pos (rank_of b)

@@ -27,7 +27,7 @@ filter_reverse p (x ∷ xs) =
     ∙ sym (reverse-append (filter p (x ∷ [])) (filter p xs))
     ∙ ap reverse (sym (filter-append p (x ∷ []) xs))
 
--- what two squares have in common, as their file
+-- a line number that two squares share, for instance their file
 abbrev in_common : (ℕ → ℕ) → ℕ → ℕ → Bool
 in_common line a b = line a == line b
 
@@ -44,7 +44,7 @@ guarded false false true d w x y z inside = refl
 guarded false false false true w x y z inside = refl
 guarded false false false false w x y z inside = refl
 
--- what is between two squares is on one line with the first
+-- a square between two squares is on one line with the first
 between_aligned : (a b square : ℕ) → lies_between a b square ≡ aligned a square && lies_between a b square
 between_aligned a b square =
     guarded (in_common file_of a square) (in_common rank_of a square) (in_common rising_of a square) (in_common falling_of a square)

@@ -1,4 +1,4 @@
--- How a ray goes on, in each of the eight directions.
+-- The continuation of a ray in each of the eight directions.
 use Rattle.std.specs.List.{All, cons_option, filter_map}
 use Rattle.std.specs.Prelude.{IfSome, option_map, option_and_then}
 use Rattle.std.proofs.lemmas.Bool.{cases_lt, cond_below, cond_above}
@@ -15,7 +15,7 @@ too_far n m e = omega arith
 too_far_up : (n m : ℕ) → max m (suc (suc n)) ≡ 1 → ⊥
 too_far_up n m e = omega arith
 
--- what holds in each of the eight directions holds in a direction
+-- a property of each of the eight directions holds of any direction
 pub each_direction : (P : ℤ → ℤ → Type 0)
     → P (negsuc 0) (negsuc 0) → P (negsuc 0) (pos 0) → P (negsuc 0) (pos 1)
     → P (pos 0) (negsuc 0) → P (pos 0) (pos 1)

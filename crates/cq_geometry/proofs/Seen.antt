@@ -1,4 +1,4 @@
--- What is seen along the rays is what is on a line with no square occupied between.
+-- The squares seen along the rays are the squares on a line with no occupied square between.
 use Rattle.std.proofs.Common.{◌≡◌, ℕ, suc, ◌<◌, Bool, true, false, not, cond, ◌&&◌, ◌||◌, ◌==◌, List, [], ◌∷◌, ◌++◌, length, get_or, take, append_assoc, refl, inl, inr, sym, ap, ap₂, ◌∙◌, arith}
 use Rattle.std.specs.List.{list_all, list_any}
 use Rattle.std.proofs.lemmas.Bool.{cases_Bool, eqb-true}
@@ -56,7 +56,7 @@ blocked occupied before b front (x ∷ xs) h shut =
           ∙ blocked occupied before b (front ++ x ∷ []) xs (rest_before before front x xs h) (shut_by occupied front x false shut)
     ]
 
--- what is seen along a list is what has a free way
+-- the squares seen along a list are those with a free way
 reached : (occupied : ℕ → Bool) (before : ℕ → List ℕ) (b : ℕ) (front xs : List ℕ)
     → Lists before front xs → all_free occupied front ≡ true → has b (seen occupied xs) ≡ (has b xs && all_free occupied (before b))
 reached occupied before b front [] h free = refl

@@ -1,4 +1,4 @@
--- How rays cover the lines of the board, and what is between a square and each square of its rays.
+-- The rays cover the lines of the board. The squares between a square and a square of its ray are those before it on the ray.
 use Rattle.std.proofs.Common.{◌≡◌, ℕ, ◌<◌, ◌==◌, Bool, ℤ, List, [], map, length, get_or, take, refl, sym, ap, ◌∙◌, arith}
 use Rattle.std.specs.List.{list_any, range_with_len}
 use Rattle.std.proofs.lemmas.List.{get_or-map}

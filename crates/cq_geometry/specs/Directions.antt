@@ -8,7 +8,7 @@ use Rattle.cq_geometry.specs.declared.compass.Compass.TheVariants.{Up, Down, Lef
 use Rattle.cq_geometry.specs.Squares.{file_of, rank_of}
 use Rattle.cq_geometry.specs.Steps.{files_apart, ranks_apart}
 
--- the files that one step goes to the right
+-- the number of files that one step goes to the right
 abbrev pub files_of : Compass → ℤ
 files_of Up = pos 0
 files_of Down = pos 0
@@ -19,7 +19,7 @@ files_of Northwest = negsuc 0
 files_of Southeast = pos 1
 files_of Southwest = negsuc 0
 
--- the ranks that one step goes up
+-- the number of ranks that one step goes up
 abbrev pub ranks_of : Compass → ℤ
 ranks_of Up = pos 1
 ranks_of Down = negsuc 0
@@ -30,7 +30,7 @@ ranks_of Northwest = pos 1
 ranks_of Southeast = negsuc 0
 ranks_of Southwest = negsuc 0
 
--- a direction by how the files compare, how the ranks compare, and whether both are as far apart
+-- a direction by the order of the files, the order of the ranks, and whether both are equally far apart
 abbrev pub direction_by : Ordering → Ordering → Bool → Option Compass
 direction_by Equal Less _ = Some Up
 direction_by Equal Greater _ = Some Down

@@ -6,7 +6,7 @@ ghost use Rattle.cq_geometry.specs.Steps.{on_board, steps_away};
 use crate::square::{Square, file, rank, square_at};
 use crate::steps::moved;
 
-/// A direction, as White sees the board: up is one rank more, right one file more.
+/// A direction, as White sees the board. Up is one rank more, right is one file more.
 #[derive(Clone, Copy, Debug, PartialEq, Eq)]
 pub enum Compass {
     Up,
@@ -43,7 +43,7 @@ impl Compass {
     }
 }
 
-/// The square `n` steps away in a direction, or None where that is off the board.
+/// The square `n` steps away in a direction, or None if it is off the board.
 pub fn toward(s: Square, c: Compass, n: u32) -> Option<Square>
     ensures goal { result ≡ steps_away (files_of c) (ranks_of c) s n }
     ensures board { IfSome result (λ goal. goal < 64) }
@@ -53,7 +53,7 @@ pub fn toward(s: Square, c: Compass, n: u32) -> Option<Square>
     Some(square_at(file, rank))
 }
 
-// The file or rank `n` times `by` further, or None where that is off the board.
+// The file or rank `n` times `by` further, or None if it is off the board.
 fn moved_times(coordinate: u8, by: i8, n: u32) -> Option<u8>
     requires low { negsuc 0 ≤ℤ by }
     requires high { by ≤ℤ pos 1 }

@@ -11,8 +11,8 @@ use crate::steps::Step;
 use arrayvec::ArrayVec;
 use std::cmp::Ordering;
 
-/// The squares from a square in a direction, in order up to the edge. The direction is `DF` files to the right and `DR`
-/// ranks up, each from -1 to 1 and not both 0.
+/// The squares from a square in a direction, in order up to the edge. The direction is `DF` files to the right and `DR` ranks up, each from
+/// -1 to 1 and not both 0.
 pub fn ray<const DF: i8, const DR: i8>(s: Square) -> ArrayVec<Square, 7>
     requires { IsDirection DF DR }
     ensures squares { result.items ≡ ray_from DF DR s }
@@ -27,7 +27,7 @@ pub fn ray<const DF: i8, const DR: i8>(s: Square) -> ArrayVec<Square, 7>
     squares
 }
 
-/// The squares strictly between two squares of one rank, file or diagonal, from `a` to `b`; none for other pairs.
+/// The squares strictly between two squares of one rank, file or diagonal, from `a` to `b`. There are none for other pairs.
 #[tactic(auto, using(crate::proofs::Inside::between_board))]
 pub fn between(a: Square, b: Square) -> ArrayVec<Square, 6>
     ensures squares { result.items ≡ between_squares a b }
@@ -53,7 +53,7 @@ fn along(s: Square, c: Compass, end: u32) -> ArrayVec<Square, 6>
     squares
 }
 
-// The moves that a king needs from one square to another.
+// The number of moves that a king needs from one square to another.
 fn distance(a: Square, b: Square) -> u32
     ensures value { result ≡ king_distance a b }
     ensures bound { result ≤ 7 }
@@ -61,7 +61,7 @@ fn distance(a: Square, b: Square) -> u32
     u32::from(files_apart(a, b).max(ranks_apart(a, b)))
 }
 
-// The direction from `a` to `b`, or None where they are not on one rank, file or diagonal, or are the same.
+// The direction from `a` to `b`, or None if they are the same or not on one rank, file or diagonal.
 #[tactic(auto, unfolding(crate::specs::Directions::direction_to))]
 fn direction(a: Square, b: Square) -> Option<Compass>
     ensures { result ≡ direction_to a b }

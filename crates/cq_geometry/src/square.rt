@@ -5,7 +5,7 @@ ghost use Rattle.cq_geometry.specs.Steps as squares_apart;
 
 use std::marker::Model;
 
-/// A square: contracts see its number, a1 is 0, b1 is 1 and h8 is 63.
+/// A square. Contracts see its number: a1 is 0, b1 is 1 and h8 is 63.
 #[derive(Clone, Copy, Debug, PartialEq, Eq, PartialOrd, Ord)]
 pub struct Square {
     index: u8,
@@ -33,7 +33,7 @@ impl Default for Square {
 }
 
 impl Square {
-    /// The square of a number below 64.
+    /// The square with this number, below 64.
     #[inline]
     pub fn new(number: u8) -> Square
         requires { number < 64 }
@@ -83,7 +83,7 @@ pub fn rank(s: Square) -> u8
     s.index / 8
 }
 
-/// How many files lie from one square to another, from 0 to 7.
+/// The number of files from one square to another, from 0 to 7.
 #[inline]
 pub fn files_apart(a: Square, b: Square) -> u8
     ensures value { result ≡ squares_apart.files_apart a b }
@@ -92,7 +92,7 @@ pub fn files_apart(a: Square, b: Square) -> u8
     file(a).abs_diff(file(b))
 }
 
-/// How many ranks lie from one square to another, from 0 to 7.
+/// The number of ranks from one square to another, from 0 to 7.
 #[inline]
 pub fn ranks_apart(a: Square, b: Square) -> u8
     ensures value { result ≡ squares_apart.ranks_apart a b }
@@ -101,7 +101,7 @@ pub fn ranks_apart(a: Square, b: Square) -> u8
     rank(a).abs_diff(rank(b))
 }
 
-/// Whether the square is light, as h1 is (FIDE Laws of Chess, article 2.1).
+/// Returns true if the square is light, as h1 is (FIDE Laws of Chess, article 2.1).
 pub fn is_light(s: Square) -> bool
     ensures { IsTrue result ↔ IsLight s }
 {

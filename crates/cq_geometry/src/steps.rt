@@ -1,4 +1,4 @@
-//! Steps of so many files and ranks.
+//! Steps by files and ranks.
 ghost use Rattle.std.specs.Prelude.{◌≡◌, ◌<◌, ◌^◌, All, IfSome, pos, negsuc, ◌+ℤ◌, ◌≤ℤ◌};
 ghost use Rattle.cq_geometry.specs.Internal.Expansions.{king_goals, knight_goals, kept_goals};
 ghost use Rattle.cq_geometry.specs.Steps.{on_board, stepped, king_squares, knight_squares};
@@ -6,7 +6,7 @@ ghost use Rattle.cq_geometry.specs.Steps.{on_board, stepped, king_squares, knigh
 use crate::square::{Square, file, rank, square_at};
 use arrayvec::ArrayVec;
 
-/// The file or rank `by` further, or None where that is off the board.
+/// The file or rank `by` further, or None if it is off the board.
 #[inline]
 pub(crate) fn moved(coordinate: u8, by: i64) -> Option<u8>
     requires low { negsuc (2 ^ 33) ≤ℤ by }
@@ -26,7 +26,7 @@ pub(crate) fn moved(coordinate: u8, by: i64) -> Option<u8>
 pub struct Step<const DF: i8, const DR: i8>;
 
 impl<const DF: i8, const DR: i8> Step<DF, DR> {
-    /// The square that the step leads to, or None where that is off the board.
+    /// The goal of the step, or None if it is off the board.
     #[inline]
     pub fn step(s: Square) -> Option<Square>
         requires files { (negsuc 1 ≤ℤ DF) × (DF ≤ℤ pos 2) }
@@ -40,14 +40,14 @@ impl<const DF: i8, const DR: i8> Step<DF, DR> {
     }
 }
 
-/// Expands to the goals of the steps that are listed, each by its files and its ranks.
+/// Expands to the goals of the listed steps, each given by its files and its ranks.
 macro_rules! goals {
     ($square:expr; $(($files:literal, $ranks:literal)),*) => {
         [$(Step::<$files, $ranks>::step($square)),*]
     };
 }
 
-/// The squares that adjoin a square, to which a king steps (FIDE Laws of Chess, article 3.8.1), in the order of their numbers.
+/// The squares that adjoin a square, in the order of their numbers. A king steps to them (FIDE Laws of Chess, article 3.8.1).
 #[tactic(auto, using(crate::proofs::Neighbors::king_goals_kept, crate::proofs::Neighbors::king_board))]
 pub fn king_steps(s: Square) -> ArrayVec<Square, 8>
     ensures squares { result.items ≡ king_squares s }

@@ -98,7 +98,7 @@ pub any_of_set : (test : ℕ → Bool) (mask : ℕ) → All (λ s. has_bit mask 
 unfolding set_squares
 any_of_set test mask h = any_of_rest test mask squares h
 
--- what is found and what is left are the whole
+-- the squares found and the squares left are the whole
 pub record IsPartly (part : ℕ → List Move) (whole found : List Move) (mask : ℕ) : Type 0 where
   pub rest : found ++ flat_map part (set_squares mask) ≡ whole
 

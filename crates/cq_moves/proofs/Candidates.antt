@@ -1,4 +1,4 @@
--- Where a man goes is among its candidates.
+-- The goals of a man are among its candidates.
 use Rattle.std.proofs.Common.{◌≡◌, ℕ, ◌<◌, Bool, true, false, not, ◌&&◌, ◌||◌, ◌==◌, map, refl, inl, inr, sym}
 use Rattle.std.proofs.lemmas.Bool.{and_parts, or_cases, or_left, or_right, eqb-true}
 use Rattle.cq_geometry.specs.Squares.{squares}

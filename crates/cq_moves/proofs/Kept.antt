@@ -42,7 +42,7 @@ no_king_there p m g s = false_from_ne_true (stands p.men m.to (king_of s)) (λ e
       | inr other ↦ let bad : false ≡ true = sym g.no_king ∙ ap (λ t. stands p.men m.to (king_of t)) (sym other) ∙ e in cc
     ])
 
--- what a move keeps of the men: their squares, the kings, at most as many men of a side, and no pawn on the edge
+-- the men after a move: all squares, the kings, at most as many men of a side, and no pawn on the edge
 pub record Keeps (old men : List Man) : Type 0 where
   pub whole : length men ≡ 64
   pub kings : (s : Side) → count_of (king_of s) men ≡ count_of (king_of s) old
@@ -165,7 +165,7 @@ after_keeps p m w free stood g (captured c is) =
     subst (Keeps p.men) (sym is) (taken_keeps p.men (men_moved p m) (beside m.from m.to) (opponent p.side) (moved_keeps p m w free g) c.board pawn)
 after_keeps p m w free stood g (moved is) = subst (Keeps p.men) (sym is) (moved_keeps p m w free g)
 
--- what stands on a square that the move leaves alone
+-- the man on a square that the move leaves alone
 same_after : (p : Board) (m : Move) → Way p m → (square : ℕ) → square ≢ m.from → square ≢ m.to
     → ((kingside : Bool) → stands p.men m.from (king_of p.side) ≡ true → (square ≢ rook_home p.side kingside) × (square ≢ castling_crossed p.side kingside))
     → man_at p.men square ≢ pawn_of (opponent p.side) → man_at (men_after p m) square ≡ man_at p.men square
@@ -187,7 +187,7 @@ rook_not_pawn White Black e = cc
 rook_not_pawn Black White e = cc
 rook_not_pawn Black Black e = cc
 
--- what a right that is kept says of the move
+-- the facts about a right that is left after a move
 record RightKept (p : Board) (m : Move) (s : Side) (kingside : Bool) : Type 0 where
   right : castling_right p.rights s kingside ≡ true
   no_king : stands p.men m.from (king_of s) ≡ false

@@ -93,7 +93,7 @@ flat_map-take_more f xs n d h =
     ∙ flat_map-append f (take n xs) (get_or xs n d ∷ [])
     ∙ ap (λ ys. flat_map f (take n xs) ++ ys) (append-nil (f (get_or xs n d)))
 
--- what no element passes keeps nothing
+-- a filter keeps nothing if no element passes
 pub filter-none : {X : Type 0} (p : X → Bool) (xs : List X) → All (λ x. p x ≡ false) xs → filter p xs ≡ []
 filter-none p [] h = refl
 filter-none p (x ∷ xs) h =

@@ -1,4 +1,4 @@
--- The list of all moves: what it holds, and its order.
+-- The list of all moves: its elements, and its order.
 use Rattle.std.proofs.Common.{◌≡◌, ℕ, zero, suc, ◌<◌, true, false, map, length, refl, inl, inr, sym, ap, ◌∙◌, subst, arith, lit<}
 use Rattle.std.specs.List.{All, AllPairs, Contains, list_any}
 use Rattle.std.specs.List.Sorted.{IsStrictlyIncreasing}

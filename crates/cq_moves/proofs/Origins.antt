@@ -1,4 +1,4 @@
--- From where a man goes to a square, seen from there.
+-- The origins of a man's moves to a square, seen from that square.
 use Rattle.std.proofs.Common.{◌≡◌, ℕ, ◌+◌, ◌<◌, max, Bool, true, false, ◌&&◌, ◌||◌, ◌==◌, map, refl, inl, inr, sym, ap, ap₂, ◌∙◌, Some, arith}
 use Rattle.std.proofs.lemmas.Bool.{or_cases, or_left, or_right, eqb-true, eq-eqb}
 use Rattle.cq_geometry.specs.Squares.{squares, file_of, rank_of}
@@ -63,7 +63,7 @@ both_ways side Queen occupied a b h k other =
     ap₂ (λ x y. x && y) (ap₂ (λ x y. x || y) (orthogonal_both_ways a b) (diagonal_both_ways a b)) (open_both_ways occupied a b k)
 both_ways side Pawn occupied a b h k other = absurd (other refl)
 
--- where a king goes, from what it attacks or from its home
+-- the origins of a king's moves: the squares that it attacks from the goal, and its home, from which it castles
 king_comes : (p : Board) (a b : ℕ) → (attacks p.men a b || castles p a b true || castles p a b false) ≡ true
     → (attacks p.men a b || is_goal (Some (king_home p.side)) a) ≡ true
 king_comes p a b h =
@@ -161,7 +161,7 @@ module _ (p : Board) (a b : ℕ) (h : a < 64) (k : b < 64) where
   seen_attacks Bishop king pawn st = seen_as p.side Bishop pawn (same_man-is (man_at p.men a) (man_of p.side Bishop) st)
   seen_attacks Knight king pawn st = seen_as p.side Knight pawn (same_man-is (man_at p.men a) (man_of p.side Knight) st)
 
--- where a man of a piece goes, whatever its side
+-- the goals of a man of a piece, whatever its side
 as_king : (p : Board) (a b : ℕ) (side : Side) → goes_as (man_of side King) p a b ≡ (attacks p.men a b || castles p a b true || castles p a b false)
 as_king p a b White = refl
 as_king p a b Black = refl

@@ -56,13 +56,13 @@ pub any_parts : (p : Board) → list_any (legal_test p) all_moves ≡ list_any (
 unfolding all_moves
 any_parts p = list_any-flat_map (legal_test p) moves_from squares
 
--- where a man goes, the move is judged by what it promotes to and by the king's safety
+-- a move to one of a man's goals is judged by its promotion and by the king's safety
 pub reached_move : (p : Board) (m : Move) → m.null ≡ false → m.to < 64 → reaches p m.from m.to ≡ true
     → legal_test p m ≡ (promotion_is_right p m && is_safe p m)
 reached_move p m null below open_ =
     passes_in_parts p m null below ∙ ap (λ t. t && promotion_is_right p m && is_safe p m) open_
 
--- where the choices have room, the next one has
+-- if the choices have room, the next one has
 pub room_for_choice : (part : Promotion → List Move) (choices : List Promotion) (n : ℕ) (d : Promotion) (old before : List Move) → n < length choices
     → before ≡ old ++ flat_map part (take n choices) → length old + length (flat_map part choices) ≤ 512
     → length before + length (part (get_or choices n d)) ≤ 512
@@ -73,7 +73,7 @@ pub all_choices : (part : Promotion → List Move) (choices : List Promotion) (n
     → after ≡ old ++ flat_map part (take n choices) → after ≡ old ++ flat_map part choices
 all_choices part choices n old after h e = e ∙ ap (λ xs. old ++ flat_map part xs) (take_all n choices h)
 
--- which promotions are right, by whether the pawn reaches the last rank
+-- the promotions that are right, by whether the pawn reaches the last rank
 right_when : (pawn last none : Bool) (t : Bool) → (pawn && last) ≡ t
     → cond pawn (cond last (not none) none) none ≡ cond t (not none) none
 right_when true true none t e = ap (λ b. cond b (not none) none) e

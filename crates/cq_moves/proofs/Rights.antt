@@ -1,4 +1,4 @@
--- Where no right to castle is left, none is after a move.
+-- A move restores no right to castle if none is left.
 use Rattle.std.proofs.Common.{◌≡◌, Bool, true, false, ◌&&◌, ◌||◌, refl, sym, ap, ◌∙◌}
 use Rattle.cq_position.specs.declared.position.Rights.{Rights}
 use Rattle.cq_position.specs.declared.moves.Move.{Move}

@@ -28,7 +28,7 @@ use Rattle.cq_moves.proofs.Law.{what_moves, owned_on_board}
 use Rattle.cq_moves.proofs.Order.{from_goes}
 use Rattle.cq_moves.proofs.Parts.{legal_list_parts}
 
--- where each man can go on some board
+-- the goals of each man on some board
 abbrev castles_to : Side → Bool → ℕ → ℕ → Bool
 castles_to side kingside a b = (a == king_home side) && (b == castling_goal side kingside)
 
@@ -147,7 +147,7 @@ few_man BlackN side a h = few_knight a h
 few_man BlackP side a h = few_pawn side a h
 few_man Empty side a h = omega (arith, ap length (filter-none (λ m. false) (moves_from a) (λ k d below. refl)))
 
--- what a man does, it may do
+-- the goals of a man are goals on some board
 or_both : (t u v x y z : Bool) → (t ≡ true → x ≡ true) → (u ≡ true → y ≡ true) → (v ≡ true → z ≡ true)
     → (t || u || v) ≡ true → (x || y || z) ≡ true
 or_both true u v x y z f g k h = or_left (x || y) z (or_left x y (f refl))
@@ -180,7 +180,7 @@ pawn_moves_goes p a b h =
     (λ k. first_of_two (is_double_step p.side a b) _ (first_of_two _ _ k))
     (first_of_two (is_pawn_attack p.side a b) _) h
 
--- what a man attacks, once it is known which man it is
+-- the squares that a man attacks, given which man it is
 abbrev AttacksAs : Man → Board → ℕ → ℕ → Type 0
 AttacksAs man p a b = attacks p.men a b ≡ attacks_as man (is_occupied p.men) a b
 

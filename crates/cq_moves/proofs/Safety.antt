@@ -1,4 +1,4 @@
--- When a move leaves the king safe.
+-- Conditions under which a move leaves the king safe.
 use Rattle.std.proofs.Common.{◌≡◌, ◌≢◌, ℕ, ◌<◌, true, false, cond, not, ◌==◌, length, refl, sym, ap, ◌∙◌, inl, inr, arith}
 use Rattle.std.specs.Prelude.{slice_set, nat_lt}
 use Rattle.std.proofs.lemmas.Bool.{cases_eq, cond-true, cond-false, eq-eqb, eqb-true, false_from_ne_true, not_from_false, and_parts}
@@ -128,8 +128,8 @@ only_moves p m k at other none =
     cond-false (is_castling p m) (rook_moved (men_moved p m) p.side (nat_lt m.from m.to)) plain no_castling
     ∙ cond-false (is_en_passant_capture p m) removed (men_moved p m) none
 
--- A man that is not the king leaves it safe where the king would be safe without it, but for a capture on the en passant square, which takes
--- another man from the board too.
+-- A man other than the king leaves it safe if the king would be safe without that man. A capture on the en passant square is an exception,
+-- since it also takes another man from the board.
 pub stays_safe : (p : Board) (m : Move) (k : ℕ) → IsPosition p → IsKingSquare p.men p.side k → m.from ≢ k
     → is_attacked (slice_set p.men m.from Empty) (opponent p.side) k ≡ false
     → is_pseudo_legal p m ≡ true → is_en_passant_capture p m ≡ false → is_safe p m ≡ true

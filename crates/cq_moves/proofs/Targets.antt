@@ -1,4 +1,4 @@
--- The sets of squares to which men go.
+-- The sets of goals of men.
 use Rattle.std.proofs.Common.{◌≡◌, ℕ, ◌<◌, Bool, true, false, not, ◌&&◌, ◌==◌, map, Option, Some, None, refl, inl, inr, sym, ap, ◌∙◌, pos, negsuc}
 use Rattle.std.proofs.lemmas.Bool.{cases_eq, eq-eqb, ne_eqb, false_from_ne_true}
 use Rattle.cq_geometry.specs.Squares.{squares}

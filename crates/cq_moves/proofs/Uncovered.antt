@@ -1,4 +1,4 @@
--- Where no man that attacks along lines is in line with a square, no man's leaving uncovers an attack on it.
+-- If no man that attacks along lines is in line with a square, a man that leaves uncovers no attack on it.
 use Rattle.std.proofs.Common.{◌≡◌, ℕ, ◌<◌, Bool, true, false, ◌&&◌, ◌||◌, List, [], ◌∷◌, length, refl, inl, inr, sym, ap, ◌∙◌}
 use Rattle.std.specs.Prelude.{slice_set}
 use Rattle.std.specs.List.{list_any}
@@ -29,7 +29,7 @@ fewer_in s t u (x ∷ xs) h e =
     let parts = or_parts (t x && u x) (list_any (λ a. t a && u a) xs) e in
     rw (fewer (s x) (t x) (u x) (h x) parts.0) (fewer_in s t u xs h parts.1)
 
--- what a man is that still stands there it was before
+-- a man still on its square is the same as before
 was_there : (kind : Man → Bool) (men : List Man) (from a : ℕ) → from < length men → kind Empty ≡ false
     → kind (man_at (slice_set men from Empty) a) ≡ true → kind (man_at men a) ≡ true
 was_there kind men from a low none h =
@@ -45,7 +45,7 @@ left_finds_less : (kind : Man → Bool) (men : List Man) (from : ℕ) (u : ℕ �
 left_finds_less kind men from u low none e =
     fewer_in (λ a. kind (man_at (slice_set men from Empty) a)) (λ a. kind (man_at men a)) u squares (λ a h. was_there kind men from a low none h) e
 
--- which kinds of men no empty square is
+-- the kinds of men that no empty square is
 record NoneIsEmpty (by : Side) : Type 0 where
   straight : is_orthogonal_slider by Empty ≡ false
   slanted : is_diagonal_slider by Empty ≡ false

@@ -21,7 +21,7 @@ use Rattle.cq_moves.proofs.Bits.{lowest_below, has_bit, cleared, set_squares, Is
 use Rattle.cq_moves.proofs.Room.{none_from_other, other_has_none}
 use Rattle.cq_moves.proofs.Parts.{legal_list_parts, any_parts, legal_from_parts, none_between_unreached, any_from_parts, unreached_has_none}
 
--- what a set lacks fails its test
+-- a square that a set lacks fails its test
 unset : (test : ℕ → Bool) (mask s : ℕ) → IsBitboard mask test → s < 64 → has_bit mask s ≡ false → test s ≡ false
 unset test mask s m h clear = not_set (test s) (m.bit s h)
   where

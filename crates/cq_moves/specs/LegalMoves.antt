@@ -10,18 +10,18 @@ use Rattle.cq_position.specs.Legal.{last_rank}
 use Rattle.cq_position.specs.Men.{promotion_number}
 use Rattle.cq_position.specs.Legality.{legal_test}
 
--- no promotion, and those to a queen, a rook, a bishop and a knight
+-- no promotion, and the promotions to a queen, a rook, a bishop and a knight
 abbrev pub promotions : List Promotion
 promotions = NoPromotion ∷ ToQueen ∷ ToRook ∷ ToBishop ∷ ToKnight ∷ []
 
--- what a pawn becomes on the last rank
+-- the pieces that a pawn can become on the last rank
 abbrev pub pieces : List Promotion
 pieces = ToQueen ∷ ToRook ∷ ToBishop ∷ ToKnight ∷ []
 
 abbrev pub move_of : ℕ → ℕ → Promotion → Move
 move_of a b choice = record { from = a; to = b; promotion = choice; null = false }
 
--- the moves from one square to another, from one square, and all moves, whatever stands on the board
+-- the moves from one square to another, from one square, and all moves, for any board
 abbrev pub moves_between : ℕ → ℕ → List Move
 moves_between a b = map (move_of a b) promotions
 
@@ -41,15 +41,15 @@ legal_from p a = filter (legal_test p) (moves_from a)
 unfoldable pub legal_between : Board → ℕ → ℕ → List Move
 legal_between p a b = filter (legal_test p) (moves_between a b)
 
--- the move itself where it is legal
+-- the list of this move if it is legal, else the empty list
 abbrev pub if_legal : Board → ℕ → ℕ → Promotion → List Move
 if_legal p a b choice = filter (legal_test p) (move_of a b choice ∷ [])
 
--- a pawn goes to the last rank, where it promotes (FIDE Laws of Chess, article 3.7.3.3)
+-- true if a pawn goes to the last rank, where it promotes (FIDE Laws of Chess, article 3.7.3.3)
 abbrev pub promotes : Board → ℕ → ℕ → Bool
 promotes p a b = is_pawn (man_at p.men a) && (rank_of b == last_rank p.side)
 
--- moves are ordered by the square from which they go, then by their goal, then by the promotion
+-- the order of moves: by their origins, then by their goals, then by their promotions
 abbrev pub Precedes : Move → Move → Type 0
 Precedes m n =
     (m.from < n.from)

@@ -1,4 +1,4 @@
-//! The squares to which a man of the side to move goes, as a set (FIDE Laws of Chess, article 3).
+//! The goals of a man of the side to move, as a set (FIDE Laws of Chess, article 3).
 ghost use Rattle.std.specs.Prelude.{◌≡◌, ◌&&◌, ◌||◌, ◌<◌, ℕ, not, true, false};
 ghost use Rattle.cq_position.specs.Attacks as attack;
 ghost use Rattle.cq_position.specs.Bitboards.{IsBitboard};
@@ -17,7 +17,7 @@ use cq_position::home_squares::castling_goal;
 use cq_position::{Man, Piece, Position, Side, is_of_side, man_of, opponent};
 use cq_square_sets::set_of;
 
-/// The squares to which a man goes: bit k of the answer is square k.
+/// The goals of a man. Bit k of the result is the square k.
 pub(crate) fn goals_from(position: &Position, mover: &Mover, origin: &Origin) -> u64
     requires mover { IsMover position.now mover.now }
     requires origin { IsOrigin position.now origin.now }
@@ -30,7 +30,7 @@ pub(crate) fn goals_from(position: &Position, mover: &Mover, origin: &Origin) ->
     }
 }
 
-/// The squares that hold no man of the side to move and no king.
+/// The squares without a man of the side to move and without a king.
 pub(crate) fn free_squares(position: &Position) -> u64
     ensures { IsBitboard result (is_free position.now) }
 {
@@ -39,7 +39,7 @@ pub(crate) fn free_squares(position: &Position) -> u64
     !men.squares_of_side(side) & !men.squares_of_piece(opponent(side), Piece::King)
 }
 
-// The squares to which such a man on the square goes, whatever stands there.
+// The goals of such a man on the square, squares that are not free among them.
 #[tactic(auto, using(cq_square_sets::proofs::Marked::marks_none))]
 fn goals_of(man: Man, position: &Position, origin: &Origin) -> u64
     requires { IsOrigin position.now origin.now }
@@ -57,7 +57,7 @@ fn goals_of(man: Man, position: &Position, origin: &Origin) -> u64
     }
 }
 
-// The square to which the king castles, where it does.
+// The square to which the king castles, if it can.
 fn castling_goals(position: &Position, from: Square, kingside: bool) -> u64
     ensures { IsBitboard result (λ to. legal.castles position.now from to kingside) }
 {
@@ -69,14 +69,14 @@ fn castling_goals(position: &Position, from: Square, kingside: bool) -> u64
     }
 }
 
-// The squares to which a pawn steps and those where it captures.
+// The squares to which a pawn steps, and those on which it captures.
 fn pawn_goals(position: &Position, from: Square) -> u64
     ensures { IsBitboard result (legal.pawn_moves position.now from) }
 {
     single_goals(position, from) | double_goals(position, from) | captures(position, from)
 }
 
-// The square one rank ahead, where it is empty.
+// The square one rank ahead if it is empty.
 fn single_goals(position: &Position, from: Square) -> u64
     ensures { IsBitboard result (λ to. legal.is_single_step position.now.side from to && not (attack.is_occupied position.now.men to)) }
 {
@@ -92,7 +92,7 @@ fn square_ahead(side: Side, from: Square) -> u64
     }
 }
 
-// The square two ranks ahead, where that and the one before it are empty and the pawn is at home.
+// The square two ranks ahead, if the pawn is at home and both squares ahead are empty.
 fn double_goals(position: &Position, from: Square) -> u64
     ensures { IsBitboard result (λ to. legal.is_double_step position.now.side from to
         && not (attack.is_occupied position.now.men (legal.middle from to)) && not (attack.is_occupied position.now.men to)) }
@@ -103,7 +103,7 @@ fn double_goals(position: &Position, from: Square) -> u64
     }
 }
 
-// The goal of a double step, where it and the square in the middle are empty.
+// The goal of a double step, if it and the square in the middle are empty.
 fn passed_goal(position: &Position, from: Square, goal: Square) -> u64
     requires { double_goal position.now.side from ≡ Some goal }
     ensures { IsBitboard result (λ to. legal.is_double_step position.now.side from to
@@ -122,7 +122,7 @@ fn are_empty(position: &Position, a: Square, b: Square) -> bool
     !is_occupied(position.men(), a) && !is_occupied(position.men(), b)
 }
 
-// The square two ranks ahead of a pawn's home.
+// The square two ranks ahead of a pawn on its home rank.
 fn double_step(side: Side, from: Square) -> Option<Square>
     ensures { result ≡ double_goal side from }
 {
@@ -133,7 +133,7 @@ fn double_step(side: Side, from: Square) -> Option<Square>
     }
 }
 
-// The squares where a pawn captures, the en passant square too.
+// The squares on which a pawn captures, the en passant square among them.
 fn captures(position: &Position, from: Square) -> u64
     ensures { IsBitboard result (λ to. attack.is_pawn_attack position.now.side from to
         && (men_spec.is_of_side (men_spec.opponent position.now.side) (man_at position.now.men to)

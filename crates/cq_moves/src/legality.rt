@@ -1,4 +1,4 @@
-//! Whether a move is legal.
+//! The legality of a move.
 ghost use Rattle.std.specs.Prelude.{◌≡◌, ◌↔◌, ◌<◌, ◌||◌, IsTrue, true, false};
 ghost use Rattle.cq_position.specs.Attacks as attack;
 ghost use Rattle.cq_position.specs.Bitboards.{IsBitboard};
@@ -21,8 +21,8 @@ use cq_position::attacks::is_attacked;
 use cq_position::king::king_square;
 use cq_position::{Move, Piece, Position, attacks_from, opponent};
 
-/// Whether a move is legal in a position: the man can make it, and the king of its side isn't attacked then (FIDE Laws of Chess, articles
-/// 3.1 to 3.10.1). A null move is none.
+/// Returns true if a move is legal in a position (FIDE Laws of Chess, articles 3.1 to 3.10.1). The man can make the move, and the king of
+/// its side isn't attacked afterwards. A null move is not legal in this sense.
 #[tactic(auto, using(cq_position::proofs::Legality::legal_law))]
 pub fn is_legal(position: &Position, m: Move) -> bool
     ensures { IsTrue result ↔ ((q : Board) × Legal position.now m q) }
@@ -30,8 +30,8 @@ pub fn is_legal(position: &Position, m: Move) -> bool
     passes(position, &m)
 }
 
-/// Whether a move of such a piece is legal. `seen` has the squares from which one may come to the goal, as
-/// [`origins_to`](crate::origins_to) tells them, so that no line is looked along again.
+/// Returns true if a move of such a piece is legal. `seen` is the result of [`origins_to`](crate::origins_to) for the goal, so that no line
+/// is searched again.
 #[tactic(auto, using(crate::proofs::Law::passes_in_parts))]
 pub fn is_legal_seen(position: &Position, piece: Piece, seen: u64, m: &Move) -> bool
     requires seen { IsBitboard seen (may_come position.now.side piece (attack.is_occupied position.now.men) m.now.to) }
@@ -42,7 +42,7 @@ pub fn is_legal_seen(position: &Position, piece: Piece, seen: u64, m: &Move) -> 
     reaches_seen(position, piece, seen, m) && is_legal_reach(position, m)
 }
 
-// Whether the move of a man to a square that it reaches is legal.
+// Returns true if the move of a man to a square that it reaches is legal.
 #[inline]
 fn is_legal_reach(position: &Position, m: &Move) -> bool
     requires null { m.now.null ≡ false }
@@ -53,7 +53,7 @@ fn is_legal_reach(position: &Position, m: &Move) -> bool
     promotion_is_right(position, m) && is_safe(position, king_square(position, position.side()), m)
 }
 
-// Whether the man goes to the goal, which holds none of its own men and no king.
+// Returns true if the man goes to the goal, and the goal has none of its own men and no king.
 #[inline]
 fn reaches_seen(position: &Position, piece: Piece, seen: u64, m: &Move) -> bool
     requires seen { IsBitboard seen (may_come position.now.side piece (attack.is_occupied position.now.men) m.now.to) }
@@ -65,7 +65,8 @@ fn reaches_seen(position: &Position, piece: Piece, seen: u64, m: &Move) -> bool
     goes_seen(position, piece, seen, m) && is_free(position, m.to)
 }
 
-// Whether the man goes to the goal, whatever stands there: all but pawns and kings are seen from there exactly where they attack it.
+// Returns true if the man goes to the goal. The test that the goal is free is separate. Every man but pawns and kings is seen from the
+// goal exactly if it attacks the goal.
 #[inline]
 fn goes_seen(position: &Position, piece: Piece, seen: u64, m: &Move) -> bool
     requires seen { IsBitboard seen (may_come position.now.side piece (attack.is_occupied position.now.men) m.now.to) }
@@ -79,7 +80,7 @@ fn goes_seen(position: &Position, piece: Piece, seen: u64, m: &Move) -> bool
     }
 }
 
-// Whether the king steps or castles so.
+// Returns true if the king makes this move, by a step or by castling.
 fn king_goes(position: &Position, m: &Move) -> bool
     requires { stands position.now.men m.now.from (man_of position.now.side King) ≡ true }
     ensures { result ≡ (attack.attacks position.now.men m.now.from m.now.to
@@ -90,7 +91,7 @@ fn king_goes(position: &Position, m: &Move) -> bool
         || castles(position, m.from, m.to, false)
 }
 
-// Whether the square holds no man of the side to move and no king.
+// Returns true if the square has no man of the side to move and no king.
 #[inline]
 fn is_free(position: &Position, square: Square) -> bool
     ensures { result ≡ mover.is_free position.now square }
@@ -98,7 +99,7 @@ fn is_free(position: &Position, square: Square) -> bool
     free_squares(position) >> square.number() & 1 == 1
 }
 
-// Whether the move goes from a square of the set.
+// Returns true if the move goes from a square of the set.
 #[inline]
 fn comes(position: &Position, piece: Piece, seen: u64, m: &Move) -> bool
     requires { IsBitboard seen (may_come position.now.side piece (attack.is_occupied position.now.men) m.now.to) }
@@ -110,7 +111,7 @@ fn comes(position: &Position, piece: Piece, seen: u64, m: &Move) -> bool
     seen >> m.from.number() & 1 == 1
 }
 
-// The test, the cheap parts first.
+// The test of legality, with the cheap parts first.
 #[tactic(auto, using(crate::proofs::Law::null_fails, crate::proofs::Law::passes_in_parts))]
 fn passes(position: &Position, m: &Move) -> bool
     ensures { result ≡ legality.legal_test position.now m.now }
@@ -125,8 +126,8 @@ fn passes(position: &Position, m: &Move) -> bool
         && is_legal_reach(position, m)
 }
 
-/// Whether the king of the side that moved isn't attacked after the move (FIDE Laws of Chess, article 3.9.2). `king` is its square before
-/// the move.
+/// Returns true if the king of the side that moved isn't attacked after the move (FIDE Laws of Chess, article 3.9.2). `king` is its square
+/// before the move.
 #[tactic(auto, using(crate::proofs::Safety::safe_at_king))]
 pub(crate) fn is_safe(position: &Position, king: Square, m: &Move) -> bool
     requires king { IsKingSquare position.now.men position.now.side king }
@@ -137,7 +138,7 @@ pub(crate) fn is_safe(position: &Position, king: Square, m: &Move) -> bool
     !is_attacked(&men, opponent(position.side()), king_after(king, m))
 }
 
-// Where the king stands after the move.
+// The king's square after the move.
 fn king_after(king: Square, m: &Move) -> Square
     ensures { result ≡ mover.king_after king m.now }
 {

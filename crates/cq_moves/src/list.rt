@@ -17,8 +17,8 @@ use cq_position::position::is_pawn;
 use cq_position::{Move, Position, Promotion};
 use cq_square_sets::lowest_square;
 
-/// The legal moves of a position, each once, in the order of the squares from which they go, then of their goals, then of the promotions
-/// to a queen, a rook, a bishop and a knight. The null move is none of them.
+/// The legal moves of a position, each once. They are in the order of their origins, then of their goals, then of the promotions to a
+/// queen, a rook, a bishop and a knight. The null move is not among them.
 pub fn legal_moves(position: &Position) -> ArrayVec<Move, 512>
     ensures moves { result.items ≡ legal_list position.now }
     ensures null { All (λ m. m.null ≡ false) result.items }
@@ -36,7 +36,7 @@ pub fn legal_moves(position: &Position) -> ArrayVec<Move, 512>
     moves
 }
 
-// Adds the legal moves from a square. A man that doesn't expose its king and is no pawn has no move that must be judged.
+// Adds the legal moves from a square. The moves of a man that is no pawn and doesn't expose its king need no judgement.
 #[tactic(auto, using(crate::proofs::Parts::plain_moves))]
 fn add_moves_from(position: &Position, mover: &Mover, from: Square, moves: &mut ArrayVec<Move, 512>)
     requires mover { IsMover position.now mover.now }
@@ -51,7 +51,7 @@ fn add_moves_from(position: &Position, mover: &Mover, from: Square, moves: &mut 
     }
 }
 
-// Adds the moves of a man of whose moves each is legal, with no promotion: that to each square to which it goes.
+// Adds the moves of a man whose moves are all legal without a promotion, one to each of its goals.
 fn add_plain_moves(
     position: &Position,
     mover: &Mover,
@@ -77,7 +77,7 @@ fn add_plain_moves(
     }
 }
 
-// Adds the legal moves from a square, each of which is judged.
+// Adds the legal moves from a square, after a judgement of each.
 fn add_judged_moves(
     position: &Position,
     mover: &Mover,
@@ -97,7 +97,7 @@ fn add_judged_moves(
     }
 }
 
-// Adds the legal moves to a square to which the man goes.
+// Adds the legal moves to one of the man's goals.
 #[inline]
 fn add_moves_between(
     position: &Position,
@@ -147,7 +147,7 @@ fn add_promotions(
     }
 }
 
-// Adds a move to a square to which the man goes, where it is legal.
+// Adds a move to one of the man's goals if it is legal.
 #[inline]
 fn add_move(
     position: &Position,

@@ -13,21 +13,21 @@ use cq_geometry::Square;
 use cq_position::{Move, Position, Promotion, in_check};
 use cq_square_sets::lowest_square;
 
-/// Whether the side to move is mated: it is in check and has no legal move.
+/// Returns true if the side to move is checkmated: it is in check and has no legal move.
 pub fn is_mate(position: &Position) -> bool
     ensures { IsTrue result ↔ IsMate position.now }
 {
     in_check(position, position.side()) && !has_legal_move(position)
 }
 
-/// Whether the side to move is stalemated: it is not in check and has no legal move.
+/// Returns true if the side to move is stalemated: it is not in check and has no legal move.
 pub fn is_stalemate(position: &Position) -> bool
     ensures { IsTrue result ↔ IsStalemate position.now }
 {
     !has_legal_move(position) && !in_check(position, position.side())
 }
 
-// Whether the side to move has a legal move.
+// Returns true if the side to move has a legal move.
 fn has_legal_move(position: &Position) -> bool
     ensures { result ≡ list_any (legal_test position.now) all_moves }
 {
@@ -59,7 +59,7 @@ fn has_legal_move_from(position: &Position, mover: &Mover, from: Square) -> bool
     false
 }
 
-// Whether a move is legal, to a square to which the man goes, for some promotion or none.
+// Returns true if a move to one of the man's goals is legal for some promotion or none.
 fn has_legal_choice(position: &Position, mover: &Mover, origin: &Origin, to: Square) -> bool
     requires mover { IsMover position.now mover.now }
     requires origin { IsOrigin position.now origin.now }

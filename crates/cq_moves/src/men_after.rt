@@ -11,8 +11,8 @@ use cq_position::{Man, Men, Move, Piece, Position, Promotion, Side, man_of};
 
 /// The men on the squares a1, b1, .. h8 after a move of the side to move.
 ///
-/// Castling takes the rook along, a capture on the en passant square removes the pawn that has passed it, and a promotion puts the
-/// new man on the goal. The move is not judged: the mover's king may be left in check.
+/// Castling also moves the rook. A capture on the en passant square removes the pawn that has passed it. A promotion puts the new man on
+/// the goal. The move is not judged, and can leave the mover's king in check.
 #[inline(always)]
 pub fn men_after(position: &Position, m: &Move) -> Men
     ensures { result ≡ legal.men_after position.now m.now }
@@ -26,7 +26,7 @@ pub fn men_after(position: &Position, m: &Move) -> Men
     men
 }
 
-// The man goes to its goal. Few become another there.
+// The men after the man went to its goal. Promotions are rare, so they are a separate case.
 #[inline]
 fn men_moved(position: &Position, m: &Move) -> Men
     ensures { result ≡ legal.men_moved position.now m.now }
@@ -37,7 +37,7 @@ fn men_moved(position: &Position, m: &Move) -> Men
     }
 }
 
-// The man goes to its goal as what it is.
+// The men after the man went to its goal unchanged.
 #[inline]
 fn men_carried(position: &Position, m: &Move) -> Men
     ensures { result ≡ slice_set (slice_set position.now.men m.now.from Empty) m.now.to (man_at position.now.men m.now.from) }
@@ -47,7 +47,7 @@ fn men_carried(position: &Position, m: &Move) -> Men
     men
 }
 
-// The man goes to its goal and becomes what the move says.
+// The men after the man went to its goal and was promoted.
 fn men_promoted(position: &Position, m: &Move) -> Men
     ensures { result ≡ legal.men_moved position.now m.now }
 {
@@ -58,7 +58,7 @@ fn men_promoted(position: &Position, m: &Move) -> Men
     men
 }
 
-// The man that stands on the goal.
+// The man on the goal after the move.
 #[inline]
 fn promoted(side: Side, promotion: Promotion, man: Man) -> Man
     ensures { result ≡ legal.promoted side promotion man }
@@ -72,7 +72,7 @@ fn promoted(side: Side, promotion: Promotion, man: Man) -> Man
     }
 }
 
-/// Whether the move captures on the en passant square: that of a pawn which goes there (FIDE Laws of Chess, article 3.7.3.2).
+/// Returns true if the move captures en passant: a pawn goes to the en passant square (FIDE Laws of Chess, article 3.7.3.2).
 #[inline]
 pub fn is_en_passant_capture(position: &Position, m: &Move) -> bool
     ensures { result ≡ legal.is_en_passant_capture position.now m.now }
@@ -82,7 +82,7 @@ pub fn is_en_passant_capture(position: &Position, m: &Move) -> bool
         && is_pawn(position.at(m.from))
 }
 
-/// The square in the middle between two, as the one that a pawn's double step passes: of the two numbers the half of the sum.
+/// The square halfway between two, half the sum of their numbers. It is for instance the square that a pawn's double step passes.
 #[inline]
 pub fn middle(a: Square, b: Square) -> Square
     ensures { result ≡ legal.middle a b }

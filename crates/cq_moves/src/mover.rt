@@ -1,4 +1,4 @@
-//! The side that moves: where its king stands, and which of its men may shield it.
+//! The side to move: the square of its king, and the men that can shield it.
 ghost use Rattle.std.specs.Prelude.{◌≡◌, ◌<◌, ℕ, false, true, slice_set, [], ◌∷◌};
 ghost use Rattle.std.specs.Int.{bit_at};
 ghost use Rattle.cq_position.specs.declared.men.Man.TheVariants.{Empty};
@@ -14,9 +14,9 @@ ghost use Rattle.cq_position.specs.declared.men.Promotion.TheVariants.{None as N
 ghost use Rattle.cq_moves.specs.LegalMoves.{legal_between, move_of};
 ghost use Rattle.cq_moves.specs.Internal.Mover.{IsMover, IsOrigin, IsUnexposed};
 
+use crate::men_after::is_en_passant_capture;
 use crate::goals::free_squares;
 use crate::legality::is_safe;
-use crate::men_after::is_en_passant_capture;
 use crate::reach::{last_rank, promotion_is_right};
 use crate::sliders::has_slider_in_line;
 use cq_geometry::{Square, rank};
@@ -24,8 +24,9 @@ use cq_position::attacks::{is_attacked, queen_squares, squares_attacked};
 use cq_position::king::king_square;
 use cq_position::{Man, Move, Position, opponent};
 
-/// What is found once of the side that moves: the square of its king, the squares that hold no man of its own and no king, and a set of
-/// squares beside which each of its men leaves the king safe wherever it goes, captures on the en passant square aside. Bit k is square k.
+/// Facts about the side to move that are computed once: the square of its king, and the squares without a man of its own and without a
+/// king. Bit k is the square k. A man other than the king that is outside the set `shields` leaves the king safe, except by a capture on
+/// the en passant square.
 #[derive(Clone, Copy)]
 pub(crate) struct Mover {
     pub king: Square,
@@ -33,7 +34,7 @@ pub(crate) struct Mover {
     pub shields: u64,
 }
 
-/// What is known of the side to move.
+/// The facts about the side to move.
 pub(crate) fn mover_of(position: &Position) -> Mover
     ensures { IsMover position.now result }
 {
@@ -45,8 +46,8 @@ pub(crate) fn mover_of(position: &Position) -> Mover
     }
 }
 
-// All squares where the king is attacked, else those that it sees along the lines of a queen, where an opponent's man may come to
-// attack along one of them.
+// The squares whose men can shield the king. These are all squares if the king is attacked. If an opponent's slider is in line with the
+// king, they are the squares that the king sees along the lines of a queen. Otherwise there are none.
 fn shields_of(position: &Position, king: Square) -> u64
     requires { IsKingSquare position.now.men position.now.side king }
     ensures { (square : ℕ) → square < 64 → bit_at result square ≡ 0 →
@@ -63,8 +64,8 @@ fn shields_of(position: &Position, king: Square) -> u64
     }
 }
 
-/// What is found once of a man that moves: its square, what it is, the squares that it attacks, and whether it may expose its king.
-/// `exposed` is false only where each of its moves leaves the king safe, captures on the en passant square aside.
+/// Facts about a moving man that are computed once: its square, the man, the squares that it attacks, and a flag. `exposed` is false only
+/// if each of its moves leaves the king safe, except for captures on the en passant square.
 #[derive(Clone, Copy)]
 pub(crate) struct Origin {
     pub from: Square,
@@ -73,7 +74,7 @@ pub(crate) struct Origin {
     pub exposed: bool,
 }
 
-/// What is known of the man on a square.
+/// The facts about the man on a square.
 pub(crate) fn origin_of(position: &Position, mover: &Mover, from: Square) -> Origin
     requires { IsMover position.now mover.now }
     ensures from { result.from ≡ from }
@@ -98,7 +99,7 @@ fn attacked_by(position: &Position, man: Man, from: Square) -> u64
     squares_attacked(man, position.men(), from)
 }
 
-// Whether the man on a square may expose its king.
+// Returns true if the man on a square can expose its king.
 fn may_expose(position: &Position, mover: &Mover, from: Square) -> bool
     requires { IsMover position.now mover.now }
     ensures { result ≡ false → IsUnexposed position.now from }
@@ -108,8 +109,8 @@ fn may_expose(position: &Position, mover: &Mover, from: Square) -> bool
             && is_attacked_without(position, from, mover.king)
 }
 
-/// Whether a man's move to a square where it goes is known to be legal with no promotion, and with no other: the man doesn't expose its
-/// king, and neither promotes nor captures on the en passant square.
+/// Returns true only if a man's move to one of its goals is legal without a promotion, and with none. The man doesn't expose its king, and
+/// neither promotes nor captures on the en passant square.
 #[tactic(auto, using(crate::proofs::Parts::ordinary_move))]
 #[inline]
 pub(crate) fn is_ordinary(position: &Position, origin: &Origin, to: Square) -> bool
@@ -121,7 +122,7 @@ pub(crate) fn is_ordinary(position: &Position, origin: &Origin, to: Square) -> b
     !origin.exposed && rank(to) != last_rank(position.side()) && position.passant() != Some(to)
 }
 
-// Whether the opponent would attack the king's square if the square `from` were empty.
+// Returns true if the opponent would attack the king's square without the man on `from`.
 fn is_attacked_without(position: &Position, from: Square, king: Square) -> bool
     ensures { result ≡ attack.is_attacked (slice_set position.now.men from Empty) (men_spec.opponent position.now.side) king }
 {
@@ -130,7 +131,7 @@ fn is_attacked_without(position: &Position, from: Square, king: Square) -> bool
     is_attacked(&men, opponent(position.side()), king)
 }
 
-/// Whether a move of a man to a square to which it goes is legal.
+/// Returns true if a move of a man to one of its goals is legal.
 #[inline]
 pub(crate) fn is_legal_to(position: &Position, mover: &Mover, origin: &Origin, m: &Move) -> bool
     requires mover { IsMover position.now mover.now }
@@ -144,7 +145,7 @@ pub(crate) fn is_legal_to(position: &Position, mover: &Mover, origin: &Origin, m
     promotion_is_right(position, m) && leaves_king_safe(position, mover, origin, m)
 }
 
-// Whether a move leaves its king safe.
+// Returns true if a move leaves its king safe.
 #[inline]
 fn leaves_king_safe(position: &Position, mover: &Mover, origin: &Origin, m: &Move) -> bool
     requires mover { IsMover position.now mover.now }

@@ -13,9 +13,9 @@ use cq_position::{Move, Position, Rights, Side, king_of, opponent};
 
 /// The position after a legal move.
 ///
-/// Castling, a capture on the en passant square and promotion are as `men_after` has them. A king's move ends both rights of its side,
-/// and a move from or to a rook's home square the right with that rook. A pawn's double step leaves the en passant square that it passed,
-/// any other move none. The number rises after Black's move, up to 4,294,967,295, where it stays.
+/// The men are those of `men_after`, with castling, captures on the en passant square and promotions. A king's move ends both rights of its
+/// side. A move from or to a rook's home square ends the right with that rook. A pawn's double step sets the en passant square that it
+/// passed, and any other move sets none. The number rises after Black's move, up to 4,294,967,295.
 #[tactic(auto, using(crate::proofs::Kept::made_is_position, crate::proofs::Kept::made_is_legal))]
 #[inline(always)]
 pub fn play(position: &Position, m: Move) -> Position
@@ -32,7 +32,7 @@ pub fn play(position: &Position, m: Move) -> Position
     )
 }
 
-/// The number of the next move: one more after Black's, up to 4,294,967,295.
+/// The number of the next move: one more after Black's move, up to 4,294,967,295.
 pub(crate) fn number_after(position: &Position) -> u32
     ensures { result ≡ legal.number_after position.now }
 {
@@ -42,7 +42,7 @@ pub(crate) fn number_after(position: &Position) -> u32
     }
 }
 
-// Most moves of a game are made when no right is left, which is asked first.
+// The rights after a move. Most moves of a game are made with no right left, so that is tested first.
 #[tactic(auto, using(crate::proofs::Rights::none_after))]
 fn rights_after(position: &Position, m: &Move) -> Rights
     ensures { result ≡ legal.rights_after position.now m.now }
@@ -59,7 +59,7 @@ fn rights_after(position: &Position, m: &Move) -> Rights
     }
 }
 
-// Whether a side has kept a right.
+// Returns true if a side has a right.
 fn has_some(rights: &Rights) -> bool
     ensures { result ≡ (((rights.now.white_kingside || rights.now.white_queenside) || rights.now.black_kingside)
         || rights.now.black_queenside) }
@@ -70,7 +70,7 @@ fn has_some(rights: &Rights) -> bool
         || rights.black_queenside
 }
 
-// Whether a right is left: neither king nor rook has moved or was captured.
+// Returns true if a right is left: neither king nor rook has moved or was captured.
 fn keeps_right(position: &Position, m: &Move, side: Side, kingside: bool) -> bool
     ensures { result ≡ legal.keeps_right position.now m.now side kingside }
 {
@@ -81,7 +81,7 @@ fn keeps_right(position: &Position, m: &Move, side: Side, kingside: bool) -> boo
         && m.to != home
 }
 
-// How far the move goes is asked first, as few moves go two ranks.
+// The en passant square after a move. Few moves go two ranks, so the distance is tested first.
 #[tactic(auto, using(crate::proofs::Rights::with_true, crate::proofs::Rights::with_false))]
 fn passant_after(position: &Position, m: &Move) -> Option<Square>
     ensures { result ≡ legal.passant_after position.now m.now }
@@ -93,7 +93,7 @@ fn passant_after(position: &Position, m: &Move) -> Option<Square>
     }
 }
 
-// The square in the middle of a pawn's move.
+// The square in the middle of a pawn's double step.
 fn passed_by(position: &Position, m: &Move) -> Option<Square>
     ensures { result ≡ (if is_pawn (man_at position.now.men m.now.from) then Some (legal.middle m.now.from m.now.to) else None) }
 {

@@ -8,10 +8,10 @@ ghost use Rattle.cq_position.specs.Position.{IsPosition};
 use crate::next_position::number_after;
 use cq_position::{Position, in_check, opponent};
 
-/// The position after a null move, or None exactly where the side to move is in check.
+/// The position after a null move, or None exactly if the side to move is in check.
 ///
-/// The men and the rights to castle stay, the other side is to move, the en passant square goes, and the number rises after Black's move,
-/// up to 4,294,967,295.
+/// The men and the rights to castle are the same, the other side is to move, and there is no en passant square. The number rises after
+/// Black's move, up to 4,294,967,295.
 pub fn pass(position: &Position) -> Option<Position>
     ensures none { IsNone result ↔ (attack.in_check position.now.men position.now.side ≡ true) }
     ensures passes { IfSome result (λ q. Passes position.now null_move q) }

@@ -1,4 +1,4 @@
-//! Where the men of the side to move go (FIDE Laws of Chess, article 3).
+//! The moves of men of the side to move, square by square (FIDE Laws of Chess, article 3).
 ghost use Rattle.std.specs.Prelude.{◌≡◌, ◌<◌};
 ghost use Rattle.cq_position.specs.Attacks as attack;
 ghost use Rattle.cq_position.specs.Legal as legal;
@@ -18,8 +18,8 @@ use cq_position::{
 };
 use cq_square_sets::set_of;
 
-/// Whether a man of the side to move goes from one square to another, which holds none of its own men and no king. `attacked` tells whether
-/// the man attacks the other square.
+/// Returns true if a man of the side to move goes from one square to another that has none of its own men and no king. `attacked` is true
+/// if the man attacks the other square.
 #[tactic(auto, unfolding(cq_position::specs::Legal::reaches))]
 #[inline]
 pub(crate) fn reaches(position: &Position, attacked: bool, from: Square, to: Square) -> bool
@@ -35,7 +35,7 @@ pub(crate) fn reaches(position: &Position, attacked: bool, from: Square, to: Squ
         && goes(man, position, attacked, from, to)
 }
 
-/// Whether a man attacks a square, by the set of those that it attacks.
+/// Returns true if a man attacks a square, by the set of the squares that it attacks.
 #[inline]
 pub(crate) fn attacks(position: &Position, attacked: u64, from: Square, to: Square) -> bool
     requires { IsBitboard attacked (attack.attacks position.now.men from) }
@@ -44,7 +44,8 @@ pub(crate) fn attacks(position: &Position, attacked: u64, from: Square, to: Squa
     attacked >> to.number() & 1 == 1
 }
 
-/// A set that has each square from which a man of the side to move, being such a piece, goes to the goal. Bit k of the answer is square k.
+/// The candidates for the origin of a move to the goal by such a piece of the side to move. Every origin of such a move is in the set. Bit
+/// k of the result is the square k.
 #[tactic(auto, using(cq_square_sets::proofs::Marked::marks_or))]
 #[inline]
 pub fn origins_to(position: &Position, piece: Piece, goal: Square) -> u64
@@ -75,7 +76,7 @@ fn squares_ahead(side: Side, from: Square) -> u64
     }
 }
 
-// Whether the man goes from one square to the other.
+// Returns true if the man goes from one square to the other.
 #[inline]
 fn goes(man: Man, position: &Position, attacked: bool, from: Square, to: Square) -> bool
     requires { attacked ≡ attack.attacks position.now.men from to }
@@ -91,7 +92,7 @@ fn goes(man: Man, position: &Position, attacked: bool, from: Square, to: Square)
     }
 }
 
-// Whether a pawn steps or captures so.
+// Returns true if a pawn steps or captures from one square to the other.
 #[inline]
 pub(crate) fn pawn_moves(position: &Position, from: Square, to: Square) -> bool
     ensures { result ≡ legal.pawn_moves position.now from to }
@@ -126,7 +127,7 @@ fn is_double_step(side: Side, from: Square, to: Square) -> bool
     }
 }
 
-/// Whether the move promotes where a pawn reaches the last rank, and nowhere else (FIDE Laws of Chess, article 3.7).
+/// Returns true if a pawn promotes exactly on the last rank, and no other man promotes (FIDE Laws of Chess, article 3.7).
 #[inline]
 pub(crate) fn promotion_is_right(position: &Position, m: &Move) -> bool
     ensures { result ≡ legal.promotion_is_right position.now m.now }
@@ -138,7 +139,7 @@ pub(crate) fn promotion_is_right(position: &Position, m: &Move) -> bool
     }
 }
 
-/// Whether a pawn goes to the last rank, where it promotes (FIDE Laws of Chess, article 3.7.3.3).
+/// Returns true if a pawn goes to the last rank, where it promotes (FIDE Laws of Chess, article 3.7.3.3).
 #[inline]
 pub(crate) fn promotes(position: &Position, from: Square, to: Square) -> bool
     ensures { result ≡ list.promotes position.now from to }
@@ -146,7 +147,7 @@ pub(crate) fn promotes(position: &Position, from: Square, to: Square) -> bool
     rank(to) == last_rank(position.side()) && is_pawn(position.at(from))
 }
 
-/// The rank furthest from where a side's pawns start, 7 or 0.
+/// The rank farthest from a side's pawns at the start, 7 or 0.
 #[inline]
 pub(crate) fn last_rank(side: Side) -> u8
     ensures { result ≡ legal.last_rank side }

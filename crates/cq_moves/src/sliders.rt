@@ -9,7 +9,7 @@ use cq_position::attacks::{diagonal_sliders, orthogonal_sliders};
 use cq_position::{Men, Side};
 use cq_square_sets::{bishop_lines, meets, rook_lines};
 
-/// Whether a rook or queen of a side stands on the file or rank of a square, or a bishop or queen on a diagonal, whatever is between.
+/// Returns true if a side has a rook or queen on the file or rank of a square, or a bishop or queen on a diagonal. Men between don't count.
 #[inline]
 pub(crate) fn has_slider_in_line(men: &Men, by: Side, square: Square) -> bool
     ensures { result ≡ (some_man (λ a. is_orthogonal_slider by (man_at men.now a)) (lines.is_orthogonal square)

@@ -1,4 +1,4 @@
--- A list of names and what they stand for, and the finite map that it is.
+-- A list of names with their values, and the finite map that it represents.
 use Rattle.std.proofs.Common.{◌≡◌, ◌≢◌, ℕ, zero, suc, ◌<◌, Bool, true, false, cond, List, [], ◌∷◌, ◌++◌, length, take, map, get_or, Option, None, Some, refl, sym, ap, ap₂, ◌∙◌, arith, All, unwrap_or, option_map, Ordering, Less, Equal, Greater, is_eq}
 use Rattle.std.proofs.Math.ListN.{set}
 use Rattle.std.specs.List.{AllByRecursion}
@@ -11,7 +11,7 @@ use Rattle.cq_outside.specs.DeskFiles.{Files, Opens, bytes_of}
 use Rattle.cq_outside.specs.MemSource.{FailingSource}
 use Rattle.cq_outside.specs.MemDesk.{FailingDesk, FailingFile, FailingFiles, bytes_by_name, desk_files_of}
 
--- whether two names are the same
+-- true if two names are the same
 abbrev names : List ℕ → List ℕ → Bool
 names = eq_by_cmp (slice_cmp nat_cmp)
 
@@ -46,12 +46,12 @@ swapped true true x y z n = absurd (n refl refl)
 swapped true false x y z n = refl
 swapped false b x y z n = refl
 
--- what the list has at a name that it lacks
+-- the value that the list has at a name that it lacks
 find_none : {X : Type 0} (k : List ℕ) (es : List (List ℕ × X)) → Lacks k es → find (slice_cmp nat_cmp) k es ≡ None
 find_none k [] h = refl
 find_none k (f ∷ es) h = ap (λ b. cond b (Some f.1) (find (slice_cmp nat_cmp) k es)) (names_differ k f.0 h.0) ∙ find_none k es h.1
 
--- what it has at a name whose first entry stands at i
+-- the value that the list has at a name whose first entry is at index i
 find_at : {X : Type 0} (k : List ℕ) (es : List (List ℕ × X)) (i : ℕ) (d : List ℕ × X) → i < length es → (get_or es i d).0 ≡ k → Lacks k (take i es)
     → find (slice_cmp nat_cmp) k es ≡ Some (get_or es i d).1
 find_at k [] i d l e h = absurd (omega arith)
@@ -85,7 +85,7 @@ added {X} n k v es p h =
     (λ j. from_entries {R = slice_cmp nat_cmp} (es ++ (p j, v) ∷ []))
     ∙ from_entries_push nat_list_cmp_total exact es k v (find_none k es (recursion_from_All (λ (f : List ℕ × X). f.0 ≢ k) es h))
 
--- what the map has of a name whose first entry stands at i, and of a name without an entry
+-- the value that the map has at a name whose first entry is at index i, and at a name without an entry
 pub entry_at : {X : Type 0} (k : List ℕ) (es : List (List ℕ × X)) (i : ℕ) (d : List ℕ × X) → i < length es → (get_or es i d).0 ≡ k
     → All (λ f. f.0 ≢ k) (take i es) → get (from_entries {R = slice_cmp nat_cmp} es) k ≡ Some (get_or es i d).1
 entry_at {X} k es i d l e h =
@@ -95,7 +95,7 @@ pub no_entry : {X : Type 0} (k : List ℕ) (es : List (List ℕ × X)) → All (
 no_entry {X} k es h =
     get-from_entries nat_list_cmp_total es k ∙ find_none k es (recursion_from_All (λ (f : List ℕ × X). f.0 ≢ k) es h)
 
--- the bytes of a name whose first file stands at i, and of a name without a file
+-- the bytes of a name whose first file is at index i, and of a name without a file
 pub bytes_at : (k : List ℕ) (es : List (List ℕ × List ℕ)) (i : ℕ) (d : List ℕ × List ℕ) → i < length es → (get_or es i d).0 ≡ k
     → All (λ f. f.0 ≢ k) (take i es) → (get_or es i d).1 ≡ bytes_of (from_entries es) k
 bytes_at k es i d l e h = sym (ap (λ o. unwrap_or o []) (entry_at k es i d l e h))
@@ -107,7 +107,7 @@ mapped_cond : {X Y : Type 0} (change : X → Y) (b : Bool) (x y : Option X) → 
 mapped_cond change true x y = refl
 mapped_cond change false x y = refl
 
--- what a map of changed values has of a name
+-- the value that a map of changed values has at a name
 find_changed : {X Y : Type 0} (change : X → Y) (k : List ℕ) (es : List (List ℕ × X)) → find (slice_cmp nat_cmp) k (map (λ e. (e.0, change e.1)) es) ≡ option_map change (find (slice_cmp nat_cmp) k es)
 find_changed change k [] = refl
 find_changed change k (e ∷ es) =
@@ -120,7 +120,7 @@ bytes_named files k o is =
     get-from_entries nat_list_cmp_total (map (λ e. (e.0, e.1.bytes)) (entries files)) k ∙ find_changed (λ f. f.bytes) k (entries files)
     ∙ ap (option_map (λ f. f.bytes)) (sym (get-entries files k) ∙ is)
 
--- what a desk tells once it has opened a file, and the bytes that are then left
+-- the files that a desk tells after it has opened a file, and the bytes then left
 pub opened_tells : (now inside : FailingDesk) (opened : List (List ℕ)) (name : List ℕ) (file : FailingFile) (source : FailingSource) → inside ≡ now
     → opened ≡ inside.opened ++ name ∷ [] → get inside.files name ≡ Some file → source.left ≡ file.bytes
     → Opens (Some (desk_files_of now)) (Some (record { files = bytes_by_name inside.files; opened = opened })) name (Some source.left)

@@ -1,4 +1,4 @@
--- Words that are kept one by one, and those that are still to come.
+-- Words that are kept one by one, and the words still to come.
 use Rattle.std.proofs.Common.{◌≡◌, ℕ, ◌<◌, List, [], ◌∷◌, ◌++◌, length, drop, map, Option, None, Some, Result, Ok, Err, refl, sym, ap, ◌∙◌, arith, append_assoc, append-nil, true≢false, length-append, length-drop}
 use Rattle.std.specs.Prelude.{IsSome, OnErr}
 use Rattle.std.specs.Option.{option_to_list}
@@ -19,13 +19,13 @@ module _ {X : Type 0} (f : X → List ℕ) where
       e ∙ ap (λ l. map f kept ++ map f l) i
       ∙ sym (ap (λ l. l ++ map f rest) (map-append f kept (word ∷ [])) ∙ append_assoc (map f kept) (f word ∷ []) (map f rest))
 
-  -- where one is still to come, there are two or more
+  -- if one is still to come, there are two or more
   pub name_and_word : (all : List (List ℕ)) (kept items rest : List X) (word : X) → drop 1 all ≡ map f kept ++ map f items → items ≡ word ∷ rest → 1 < length all
   name_and_word all kept items rest word e i =
       let l = ap length (e ∙ ap (λ l. map f kept ++ map f l) i) in
       omega (arith, length-drop 1 all, l, length-append (map f kept) (f word ∷ map f rest))
 
-  -- where none is still to come, all are kept
+  -- if none is still to come, all are kept
   pub all_kept : (all : List (List ℕ)) (kept items : List X) (len : ℕ) → drop 1 all ≡ map f kept ++ map f items → len ≡ length items → (0 < len → IsSome {T = X} None)
       → map f kept ≡ drop 1 all
   all_kept all kept [] len e l h = sym (e ∙ append-nil (map f kept))

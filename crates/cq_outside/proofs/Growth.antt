@@ -33,7 +33,7 @@ read_on a b c xs ys zs e f g = subst (Consumes a c) (sym e) (consumed_on a b c x
 pub joined_length : (xs ys zs : List ℕ) → zs ≡ xs ++ ys → length zs ≡ length xs + length ys
 joined_length xs ys zs e = ap length e ∙ length-append xs ys
 
--- what a read that was refused has taken, after what was read before it
+-- the bytes taken by a read that failed, after those read before it
 pub took_more : {F : Type 0} (a b c : Option (List ℕ)) (read : List ℕ) (refusal : Refusal F) (limit room : ℕ) → Consumes a b read → length read ≤ limit → room ≤ (limit + 1) - length read
     → TakesAtMost (most_taken refusal 0 room) b c → TakesAtMost (most_taken refusal limit (limit + 1)) a c
 took_more a b c read (Fault fault) limit room before short fits more =

@@ -3,7 +3,7 @@ use Rattle.std.proofs.Common.{◌≡◌, ℕ, ◌+◌, ◌-◌, ◌≤◌, ◌<�
 use Rattle.std.proofs.Math.Seq.{take-append_seam}
 use Rattle.std.proofs.lemmas.List.{take_all, drop_all, drop-drop, take-append-drop, length-take-le}
 
--- what is left at a place is the next n bytes, and what is left after them
+-- the bytes left from a place on are the next n bytes and the bytes left after them
 pub left_split : (bytes : List ℕ) (at n : ℕ) → drop at bytes ≡ take n (drop at bytes) ++ drop (at + n) bytes
 left_split bytes at n = sym (ap (λ l. take n (drop at bytes) ++ l) (sym (drop-drop n at bytes)) ∙ take-append-drop n (drop at bytes))
 
@@ -17,6 +17,6 @@ moved bytes slice copied tail at n s h e =
     let front : take n (copied ++ tail) ≡ copied = ap (λ m. take m (copied ++ tail)) (sym long) ∙ take-append_seam copied tail in
     left_split bytes at n ∙ ap (λ l. l ++ drop (at + n) bytes) (sym same ∙ sym front)
 
--- where nothing was copied to a buffer that has room, nothing is left
+-- nothing is left if nothing was copied to a buffer that has room
 pub moved_all : (bytes : List ℕ) (at n left room : ℕ) → n ≡ min left room → left ≡ length bytes - at → n ≡ 0 → 0 < room → drop (at + n) bytes ≡ []
 moved_all bytes at n left room e l z r = drop_all (at + n) bytes (omega arith)

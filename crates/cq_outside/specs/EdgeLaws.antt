@@ -15,7 +15,7 @@ with_its_own r o n i Nothing = refl
 with_its_own r o n i Input = refl
 with_its_own r o n i (File stream) = refl
 
--- the stream at last is the one that was said last
+-- the last of two streams set is the open one
 with_last : (r o q m : ℕ) (n : Option ℕ) (i a b : Stream) (c : OpenInput Stream)
     → with_stream (record (with_stream (desk q o n i c) a) { read_faults = m }) b ≡ with_stream (desk m o n i c) b
 with_last r o q m n i a b Nothing = refl

@@ -1,16 +1,16 @@
--- What calls do to the bytes that a source has left and a sink has taken, where they tell them.
+-- The effects of calls on the bytes left in a source and the bytes taken by a sink, if they are told.
 use Rattle.std.specs.Prelude.{◌≡◌, ℕ, ◌≤◌, List, [], ◌++◌, length, take, Option, None, Some, Result, MatchResult}
 use Rattle.std.specs.Io.KnownBytes.{Consumes}
 use Rattle.cq_common.specs.declared.faults.Refusal.{Refusal}
 use Rattle.cq_common.specs.declared.faults.Refusal.TheVariants.{Fault, NoMemory}
 
--- A sink that tells its bytes after a call told them before it, and what it tells has gained these at its end.
+-- A sink that tells its bytes after a call also told them before it. The bytes told have gained these at their end.
 abbrev pub Grew : Option (List ℕ) → Option (List ℕ) → List ℕ → Type 0
 Grew old None bytes = Unit {0}
 Grew None (Some new) bytes = ⊥
 Grew (Some old) (Some new) bytes = new ≡ old ++ bytes
 
--- what one write of these bytes did: as many as it answered were taken from the start; a failed write took nothing
+-- the effect of one write of these bytes: the first n were taken if the result is n, and none if the write failed
 abbrev pub WriteTakes : {E : Type 0} → Option (List ℕ) → Option (List ℕ) → Result ℕ E → List ℕ → Type 0
 WriteTakes old new result bytes =
     MatchResult result (λ n. Grew old new (take n bytes)) (λ _. Grew old new [])
@@ -21,7 +21,7 @@ pub record TakesAtMost (most : ℕ) (old new : Option (List ℕ)) : Type 0 where
   pub takes : Consumes old new bytes
   pub few : length bytes ≤ most
 
--- how much a refused call has taken at most, after a fault and where it is out of memory
+-- the most bytes that a failed call can have taken, after a fault or if memory ran out
 abbrev pub most_taken : {F : Type 0} → Refusal F → ℕ → ℕ → ℕ
 most_taken (Fault _) fault memory = fault
 most_taken NoMemory fault memory = memory

@@ -8,7 +8,7 @@ use Rattle.cq_outside.specs.Calls.{one_more, is_listed}
 use Rattle.cq_outside.specs.MemSource.{FailingSource, Follows}
 use Rattle.cq_outside.specs.DeskFiles.{Files, DeskFiles}
 
--- a file: its bytes, how many of them a read gives at most, and the numbers of the reads that fail, counted from its opening
+-- a file: its bytes, the most bytes of one read, and the numbers of the reads that fail, counted from its opening
 pub record FailingFile : Type 0 where
   pub bytes : List ℕ
   pub piece : ℕ
@@ -17,8 +17,8 @@ pub record FailingFile : Type 0 where
 abbrev pub FailingFiles : Type 0
 FailingFiles = FinMap (slice_cmp nat_cmp) FailingFile
 
--- The files by name, the names opened, and what is open, with the count of all reads that failed; the numbers of the openings
--- that fail, how many openings there were, and how many of them failed.
+-- The files by name, the names opened, and the open source, which counts all reads that failed. The numbers of the openings that fail, the
+-- number of openings, and the number of those that failed.
 pub record FailingDesk : Type 0 where
   pub files : FailingFiles
   pub opened : List (List ℕ)
@@ -31,24 +31,23 @@ pub record FailingDesk : Type 0 where
 abbrev pub files_of : List (List ℕ × FailingFile) → FailingFiles
 files_of list = from_entries list
 
--- the bytes of the files
+-- the bytes of the files by name
 abbrev pub bytes_by_name : FailingFiles → Files
 bytes_by_name files = from_entries (map (λ e. (e.0, e.1.bytes)) (entries files))
 
--- what the desk tells of its files
+-- the part of the desk that it tells
 abbrev pub desk_files_of : FailingDesk → DeskFiles
 desk_files_of desk = record { files = bytes_by_name desk.files; opened = desk.opened }
 
--- whether the next opening fails: its number is one of those that are given, where the first opening has the number 1, or there is no
--- file of the name
+-- true if the next opening fails: its number, counted from 1, is listed, or there is no file of the name
 abbrev pub fails_next : FailingDesk → List ℕ → Bool
 fails_next desk name = is_listed desk.fails (one_more desk.opens) || is_none (get desk.files name)
 
--- a file that was just opened, at a desk so many of whose reads have failed
+-- a file just after its opening, at a desk with this count of failed reads
 abbrev pub just_opened : ℕ → FailingFile → FailingSource
 just_opened faults file = record { left = file.bytes; piece = file.piece; fails = file.fails; reads = 0; faults = faults }
 
--- the desk after an opening that fails, and after one of a file that it has
+-- the desk after an opening that fails, and after an opening of one of its files
 abbrev pub after_fault : FailingDesk → FailingDesk
 after_fault desk = record desk { opens = one_more desk.opens; open_faults = one_more desk.open_faults }
 
@@ -56,17 +55,17 @@ abbrev pub after_file : FailingDesk → List ℕ → FailingFile → FailingDesk
 after_file desk name file =
     record desk { opens = one_more desk.opens; opened = desk.opened ++ name ∷ []; current = just_opened desk.current.faults file }
 
--- the desk after one opening, unless there was no memory for it
+-- the desk after one opening, unless memory ran out
 abbrev pub after_open : FailingDesk → List ℕ → FailingDesk
 after_open desk name =
     if is_listed desk.fails (one_more desk.opens) then after_fault desk
     else elim (get desk.files name) [ None ↦ after_fault desk | Some file ↦ after_file desk name file ]
 
--- a desk after some list of reads, none included: only what is open has changed
+-- a desk after a list of reads, perhaps empty: only the open source has changed
 abbrev pub ReadsOn : FailingDesk → FailingDesk → Type 0
 ReadsOn before now = (now ≡ record before { current = now.current }) × Follows before.current now.current
 
--- how files and desks are stored
+-- the encodings of files and desks
 abbrev pub file_code : Coded FailingFile
 file_code =
     code_by (List ℕ × (ℕ × List ℕ)) (coded× (coded_list coded_ℕ) (coded× coded_ℕ (coded_list coded_ℕ)))

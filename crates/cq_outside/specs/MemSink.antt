@@ -1,11 +1,11 @@
--- A sink in memory that takes pieces of what is written, and some of whose writes fail.
+-- A sink in memory that takes the bytes of a write in pieces, and some of whose writes fail.
 use Rattle.std.specs.Prelude.{ℕ, min, Bool, if◌then◌else◌, List, length, take, Option, Result, Ok, Err}
 use Rattle.cq_common.specs.declared.faults.Failed.{Failed}
 use Rattle.cq_outside.specs.Calls.{one_more, is_listed}
 use Rattle.cq_outside.specs.BoundedBytes.{taken_with}
 
--- its room, the bytes that it has taken as long as they fit the room, how many bytes a write takes at most, the numbers of the
--- writes that fail, and how many writes there were and how many of them failed
+-- The room, the bytes taken as long as they fit the room, and the most bytes of one write. The numbers of the writes that fail, and the
+-- counts of writes and of failed writes.
 pub record FailingSink : Type 0 where
   pub room : ℕ
   pub taken : Option (List ℕ)
@@ -14,11 +14,11 @@ pub record FailingSink : Type 0 where
   pub writes : ℕ
   pub faults : ℕ
 
--- whether the next write fails: its number is one of those that are given, where the first write has the number 1
+-- true if the number of the next write, counted from 1, is listed
 abbrev pub fails_next : FailingSink → Bool
 fails_next sink = is_listed sink.fails (one_more sink.writes)
 
--- what the next write of these bytes answers
+-- the result of the next write of these bytes
 abbrev pub result_of : FailingSink → List ℕ → Result ℕ Failed
 result_of sink bytes = if fails_next sink then Err (record {}) else Ok (min sink.piece (length bytes))
 

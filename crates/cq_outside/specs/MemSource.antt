@@ -3,8 +3,7 @@ use Rattle.std.specs.Prelude.{◌≡◌, ℕ, min, Bool, if◌then◌else◌, Li
 use Rattle.cq_outside.specs.Calls.{one_more, is_listed}
 use Rattle.cq_common.specs.declared.faults.Failed.{Failed}
 
--- the bytes that are left, how many of them a read gives at most, the numbers of the reads that fail, and how many reads
--- there were and how many of them failed
+-- the bytes left, and the most bytes of one read; the numbers of the reads that fail; the counts of reads and of failed reads
 pub record FailingSource : Type 0 where
   pub left : List ℕ
   pub piece : ℕ
@@ -12,15 +11,15 @@ pub record FailingSource : Type 0 where
   pub reads : ℕ
   pub faults : ℕ
 
--- whether the next read fails: its number is one of those that are given, where the first read has the number 1
+-- true if the number of the next read, counted from 1, is listed
 abbrev pub fails_next : FailingSource → Bool
 fails_next source = is_listed source.fails (one_more source.reads)
 
--- how many bytes a read that doesn't fail moves to a buffer of this length
+-- the number of bytes that a read moves to a buffer of this length, if it does not fail
 abbrev pub read_len : FailingSource → ℕ → ℕ
 read_len source room = min (length source.left) (min source.piece room)
 
--- what the next read answers for a buffer of this length
+-- the result of the next read to a buffer of this length
 abbrev pub result_of : FailingSource → ℕ → Result ℕ Failed
 result_of source room = if fails_next source then Err (record {}) else Ok (read_len source room)
 
@@ -36,6 +35,6 @@ abbrev pub after_reads : FailingSource → List ℕ → FailingSource
 after_reads source [] = source
 after_reads source (room ∷ rooms) = after_reads (after_read source room) rooms
 
--- a source after some list of reads, none included
+-- a source after a list of reads, perhaps empty
 abbrev pub Follows : FailingSource → FailingSource → Type 0
 Follows before now = (rooms : List ℕ) × (now ≡ after_reads before rooms)

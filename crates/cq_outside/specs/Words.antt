@@ -3,17 +3,17 @@ use Rattle.std.specs.Prelude.{◌≡◌, ◌<◌, ℕ, List, [], length, drop, R
 use Rattle.cq_outside.specs.declared.system.WordsFault.{WordsFault}
 use Rattle.cq_outside.specs.declared.system.WordsFault.TheVariants.{NoText, NoMemory}
 
--- what a call of the system gave: the program's name with the words after it, or why there are none
+-- the result of a call of the system: the program's name with the words after it, or a fault
 abbrev pub Given : Type 0
 Given = Result (List (List ℕ)) WordsFault
 
--- these are the words after the name, all of them in their order; there are none where some word is no text
+-- these are all the words after the name, in their order; there are none if some word is not UTF-8
 abbrev pub AreWordsOf : List (List ℕ) → Given → Type 0
 AreWordsOf words (Ok all) = words ≡ drop 1 all
 AreWordsOf words (Err NoText) = words ≡ []
 AreWordsOf words (Err NoMemory) = ⊥
 
--- memory may be wanting where there are words to keep, and is wanting where the system found none
+-- memory can run out if there are words to keep, and ran out if the system says so
 abbrev pub MayWantMemory : Given → Type 0
 MayWantMemory (Ok all) = 1 < length all
 MayWantMemory (Err NoText) = ⊥

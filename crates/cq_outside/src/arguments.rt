@@ -6,7 +6,11 @@ ghost use Rattle.cq_outside.specs.Words.{Given, AreWordsOf, MayWantMemory};
 use crate::system::{Words, WordsFault};
 use cq_common::NoMemory;
 
-/// The words after the program's name. Words that are no text are none that a program takes, as no words are.
+/// The words after the program's name. The result is empty if a word is not UTF-8. No program takes such words, nor an empty list.
+///
+/// # Errors
+///
+/// Returns `NoMemory` if memory runs out.
 pub fn command_words<W: Words + AllocGlobal>(rt: &W) -> Result<Vec<String>, NoMemory>
     ensures words { IfOk result (λ words. (given : Given) × W.gave given × AreWordsOf (map string_bytes words.items) given) }
     ensures memory { OnErr result ((given : Given) × W.gave given × MayWantMemory given) }

@@ -1,4 +1,4 @@
-//! Numbers of calls, by which a form in memory is told which of them fail.
+//! Numbers of calls. A form in memory fails at the calls with its numbers.
 ghost use Rattle.std.specs.Prelude.{◌≡◌, ◌↔◌, List, [], ℕ, Contains, IfOk, IsTrue, if◌then◌else◌};
 ghost use Rattle.cq_outside.specs.Calls.{is_listed, one_more};
 
@@ -6,7 +6,7 @@ use cq_common::NoMemory;
 use std::alloc::Global;
 use std::marker::Model;
 
-/// Numbers of calls, where the first call has the number 1. Contracts see them as a list.
+/// Numbers of calls. The first call has the number 1. Contracts see them as a list.
 #[derive(Drop, Debug)]
 pub struct Calls {
     numbers: Vec<u64>,
@@ -20,6 +20,10 @@ impl Model for Calls {
 
 impl Calls {
     /// The calls with these numbers.
+    ///
+    /// # Errors
+    ///
+    /// Returns `NoMemory` if memory runs out.
     pub fn of(alloc: Global, numbers: &[u64]) -> Result<Calls, NoMemory>
         ensures { IfOk result (λ calls. calls ≡ numbers.now) }
     {
@@ -28,7 +32,7 @@ impl Calls {
         })
     }
 
-    /// No calls. Takes no memory.
+    /// No calls. It takes no memory.
     pub fn none(alloc: Global) -> Calls
         ensures { result ≡ [] }
     {
@@ -44,7 +48,7 @@ impl Calls {
         self.numbers.as_slice()
     }
 
-    /// Whether the call with this number is among them.
+    /// Returns true if the call with this number is among them.
     pub fn has(&self, number: u64) -> bool
         ensures value { result ≡ is_listed self.now number }
         ensures found { IsTrue result ↔ Contains self.now number }
@@ -53,7 +57,7 @@ impl Calls {
     }
 }
 
-// Counts a call, and answers whether it is among those that fail; where it is, one fault more is counted too.
+// Counts a call, and returns true if it is among those that fail. Such a call also adds one to the faults.
 pub(crate) fn fails_next(fails: &Calls, calls: &mut u64, faults: &mut u64) -> bool
     ensures value { result ≡ is_listed fails.now (one_more calls.old) }
     ensures found { IsTrue result ↔ Contains fails.now (one_more calls.old) }

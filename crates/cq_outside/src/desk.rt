@@ -10,14 +10,18 @@ use std::alloc::Global;
 
 /// A source whose file is opened by name.
 pub trait Desk: Source {
-    /// The files by name, and the names that were opened, where the desk tells them.
+    /// The files by name and the names opened, if the desk tells them.
     ghost told: { Self → Option DeskFiles };
 
-    /// How often a file could not be opened.
+    /// The number of times that a file could not be opened.
     ghost open_faults: { Self → ℕ };
 
-    /// Opens the file of this name in place of the one that is open. The name `-` is standard input at the
-    /// real desk. A call that is refused changes nothing but the count of open faults.
+    /// Opens the file of this name in place of the open one. The name `-` is standard input at the real desk. A call that fails changes
+    /// nothing but the count of open faults.
+    ///
+    /// # Errors
+    ///
+    /// Returns `OpenFault::Failed` if the desk can't open the file, and `OpenFault::NoMemory` if memory runs out.
     fn open(&mut self, alloc: Global, name: &[u8]) -> Result<(), OpenFault>
         ensures opened { OnOk result (Opens (told self.old) (told self.new) name.now (Self.left self.new)) }
         ensures told { OnErr result (told self.new ≡ told self.old) }

@@ -1,5 +1,5 @@
-//! The trusted edge: a desk over the real files, and a sink over a real stream. They tell their bytes as far as the
-//! readers and the writer that they stand on tell theirs. Each call answers what one call of the system gave.
+//! The trusted edge: a desk over the real files, and a sink over a real stream. They tell their bytes as far as their readers and their
+//! writer tell them. Each call returns the result of one call of the system.
 ghost use Rattle.std.specs.Prelude.{◌≡◌, ◌≤◌, ◌<◌, ◌↔◌, None, length, codes, IsTrue, IfOk, IfSome, IsOk, IsNone, OnOk, OnErr, IsUtf8};
 ghost use Rattle.std.specs.Io.KnownBytes.{ReadConsumes, WriteAppends};
 ghost use Rattle.cq_outside.specs.Edge.{bytes_left, open_stream, with_stream, CountsOpening, IsOneMore, IsOpened, IsReadOf, IsOpenedBy, IsWriteOf, ReadsOn};
@@ -15,10 +15,10 @@ use std::alloc::Global;
 use std::marker::Model;
 use std::str;
 
-/// The name that stands for standard input.
+/// The name of standard input.
 const STANDARD_INPUT: &[u8] = b"-";
 
-/// What the desk reads.
+/// The open input of the desk.
 #[derive(Drop)]
 enum OpenInput<F> {
     Nothing,
@@ -27,7 +27,7 @@ enum OpenInput<F> {
 }
 
 impl<F: Drop> OpenInput<F> {
-    // Reads this from now on.
+    // Replaces the open input.
     fn set(&mut self, next: OpenInput<F>)
         ensures { self.new ≡ next }
     {
@@ -35,10 +35,10 @@ impl<F: Drop> OpenInput<F> {
     }
 }
 
-/// A desk over the real files, which opens the name `-` as standard input. A name that is not UTF-8 has no
-/// file. Contracts see its counts of faults, each of which stops at the last value of a `u64`, how many openings its files were
-/// asked for, where they tell, what is open, and of it and of standard input the bytes left and how many reads were asked for,
-/// where their readers tell them.
+/// A desk over the real files. It opens the name `-` as standard input. A name that is not UTF-8 has no file.
+///
+/// Contracts see its counts of faults, each of which stops at the last value of a `u64`, and the open input. They also see the number of
+/// openings, and of standard input and the open input the bytes left and the number of reads, as far as these are told.
 #[derive(Drop)]
 pub struct FileDesk<R: FileSystem, I: Reader> {
     files: R,
@@ -68,8 +68,11 @@ impl<R: FileSystem, I: Reader> Model for FileDesk<R, I> {
 }
 
 impl<R: FileSystem, I: Reader> FileDesk<R, I> {
-    /// A desk on which nothing is open, over the runtime's files and its standard input. It takes no memory, and so
-    /// is never refused.
+    /// A desk on which nothing is open, over the runtime's files and its standard input. It takes no memory.
+    ///
+    /// # Errors
+    ///
+    /// None: the result is always `Ok`.
     pub fn new(_alloc: Global, files: R, input: I) -> Result<FileDesk<R, I>, NoMemory>
         ensures { result ≡ Ok (record {
           read_faults = 0;
@@ -166,7 +169,7 @@ impl<R: FileSystem, I: Reader> Desk for FileDesk<R, I> {
     ghost keeps_open_faults = { same_open_faults };
 }
 
-// Whether a name stands for standard input.
+// Returns true for the name of standard input.
 fn is_standard_input(name: &[u8]) -> bool
     ensures { IsTrue result ↔ (name.now ≡ codes "-") }
 {
@@ -185,8 +188,8 @@ fn file_named<R: FileSystem>(files: &mut R, name: &[u8]) -> Option<R::File>
     files.open_file(path).ok()
 }
 
-/// A sink over a real stream. Contracts see its count of faults, which stops at the last value of a `u64`, and the
-/// bytes that the stream holds, where it tells them.
+/// A sink over a real stream. Contracts see its count of faults, which stops at the last value of a `u64`. They also see the bytes that the
+/// stream holds, if it tells them.
 #[derive(Drop)]
 pub struct StdSink<W: Writer> {
     stream: W,
@@ -202,7 +205,11 @@ impl<W: Writer> Model for StdSink<W> {
 }
 
 impl<W: Writer> StdSink<W> {
-    /// A sink over this stream. It takes no memory, and so is never refused.
+    /// A sink over this stream. It takes no memory.
+    ///
+    /// # Errors
+    ///
+    /// None: the result is always `Ok`.
     pub fn new(_alloc: Global, stream: W) -> Result<StdSink<W>, NoMemory>
         ensures { result ≡ Ok (record { faults = 0; contents = W.holds stream }) }
     {
@@ -215,7 +222,11 @@ impl<W: Writer> Sink for StdSink<W> {
 
     ghost faults = { λ s. s.faults };
 
-    /// A write that takes none of the bytes that there are fails.
+    /// Writes once.
+    ///
+    /// # Errors
+    ///
+    /// Returns `Failed` if the stream fails, or takes none of at least one byte.
     fn write(&mut self, bytes: &[u8]) -> Result<usize, Failed>
         ensures bound { IfOk result (λ n. n ≤ length bytes.now) }
         ensures moves { IfOk result (λ n. 0 < length bytes.now → 0 < n) }

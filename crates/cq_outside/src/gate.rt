@@ -1,13 +1,13 @@
-//! What is told of each game as workers take it.
+//! A gate, told of each game as workers take it.
 use cq_common::Shared;
 
-/// Called as a worker enters and leaves a game. Nothing that the program writes depends on it.
+/// The calls of a worker as it enters and leaves a game. Nothing that the program writes depends on them.
 pub trait Gate {
     /// `worker` has drawn the game `shard` of the batch, and has not read it yet.
     fn enter(&self, worker: u64, shard: u64);
 
-    /// `worker` has made the answer of the game `shard`. `text` is its export, empty where the game is refused or has no match; of
-    /// several queries it is that of the first.
+    /// `worker` has finished its work on the game `shard`. `text` is the game's export, and is empty if the game has a fault or no match.
+    /// For several queries it is the export of the first.
     fn leave(&self, worker: u64, shard: u64, text: &[u8]);
 }
 

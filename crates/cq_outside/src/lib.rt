@@ -1,5 +1,5 @@
-//! The outside of the program, as the rest of it sees it: sources, sinks, a desk of files and a gate,
-//! each by what its calls promise, with forms in memory and a thin edge over the real system.
+//! The outside of the program: sources, sinks, a desk of files and a gate. Each is a trait with the promises of its calls. They have forms
+//! in memory, and a thin edge over the real system.
 #![tactic(auto)]
 
 mod arguments;

@@ -1,4 +1,4 @@
-//! A desk of files in memory that gives its bytes in pieces, and fails where it is told to.
+//! A desk of files in memory that gives its bytes in pieces, and fails at listed calls.
 ghost use Rattle.std.specs.Prelude.{◌≡◌, ◌≤◌, ◌↔◌, ◌||◌, [], Some, Err, true, false, is_none, length, Contains, IfOk, IfSome, IfNone, OnOk, OnErr, IsErr, IsErrOf};
 ghost use Rattle.std.specs.Io.KnownBytes.{ReadConsumes};
 ghost use Rattle.std.specs.FinMap as map;
@@ -52,7 +52,7 @@ impl StoredFile {
         })
     }
 
-    // The file once it was opened, at a desk so many of whose reads have failed.
+    // The file just after its opening, at a desk with this count of failed reads.
     fn opened(&self, alloc: Global, faults: u64) -> Result<MemSource, NoMemory>
         ensures { IfOk result (λ source. source ≡ just_opened faults self.now) }
     {
@@ -66,9 +66,9 @@ impl StoredFile {
     }
 }
 
-/// A desk of given files, which has none under other names. Each file gives at most so many bytes in one read, and the
-/// reads whose numbers are given with it fail, counted from its opening; the openings whose numbers the desk is given
-/// fail. The first call has the number 1. Its counts stop at the last value of a `u64`.
+/// A desk of given files. A name without a file can't be opened. Each file has the most bytes that one read gives, and the numbers of the
+/// reads that fail, counted from its opening. The desk has the numbers of the openings that fail. The first call has the number 1. Its
+/// counts stop at the last value of a `u64`.
 #[derive(Drop, Debug)]
 pub struct MemDesk {
     alloc: Global,
@@ -99,8 +99,8 @@ impl Model for MemDesk {
 }
 
 impl MemDesk {
-    /// A desk without files, on which no file is open and no bytes are left, and whose openings with the numbers in
-    /// `fails` fail. Takes no memory.
+    /// A desk without files, on which no file is open and no bytes are left. Its openings with the numbers in `fails` fail. It takes no
+    /// memory.
     pub fn new(alloc: Global, fails: Calls) -> MemDesk
         ensures { result ≡ record {
           files = map.empty;
@@ -122,8 +122,12 @@ impl MemDesk {
         }
     }
 
-    /// Gives a name these bytes, of which a read gives at most `piece`, and whose reads with the numbers in `fails` fail, in
-    /// place of the file that the name had. The file that is open stays as it is.
+    /// Gives a name these bytes, in place of its file if it had one. One read gives at most `piece` bytes, and the reads with the numbers
+    /// in `fails` fail. The open file stays as it is.
+    ///
+    /// # Errors
+    ///
+    /// Returns `NoMemory` if memory runs out.
     pub fn add(
         &mut self,
         name: &[u8],
@@ -143,7 +147,7 @@ impl MemDesk {
     }
 }
 
-// The file of this name, where there is one and the opening with this number does not fail.
+// The file of this name, if it exists and the opening with this number does not fail.
 #[tactic(auto, using(crate::proofs::Entries::entry_at, crate::proofs::Entries::no_entry))]
 fn file_to_open<'a>(
     files: &'a [(Bytes, StoredFile)],
@@ -169,8 +173,11 @@ impl Source for MemDesk {
 
     ghost follows = { ReadsOn };
 
-    /// Fails where the number of this read since the file was opened is one of those given with it, and else moves as
-    /// many bytes as are left, fit `buf` and make up a piece at most.
+    /// Moves as many bytes as are left, fit `buf` and make up a piece at most.
+    ///
+    /// # Errors
+    ///
+    /// Returns `Failed` if the number of this read since the file was opened is listed with the file.
     fn read(&mut self, buf: &mut [u8]) -> Result<usize, Failed>
         ensures answer { result ≡ result_of self.old.current (length buf.old) }
         ensures listed { IsErr result ↔ Contains self.old.current.fails (one_more self.old.current.reads) }
@@ -199,7 +206,12 @@ impl Desk for MemDesk {
 
     ghost open_faults = { λ d. d.open_faults };
 
-    /// Fails where the number of this opening is one of those given, or there is no file of this name.
+    /// Opens the file of this name.
+    ///
+    /// # Errors
+    ///
+    /// Returns `OpenFault::Failed` if the number of this opening is listed or there is no file of this name, and `OpenFault::NoMemory` if
+    /// memory runs out.
     fn open(&mut self, alloc: Global, name: &[u8]) -> Result<(), OpenFault>
         ensures fails { (result ≡ Err failed) ↔ (fails_next self.old name.now ≡ true) }
         ensures state { (result ≡ Err no_memory → ⊥) → self.new ≡ after_open self.old name.now }

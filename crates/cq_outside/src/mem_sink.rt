@@ -1,4 +1,4 @@
-//! A sink in memory that takes pieces of what is written, and fails where it is told to.
+//! A sink in memory that takes the bytes of a write in pieces, and fails at listed writes.
 ghost use Rattle.std.specs.Prelude.{◌≡◌, ◌≤◌, ◌<◌, ◌↔◌, Some, length, Contains, IfOk, IsErr, []};
 ghost use Rattle.std.specs.Option.{option_copied};
 ghost use Rattle.cq_outside.specs.Faults.{HasCause};
@@ -13,9 +13,8 @@ use cq_common::{Failed, NoMemory};
 use std::alloc::Global;
 use std::marker::Model;
 
-/// A sink that takes at most so many bytes of one write, and keeps them as long as they fit its room. The writes whose
-/// numbers are given fail, where the first write has the number 1. The counts of its writes and of its faults stop at the
-/// last value of a `u64`.
+/// A sink that takes at most a piece of one write, and keeps the bytes as long as they fit its room. The writes with given numbers fail.
+/// The first write has the number 1. The counts of its writes and of its faults stop at the last value of a `u64`.
 #[derive(Drop, Debug)]
 pub struct MemSink {
     kept: SureSink,
@@ -44,8 +43,12 @@ impl Model for MemSink {
 }
 
 impl MemSink {
-    /// A sink that has taken nothing, with room for `room` bytes, that takes at most `piece` bytes of one write, and
-    /// fails at the writes whose numbers are in `fails`. It takes all its memory here.
+    /// A sink that has taken nothing, with room for `room` bytes. It takes at most `piece` bytes of one write, and fails at the writes with
+    /// the numbers in `fails`. It takes all its memory here.
+    ///
+    /// # Errors
+    ///
+    /// Returns `NoMemory` if memory runs out.
     pub fn new(alloc: Global, room: usize, piece: usize, fails: Calls) -> Result<MemSink, NoMemory>
         requires { 1 ≤ piece }
         ensures { IfOk result (λ sink. sink ≡ record {
@@ -66,7 +69,7 @@ impl MemSink {
         })
     }
 
-    /// The bytes taken, where they fit the room.
+    /// The bytes taken, if they fit the room.
     pub fn taken(&self) -> Option<&[u8]>
         ensures { option_copied result ≡ self.now.taken }
     {
@@ -79,7 +82,11 @@ impl Sink for MemSink {
 
     ghost faults = { λ s. s.faults };
 
-    /// Fails where the number of this write is one of those given, and else takes as many bytes as make up a piece at most.
+    /// Takes a prefix of at most one piece.
+    ///
+    /// # Errors
+    ///
+    /// Returns `Failed` if the number of this write is listed.
     fn write(&mut self, bytes: &[u8]) -> Result<usize, Failed>
         ensures answer { result ≡ result_of self.old bytes.now }
         ensures listed { IsErr result ↔ Contains self.old.fails (one_more self.old.writes) }

@@ -1,4 +1,4 @@
-//! A source in memory that gives its bytes in pieces, and fails where it is told to.
+//! A source in memory that gives its bytes in pieces, and fails at listed reads.
 ghost use Rattle.std.specs.Prelude.{◌≡◌, ◌≤◌, ◌↔◌, [], Some, length, Contains, IfOk, IsErr};
 ghost use Rattle.std.specs.Io.KnownBytes.{ReadConsumes};
 ghost use Rattle.cq_outside.specs.Faults.{HasCause};
@@ -12,8 +12,8 @@ use cq_common::{Bytes, Failed, NoMemory};
 use std::alloc::Global;
 use std::marker::Model;
 
-/// A source of given bytes that gives at most so many of them in one read. The reads whose numbers are given fail, where
-/// the first read has the number 1. The counts of its reads and of its faults stop at the last value of a `u64`.
+/// A source of given bytes that gives at most a piece of them in one read. The reads with given numbers fail. The first read has the number
+/// 1. The counts of its reads and of its faults stop at the last value of a `u64`.
 #[derive(Drop, Debug)]
 pub struct MemSource {
     rest: SureSource,
@@ -35,8 +35,12 @@ impl Model for MemSource {
 }
 
 impl MemSource {
-    /// A source that has these bytes left, gives at most `piece` of them in one read, and fails at the reads whose
-    /// numbers are in `fails`.
+    /// A source that has these bytes left. It gives at most `piece` of them in one read, and fails at the reads with the numbers in
+    /// `fails`.
+    ///
+    /// # Errors
+    ///
+    /// Returns `NoMemory` if memory runs out.
     pub fn new(
         alloc: Global,
         bytes: &[u8],
@@ -55,7 +59,7 @@ impl MemSource {
         })
     }
 
-    // A source with no bytes. Takes no memory.
+    // A source with no bytes. It takes no memory.
     pub(crate) fn empty(alloc: Global) -> MemSource
         ensures { result ≡ record { left = []; piece = 1; fails = []; reads = 0; faults = 0 } }
     {
@@ -68,7 +72,7 @@ impl MemSource {
         }
     }
 
-    // The same source, so many of whose reads have failed.
+    // The same source with this count of failed reads.
     pub(crate) fn with_faults(self, faults: u64) -> MemSource
         ensures { result ≡ record self { faults = faults } }
     {
@@ -81,7 +85,7 @@ impl MemSource {
         }
     }
 
-    // How many reads have failed.
+    // The number of reads that failed.
     pub(crate) fn faults(&self) -> u64
         ensures { result ≡ self.now.faults }
     {
@@ -96,8 +100,11 @@ impl Source for MemSource {
 
     ghost follows = { Follows };
 
-    /// Fails where the number of this read is one of those given, and else moves as many bytes as are left, fit `buf`
-    /// and make up a piece at most.
+    /// Moves as many bytes as are left, fit `buf` and make up a piece at most.
+    ///
+    /// # Errors
+    ///
+    /// Returns `Failed` if the number of this read is listed.
     fn read(&mut self, buf: &mut [u8]) -> Result<usize, Failed>
         ensures answer { result ≡ result_of self.old (length buf.old) }
         ensures listed { IsErr result ↔ Contains self.old.fails (one_more self.old.reads) }

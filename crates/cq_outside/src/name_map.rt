@@ -1,4 +1,4 @@
-//! What has a name, as a list of names in no order. Contracts see the finite map that it is.
+//! A map from names to values, as a list of names in no order. Contracts see it as a finite map.
 ghost use Rattle.std.specs.Prelude.{◌≡◌, ◌≢◌, ◌<◌, ◌++◌, ◌∷◌, [], List, ℕ, length, take, slice_index_or, All, IfNone, IfSome, OnOk, OnErr};
 ghost use Rattle.std.specs.Ordering.{nat_cmp};
 ghost use Rattle.std.specs.Cmp.Lexicographic.{slice_cmp};
@@ -7,7 +7,7 @@ ghost use Rattle.std.specs.FinMap as map;
 use cq_common::{Bytes, NoMemory};
 use std::alloc::Global;
 
-// The place of the first entry with this name.
+// The index of the first entry with this name.
 pub(crate) fn place_of<X>(entries: &[(Bytes, X)], name: &[u8]) -> Option<usize>
     ensures none { IfNone result (All (λ e. e.0 ≢ name.now) entries.now) }
     ensures bound { IfSome result (λ place. place < length entries.now) }
@@ -22,7 +22,7 @@ pub(crate) fn place_of<X>(entries: &[(Bytes, X)], name: &[u8]) -> Option<usize>
     None
 }
 
-// Gives a name this value, in place of the one that it had.
+// Gives a name this value, in place of its former one.
 pub(crate) fn put<X: Drop>(
     alloc: Global,
     entries: &mut Vec<(Bytes, X)>,

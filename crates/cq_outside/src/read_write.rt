@@ -9,10 +9,14 @@ use crate::source::Source;
 use cq_common::{Bytes, Failed, Refusal};
 use std::alloc::Global;
 
-/// The longest buffer that one read is given, in bytes.
+/// The longest buffer of one read, in bytes.
 const PIECE: usize = 65_536;
 
-/// One read.
+/// Reads once.
+///
+/// # Errors
+///
+/// Returns `Failed` if the read fails.
 pub fn read_piece<S: Source>(source: &mut S, buf: &mut [u8]) -> Result<usize, Failed>
     ensures bound { IfOk result (λ n. n ≤ length buf.old) }
     ensures bytes { ReadConsumes (S.left source.old) (S.left source.new) result buf.new }
@@ -22,9 +26,13 @@ pub fn read_piece<S: Source>(source: &mut S, buf: &mut [u8]) -> Result<usize, Fa
     source.read(buf)
 }
 
-/// Reads until the end, or until one byte more than `limit` was taken: where at most `limit` bytes are
-/// answered, nothing is left. `limit` is below 2^62 bytes. Answers the fault of the first read that fails,
-/// and has taken at most `limit` bytes then.
+/// Reads until the end, or until one byte more than `limit` was taken. If the result has at most `limit` bytes, nothing is left. `limit` is
+/// below 2^62 bytes.
+///
+/// # Errors
+///
+/// Returns the fault of the first read that fails, after at most `limit` bytes were taken. Returns `Refusal::NoMemory` if memory runs out,
+/// after at most `limit` + 1 bytes.
 pub fn read_up_to<S: Source>(
     source: &mut S,
     alloc: Global,
@@ -51,7 +59,7 @@ pub fn read_up_to<S: Source>(
     Ok(bytes)
 }
 
-// One read into `buffer`, whose bytes are added to `bytes`. Answers how many they are.
+// Reads once into `buffer`, and adds the bytes read to `bytes`. Returns their number.
 fn append_piece<S: Source>(
     source: &mut S,
     buffer: &mut [u8],
@@ -75,7 +83,11 @@ fn append_piece<S: Source>(
     }
 }
 
-/// Writes until all of `bytes` is taken or a write fails. After a failure the sink has taken a prefix of `bytes`.
+/// Writes until all of `bytes` is taken or a write fails.
+///
+/// # Errors
+///
+/// Returns `Failed` if a write fails. The sink has then taken a prefix of `bytes`.
 pub fn write_all_of<S: Sink>(sink: &mut S, bytes: &[u8]) -> Result<(), Failed>
     ensures ok { OnOk result (Grew (S.taken sink.old) (S.taken sink.new) bytes.now) }
     ensures err { OnErr result ((k : ℕ) × Grew (S.taken sink.old) (S.taken sink.new) (take k bytes.now)) }

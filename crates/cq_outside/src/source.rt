@@ -1,23 +1,27 @@
-//! Where bytes come from.
+//! Sources of bytes.
 ghost use Rattle.std.specs.Prelude.{◌≡◌, ◌≤◌, ◌-◌, List, ℕ, Option, length, IfOk};
 ghost use Rattle.std.specs.Io.KnownBytes.{ReadConsumes};
 ghost use Rattle.cq_outside.specs.Faults.{HasCause};
 
 use cq_common::Failed;
 
-/// Something that is read piece by piece.
+/// A source, which is read piece by piece.
 pub trait Source {
-    /// The bytes that are left, where the source tells them.
+    /// The bytes left, if the source tells them.
     ghost left: { Self → Option (List ℕ) };
 
-    /// How often a read has failed.
+    /// The number of reads that failed.
     ghost faults: { Self → ℕ };
 
-    /// Which states may follow from a state by reads, none included.
+    /// The states that can follow a state by a list of reads, perhaps empty.
     ghost follows: { Self → Self → Type 0 };
 
-    /// Moves some of the bytes left to the start of `buf`, and answers how many. It answers 0 for a buffer
-    /// that is not empty only where nothing is left. A read that fails takes nothing.
+    /// Moves some of the bytes left to the start of `buf`, and returns their number. It returns 0 for a buffer that is not empty only if
+    /// nothing is left.
+    ///
+    /// # Errors
+    ///
+    /// Returns `Failed` if the read fails. It has then taken nothing.
     fn read(&mut self, buf: &mut [u8]) -> Result<usize, Failed>
         ensures bound { IfOk result (λ n. n ≤ length buf.old) }
         ensures bytes { ReadConsumes (left self.old) (left self.new) result buf.new }

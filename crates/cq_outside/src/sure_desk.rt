@@ -13,7 +13,7 @@ use cq_common::{Bytes, Failed, NoMemory, OpenFault};
 use std::alloc::Global;
 use std::marker::Model;
 
-/// A desk of given files, which opens a name without a file as an empty file.
+/// A desk of given files. It opens a name without a file as an empty file.
 #[derive(Drop, Debug)]
 pub struct SureDesk {
     alloc: Global,
@@ -34,7 +34,7 @@ impl Model for SureDesk {
 }
 
 impl SureDesk {
-    /// A desk without files, on which no file is open and no bytes are left. Takes no memory.
+    /// A desk without files, on which no file is open and no bytes are left. It takes no memory.
     pub fn new(alloc: Global) -> SureDesk
         ensures { result ≡ record { files = map.empty; opened = []; left = [] } }
     {
@@ -46,7 +46,11 @@ impl SureDesk {
         }
     }
 
-    /// Gives a name these bytes, in place of those that it had. The file that is open stays as it is.
+    /// Gives a name these bytes, in place of its former ones. The open file stays as it is.
+    ///
+    /// # Errors
+    ///
+    /// Returns `NoMemory` if memory runs out.
     pub fn add(&mut self, name: &[u8], bytes: &[u8]) -> Result<(), NoMemory>
         ensures ok { OnOk result (self.new ≡ record self.old { files = map.insert self.old.files name.now bytes.now }) }
         ensures err { OnErr result (self.new ≡ self.old) }
@@ -56,7 +60,7 @@ impl SureDesk {
     }
 }
 
-// A copy of the bytes of a name, of which there are none where there is no such file.
+// A copy of the bytes of a name. It is empty if there is no such file.
 fn copy_of(alloc: Global, files: &[(Bytes, Bytes)], name: &[u8]) -> Result<Bytes, NoMemory>
     ensures { IfOk result (λ bytes. bytes ≡ bytes_of (map.from_entries files.now) name.now) }
 {
@@ -74,6 +78,10 @@ impl Source for SureDesk {
     ghost follows = { λ s t. (desk_files_of t ≡ desk_files_of s) × ((bytes : List ℕ) × (s.left ≡ bytes ++ t.left)) };
 
     /// Moves as many bytes as are left and fit `buf`.
+    ///
+    /// # Errors
+    ///
+    /// None: the result is always `Ok`.
     fn read(&mut self, buf: &mut [u8]) -> Result<usize, Failed>
         ensures fills { result ≡ Ok (min (length self.old.left) (length buf.old)) }
         ensures bound { IfOk result (λ n. n ≤ length buf.old) }

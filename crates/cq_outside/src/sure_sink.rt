@@ -8,8 +8,8 @@ use cq_common::{Failed, NoMemory};
 use std::alloc::Global;
 use std::marker::Model;
 
-/// A sink that takes every byte, and keeps them as long as they fit its room. From the write on that passes
-/// the room it keeps none.
+/// A sink that takes every byte, and keeps the bytes as long as they fit its room. A write that passes the room makes it keep none from
+/// then on.
 #[derive(Drop, Debug)]
 pub struct SureSink {
     bytes: Vec<u8>,
@@ -30,6 +30,10 @@ impl Model for SureSink {
 
 impl SureSink {
     /// A sink that has taken nothing, with room for `room` bytes. It takes all its memory here.
+    ///
+    /// # Errors
+    ///
+    /// Returns `NoMemory` if memory runs out.
     pub fn new(alloc: Global, room: usize) -> Result<SureSink, NoMemory>
         ensures { IfOk result (λ sink. sink ≡ record { room = room; taken = Some [] }) }
     {
@@ -40,7 +44,7 @@ impl SureSink {
         })
     }
 
-    /// The bytes taken, where they fit the room.
+    /// The bytes taken, if they fit the room.
     pub fn taken(&self) -> Option<&[u8]>
         ensures { option_copied result ≡ self.now.taken }
     {
@@ -58,6 +62,10 @@ impl Sink for SureSink {
     ghost faults = { λ _. 0 };
 
     /// Takes all of `bytes`.
+    ///
+    /// # Errors
+    ///
+    /// None: the result is always `Ok`.
     fn write(&mut self, bytes: &[u8]) -> Result<usize, Failed>
         ensures all { result ≡ Ok (length bytes.now) }
         ensures within { (before : List ℕ) → self.old.taken ≡ bytes_if_fit self.old.room before

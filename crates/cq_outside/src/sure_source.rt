@@ -7,7 +7,7 @@ use crate::source::Source;
 use cq_common::{Bytes, Failed};
 use std::marker::Model;
 
-/// A source of given bytes, which contracts see as the bytes that are left.
+/// A source of given bytes. Contracts see it as the bytes left.
 #[derive(Drop, Debug)]
 pub struct SureSource {
     bytes: Bytes,
@@ -41,6 +41,10 @@ impl Source for SureSource {
     ghost follows = { λ s t. (bytes : List ℕ) × (s ≡ bytes ++ t) };
 
     /// Moves as many bytes as are left and fit `buf`.
+    ///
+    /// # Errors
+    ///
+    /// None: the result is always `Ok`.
     fn read(&mut self, buf: &mut [u8]) -> Result<usize, Failed>
         ensures fills { result ≡ Ok (min (length self.old) (length buf.old)) }
         ensures bound { IfOk result (λ n. n ≤ length buf.old) }

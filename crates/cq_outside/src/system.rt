@@ -1,6 +1,6 @@
-//! What the real edge asks of the system: one read, one write, one opening of a file, and the words of the process. What such a
-//! call gave is a relation of which only the call itself tells, so whoever is generic over these traits can't pretend that the
-//! system failed, that it opened a file of another name, or that it gave other words.
+//! The system calls of the real edge: one read, one write, one opening of a file, and the words of the process. The results of such a call
+//! are a relation that only the call itself provides. Code generic over these traits therefore can't pretend that the system failed, opened
+//! another file, or gave other words.
 ghost use Rattle.std.specs.Prelude.{◌≤◌, List, ℕ, None, Option, Result, length, map, Ok, Err, IfOk, OnErr, MatchResult};
 ghost use Rattle.std.specs.Io.KnownBytes.{ReadConsumes, WriteAppends};
 ghost use Rattle.std.specs.String.{string_bytes};
@@ -15,18 +15,22 @@ use std::io::{ErrorKind, Read, Write};
 use std::rt::{Env, Files};
 use std::{env, fs};
 
-/// A stream of the system that is read.
+/// A stream of the system for reading.
 pub trait Reader: Drop {
-    /// The bytes that are left, where the reader tells them.
+    /// The bytes left, if the reader tells them.
     ghost left: { Self → Option (List ℕ) };
 
-    /// How many reads the reader was asked for, where it tells.
+    /// The number of reads, if the reader tells it.
     ghost reads: { Self → Option ℕ };
 
-    /// What one read gave of a reader in this state.
+    /// The possible results of one read of a reader in this state.
     ghost gave: { Stream → Result ℕ Failure → Type 0 };
 
-    /// Reads once, some bytes to the start of `buf`. An interrupted read has failed, as any other error does.
+    /// Reads once, some bytes to the start of `buf`.
+    ///
+    /// # Errors
+    ///
+    /// Returns `Failed` on any error of the system, an interrupted read among them.
     fn read_once(&mut self, buf: &mut [u8]) -> Result<usize, Failed>
         ensures bound { IfOk result (λ n. n ≤ length buf.old) }
         ensures bytes { ReadConsumes (left self.old) (left self.new) result buf.new }
@@ -46,15 +50,19 @@ impl<I: Read + Drop> Reader for I {
     }
 }
 
-/// A stream of the system that is written to.
+/// A stream of the system for writing.
 pub trait Writer: Drop {
-    /// The bytes that the stream holds, where the writer tells them.
+    /// The bytes that the stream holds, if the writer tells them.
     ghost holds: { Self → Option (List ℕ) };
 
-    /// What one write of some bytes gave of a writer that held these.
+    /// The possible results of one write of some bytes, by the bytes that the writer held.
     ghost gave: { Option (List ℕ) → List ℕ → Result ℕ Failure → Type 0 };
 
-    /// Writes once, some bytes from the start of `bytes`. An interrupted write has failed, as any other error does.
+    /// Writes once, some bytes from the start of `bytes`.
+    ///
+    /// # Errors
+    ///
+    /// Returns `Failed` on any error of the system, an interrupted write among them.
     fn write_once(&mut self, bytes: &[u8]) -> Result<usize, Failed>
         ensures bound { IfOk result (λ n. n ≤ length bytes.now) }
         ensures bytes { WriteAppends (holds self.old) (holds self.new) result bytes.now }
@@ -81,10 +89,14 @@ pub trait FileSystem: Drop {
     /// No file of this name could be opened.
     ghost refused: { List ℕ → Type 0 };
 
-    /// How many openings the folder was asked for, where it tells.
+    /// The number of openings, if the system tells it.
     ghost openings: { Self → Option ℕ };
 
     /// Opens the file of this name for reading.
+    ///
+    /// # Errors
+    ///
+    /// Returns `Failed` if the system can't open the file.
     fn open_file(&mut self, name: &str) -> Result<Self::File, Failed>
         ensures opened { IfOk result (λ file. opened name.now (record { left = Self.File.left file; reads = Self.File.reads file })) }
         ensures refused { OnErr result (refused name.now) }
@@ -105,21 +117,25 @@ impl<R: Files + Drop> FileSystem for R {
     }
 }
 
-/// Why the system gives no words.
+/// The reasons for which the system gives no words.
 #[derive(Clone, Copy, Debug, PartialEq, Eq)]
 pub enum WordsFault {
-    /// A word is no text.
+    /// A word is not UTF-8.
     NoText,
-    /// No memory was found.
+    /// Memory ran out.
     NoMemory,
 }
 
 /// The words of the process.
 pub trait Words {
-    /// What one call gave: the program's name with the words after it, or why there are none.
+    /// The possible results of one call: the program's name with the words after it, or a fault.
     ghost gave: { Result (List (List ℕ)) Fault → Type 0 };
 
     /// The program's name, and then the words after it.
+    ///
+    /// # Errors
+    ///
+    /// Returns `WordsFault::NoText` if a word is not UTF-8, and `WordsFault::NoMemory` if memory runs out.
     fn words_once(&self) -> Result<Args, WordsFault>
         ensures gave { MatchResult result (λ words. gave (Ok (map string_bytes (into_iter_items words)))) (λ fault. gave (Err fault)) };
 }

@@ -1,4 +1,4 @@
--- An attacked square is one that an attacker is found from, outward along its lines and by its steps.
+-- An attacked square is one from which an attacker is found, outward along lines and by steps.
 use Rattle.std.proofs.Common.{◌≡◌, ℕ, ◌<◌, Bool, true, false, cond, not, ◌&&◌, ◌||◌, ◌==◌, List, [], ◌∷◌, reverse, map, Option, Some, None, refl, inl, inr, sym, ap, ap₂, ◌∙◌, arith}
 use Rattle.std.specs.Prelude.{bit_or}
 use Rattle.std.specs.List.{All, list_all, list_any, filter}
@@ -120,7 +120,7 @@ seen_board occupied (x ∷ xs) h =
       | false ↦ All-cons (λ y. y < 64) x (seen occupied xs) first rest
     ]
 
--- what is true of no empty square is false of a square where nobody stands
+-- a property of no empty square is false of a square without a man
 kind_free : (kind : Man → Bool) → kind Empty ≡ false → (m : Man) → not (same_man m Empty) ≡ false → kind m ≡ false
 kind_free kind e Empty h = e
 kind_free kind e K h = absurd (cc)
@@ -350,7 +350,7 @@ attacked_in_ways men by s h =
     (at_squares (is_pawn_attack by) (λ x y. is_pawn_attack (opponent by) y x) (pawn_back by) a s low h)) squares squares_board))
     (any_same king _ (λ a. ap (λ t. stands men a (king_of by) && t) (king_steps_back a s)) squares))))
 
--- where no man is on the lines, none attacks along them
+-- no man attacks along lines if none is on the lines
 less : (a b c : Bool) → (a && b) ≡ false → (a && (b && c)) ≡ false
 less true true c e = absurd (cc)
 less true false c e = refl

@@ -1,4 +1,4 @@
--- The words of a comment are those of the text that it was made of.
+-- The words of a comment are those of the text from which it was made.
 use Rattle.std.proofs.Common.{◌≡◌, ◌≢◌, ℕ, Bool, true, false, cond, List, [], ◌∷◌, ◌++◌, refl, sym, ap, ◌∙◌, subst, arith}
 use Rattle.std.specs.List.{All, AllByRecursion, slice_split, onto_first, filter, join_with_byte}
 use Rattle.std.proofs.lemmas.List.Elements.{All-head, All-tail, All-cons, All-nil, All-append, All-push}
@@ -65,7 +65,7 @@ words_joined (w ∷ v ∷ vs) are =
 pub same_words : (t : List ℕ) → words (join_with_byte 32 (words t)) ≡ words t
 same_words t = words_joined (words t) (are_words t)
 
--- what holds of the bytes of a text and of the space holds of the bytes of its comment
+-- a property of the bytes of a text and of the space holds of the bytes of its comment
 module _ (P : ℕ → Type 0) where
   onto_each : (b : ℕ) → P b → (ws : List (List ℕ)) → AllByRecursion (All P) ws → AllByRecursion (All P) (onto_first b ws)
   onto_each b is [] each = (All-cons P b [] is (All-nil P), tt)

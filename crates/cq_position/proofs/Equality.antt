@@ -1,4 +1,4 @@
--- What `==` says of positions, part by part.
+-- The meaning of `==` for positions, part by part.
 use Rattle.std.proofs.Common.{◌≡◌, ℕ, Bool, true, false, ◌&&◌, ◌==◌, List, Option, Some, None, refl, sym, ap, ap₂, ◌∙◌, rules}
 use Rattle.std.proofs.Math.Bool.{beq}
 use Rattle.std.specs.Bool.{Decides}

@@ -1,4 +1,4 @@
--- Nodes are a tree exactly where the moves of their continuations follow one another.
+-- Nodes are a tree exactly if the moves of their continuations follow one another.
 use Rattle.std.proofs.Common.{◌≡◌, ℕ, ◌+◌, ◌-◌, ◌<◌, ◌≤◌, List, [], ◌∷◌, ◌++◌, length, Some, refl, sym, ap, ◌∙◌, subst, arith, append_assoc, append-nil, length-append}
 use Rattle.std.specs.Prelude.{Contains}
 use Rattle.std.proofs.lemmas.List.{get_or_append_left}
@@ -61,7 +61,7 @@ grown (played m next others) xs k p at less tree on follows few =
 pub root_tree : (root : Node) → IsRoot root → IsTree (root ∷ [])
 root_tree root is = record { rooted = omega arith; few = omega arith; root = is; children = λ n later h. absurd (omega (arith, later, h)) }
 
--- where each move leads from the position before it to its own, the nodes are a tree
+-- the nodes are a tree if each move leads from the position before it to its own
 pub tree_of : (root : Node) (c : Continuations) → IsRoot root → size c < 65536 → Follows root.position c → IsTree (root ∷ nodes_from 0 1 c)
 tree_of root c is few follows =
     let tree = root_tree root is in

@@ -37,7 +37,7 @@ pub parts_join : (c : ℕ) (x : List ℕ) (xs : List (List ℕ)) → list_all (l
 parts_join c x [] e = parts_last c x (left_true _ _ e)
 parts_join c x (y ∷ xs) e = parts_more c x (join_with_byte c (y ∷ xs)) (left_true _ _ e) ∙ ap (λ rest. x ∷ rest) (parts_join c y xs (right_true (list_all (is_not c) x) _ e))
 
--- what each text passes, and the byte between them, the joined text passes
+-- the joined text passes a test that each text and the byte between them pass
 pub all_join : (q : ℕ → Bool) (c : ℕ) (xs : List (List ℕ)) → q c ≡ true → list_all (list_all q) xs ≡ true → list_all q (join_with_byte c xs) ≡ true
 all_join q c [] e a = refl
 all_join q c (x ∷ []) e a = left_true _ _ a

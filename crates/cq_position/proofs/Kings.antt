@@ -1,4 +1,4 @@
--- A side is in check where the square of its king is attacked.
+-- A side is in check if the square of its king is attacked.
 use Rattle.std.proofs.Common.{◌≡◌, ℕ, ◌+◌, ◌^◌, ◌<◌, Bool, true, false, cond, ◌&&◌, ◌||◌, ◌==◌, List, [], ◌∷◌, length, map, refl, inl, inr, sym, ap, ◌∙◌, arith}
 use Rattle.std.specs.Prelude.{slice_set, count_by}
 use Rattle.std.specs.List.{list_any}
@@ -41,7 +41,7 @@ on_board men side a long h =
           absurd (cc)
     ]
 
--- where there is one king, two squares on which it stands are one
+-- if there is one king, two squares of it are one
 pub one_king : (men : List Man) (side : Side) (a b : ℕ) → length men ≡ 64 → count_of (king_of side) men ≡ 1
     → stands men a (king_of side) ≡ true → stands men b (king_of side) ≡ true → b ≡ a
 one_king men side a b long one here there =

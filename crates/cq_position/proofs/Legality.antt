@@ -20,14 +20,14 @@ use Rattle.cq_position.specs.Men.{is_of_side, opponent, king_of}
 use Rattle.cq_position.specs.Legal.{is_pseudo_legal, reaches, goes_as, promotion_is_right, men_after, after, Legal}
 use Rattle.cq_position.specs.Legality.{is_safe, legal_test, ordinary, promotions, has_legal_move}
 
--- what passes the test is legal
+-- a move that passes the test is legal
 pub test_leads : (p : Board) (m : Move) → legal_test p m ≡ true → Legal p m (after p m)
 unfolding legal_test after
 test_leads p m h =
     let both = and_parts (is_pseudo_legal p m) (is_safe p m) h in
     record { moves = both.0; leads = refl; safe = not-true (in_check (men_after p m) p.side) both.1 }
 
--- what is legal passes the test
+-- a legal move passes the test
 pub legal_passes : (p : Board) (m : Move) (q : Board) → Legal p m q → legal_test p m ≡ true
 unfolding legal_test after
 legal_passes p m q l =
@@ -38,7 +38,7 @@ legal_passes p m q l =
 pub legal_law : (p : Board) (m : Move) → (legal_test p m ≡ true) ↔ ((q : Board) × Legal p m q)
 legal_law p m = (λ h. (after p m, test_leads p m h), λ l. legal_passes p m l.0 l.1)
 
--- what passes is found
+-- a move that passes is found
 legal_found : (p : Board) → has_legal_move p ≡ true → (m : Move) × (q : Board) × Legal p m q
 unfolding has_legal_move
 legal_found p h =
@@ -75,7 +75,7 @@ on_board men side s long own = elim (cases_lt s 64) [
       absurd (cc)
 ]
 
--- what a legal move keeps to: its squares are on the board, and it is no null move
+-- a legal move has its squares on the board, and is no null move
 record OnBoard (m : Move) : Type 0 where
   from_board : m.from < 64
   to_board : m.to < 64
@@ -101,7 +101,7 @@ keeps_to_board p m long h =
       is = ap (λ (n : Bool). record m { null = n }) (not-true m.null first.0);
     }
 
--- what is legal passes for some squares and some promotion
+-- a legal move passes for some squares and some promotion
 legal_passing : (p : Board) → length p.men ≡ 64 → ((m : Move) × (q : Board) × Legal p m q) → has_legal_move p ≡ true
 unfolding has_legal_move
 legal_passing p long l =

@@ -86,7 +86,7 @@ decided : (a b c d e f g h : ℕ) (low high : Bool) → AreWords 13 a b c d → 
 decided a b c d e f g h low high m n l k =
     rw (l, k) (regroup (a == e) (b == f) (c == g) (d == h) ∙ words_decide a b c d e f g h m n)
 
--- where the first two words are the same, the others decide
+-- if the first two words are the same, the others decide
 pub same_then : (a b c d e f g h : ℕ) (low high : Bool) → AreWords 13 a b c d → AreWords 13 e f g h → low ≡ ((a == e) && (b == f)) → high ≡ ((c == g) && (d == h))
     → low ≡ true → high ≡ same_men (list_of man_numbered a b c d) (list_of man_numbered e f g h)
 same_then a b c d e f g h low high m n l k t = sym (ap (λ x. x && high) t) ∙ decided a b c d e f g h low high m n l k

@@ -1,4 +1,4 @@
--- The text of a rank stands for its squares.
+-- The text of a rank means its squares.
 use Rattle.std.proofs.Common.{◌≡◌, ℕ, zero, suc, ◌+◌, ◌-◌, ◌≤◌, true, eqb, Option, Some, None, List, [], ◌∷◌, ◌++◌, length, take, drop, replicate, refl, ap, ◌∙◌, arith, inl, inr}
 use Rattle.std.specs.List.{list_all, join_with_byte}
 use Rattle.std.proofs.lemmas.Bool.{cases_Bool, eqb-true}
@@ -34,7 +34,7 @@ spells-append s t ms ns p q = record {
   squares = rw (flat_map-append squares_of s t, p.squares, q.squares) refl;
 }
 
--- what a man's letter says of it
+-- the man of a man's letter
 abbrev LetterFits : Man → Option ℕ → Type 0
 LetterFits man None = man ≡ Empty
 LetterFits man (Some letter) = Spells (letter ∷ []) (man ∷ [])

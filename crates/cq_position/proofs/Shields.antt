@@ -1,4 +1,4 @@
--- Which attacks a man that leaves its square, or comes to one, uncovers or takes away.
+-- The attacks that a man uncovers or takes away as it leaves its square or comes to one.
 use Rattle.std.proofs.Common.{◌≡◌, ◌≢◌, ℕ, ◌<◌, Bool, true, false, cond, not, ◌&&◌, ◌||◌, ◌==◌, List, [], ◌∷◌, length, Option, Some, None, refl, inl, inr, sym, ap, ap₂, ◌∙◌}
 use Rattle.std.specs.Prelude.{slice_set}
 use Rattle.std.specs.List.{list_all, list_any}

@@ -1,4 +1,4 @@
--- How the parts of a text come off its front.
+-- The parts of a text, taken off its front one by one.
 use Rattle.std.proofs.Common.{◌≡◌, ℕ, suc, ◌+◌, ◌≤◌, Bool, true, false, cond, not, List, [], ◌∷◌, length, take, drop, eqb, Some, None, get_or, ltb, refl, sym, ap, ◌∙◌, arith}
 use Rattle.std.specs.List.{position_or_len, position, slice_split, onto_first, filter}
 use Rattle.std.specs.Option.{unwrap_or}
@@ -58,7 +58,7 @@ module _ (cuts : ℕ → Bool) where
   unfolding kept_parts
   kept-cut x xs e = let ih = first_part xs in rw (e, one_more, ih.1) (ap (λ rest. (x ∷ take (position_or_len cuts xs) xs) ∷ rest) ih.2)
 
--- where no element passes, the length is the place before which none does
+-- if no element passes, the length is the place before which none does
 none_place : (p : ℕ → Bool) (t : List ℕ) (b : Bool) → ltb (position_or_len p t) (length t) ≡ b → None ≡ cond b (Some (position_or_len p t)) None → length t ≤ position_or_len p t
 none_place p t true e n = cc
 none_place p t false e n = grind (arith, nat_tests)

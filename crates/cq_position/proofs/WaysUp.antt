@@ -1,4 +1,4 @@
--- The way up from a node by its parent, which nodes are below another, and that the way up from a searched node is searched.
+-- The way up from a node by its parent, and the nodes below another. The way up from a searched node is searched.
 use Rattle.std.proofs.Common.{◌≡◌, ℕ, ◌<◌, ◌≤◌, Bool, true, false, ◌&&◌, ◌||◌, List, [], ◌∷◌, length, Option, Some, None, refl, sym, ap, ◌∙◌, subst, arith, inl, inr, get_or}
 use Rattle.std.specs.Prelude.{◌==◌, All, Contains}
 use Rattle.std.specs.List.{list_any, list_all}
@@ -30,7 +30,7 @@ parent_before nodes k p tree is = (
   ],
 )
 
--- whether a node is another or below it
+-- true if a node is another or below it
 pub is_below_self : (nodes : List Node) (n : ℕ) → IsTree nodes → is_below nodes n n ≡ true
 is_below_self nodes n tree = ap (list_any (λ m. m == n)) (way_on nodes n (node_at nodes n).parent tree refl)
     ∙ ap (λ b. b || list_any (λ m. m == n) (way_from nodes (node_at nodes n).parent)) (eq-eqb n n refl)
@@ -44,7 +44,7 @@ below_parent nodes n k p tree is other = below_by nodes n k (Some p) tree is oth
 pub root_below : (nodes : List Node) (n k : ℕ) → IsTree nodes → (node_at nodes k).parent ≡ None → (k ≡ n → ⊥) → is_below nodes n k ≡ false
 root_below nodes n k tree is other = below_by nodes n k None tree is other
 
--- what is searched has a parent that is searched
+-- a searched node has a parent that is searched
 main_up : (nodes : List Node) (m p : ℕ) → IsTree nodes → (node_at nodes m).parent ≡ Some p → is_main nodes m ≡ true → is_main nodes p ≡ true
 main_up nodes m p tree is e = right _ _ (sym (ap (list_all (λ x. (x == 0) || is_first_child nodes x)) (way_on nodes m (Some p) tree is)) ∙ e)
 

@@ -1,4 +1,4 @@
--- A look at each square of the board in turn.
+-- A test of each square of the board in turn.
 use Rattle.std.proofs.Common.{◌≡◌, ℕ, suc, ◌+◌, ◌-◌, ◌<◌, ◌≤◌, Bool, true, false, ◌∷◌, refl, arith}
 use Rattle.std.specs.List.{list_any, range_with_len}
 use Rattle.cq_geometry.specs.Squares.{squares}

@@ -1,4 +1,4 @@
--- Attackers of a square, looked for outward from it.
+-- Attackers of a square, searched for outward from it.
 use Rattle.std.specs.Prelude.{◌&&◌, ℕ, List, [], ◌∷◌, Bool, true, false, if◌then◌else◌, Option, Some, None}
 use Rattle.std.specs.List.{list_any}
 use Rattle.cq_geometry.specs.declared.compass.Compass.{Compass}
@@ -15,12 +15,12 @@ use Rattle.cq_position.specs.Board.{man_at, stands}
 use Rattle.cq_position.specs.Attacks.{is_occupied}
 use Rattle.std.specs.Prelude.{pos, negsuc}
 
--- the first man on these squares; the empty square where there is none
+-- the first man on these squares, or the empty square if there is none
 abbrev pub first_man : List Man → List ℕ → Man
 first_man men [] = Empty
 first_man men (square ∷ rest) = if is_occupied men square then man_at men square else first_man men rest
 
--- a man of a side that attacks along files and ranks: its rooks and queens
+-- true of a side's rooks and queens, which attack along files and ranks
 abbrev pub is_orthogonal_slider : Side → Man → Bool
 is_orthogonal_slider White Q = true
 is_orthogonal_slider White R = true
@@ -28,7 +28,7 @@ is_orthogonal_slider Black BlackQ = true
 is_orthogonal_slider Black BlackR = true
 is_orthogonal_slider _ _ = false
 
--- a man of a side that attacks along diagonals: its bishops and queens
+-- true of a side's bishops and queens, which attack along diagonals
 abbrev pub is_diagonal_slider : Side → Man → Bool
 is_diagonal_slider White Q = true
 is_diagonal_slider White B = true
@@ -40,17 +40,17 @@ is_diagonal_slider _ _ = false
 abbrev pub knight_of : Side → Man
 knight_of side = man_of side Knight
 
--- along one of the directions the first man from a square is of a kind
+-- true if along one of the directions the first man from a square is of this kind
 abbrev pub first_is : (Man → Bool) → List Man → List Compass → ℕ → Bool
 first_is kind men directions square =
     list_any (λ c. kind (first_man men (ray_from (files_of c) (ranks_of c) square))) directions
 
--- a goal that is on the board holds the man
+-- true if a goal on the board has the man
 abbrev pub holds : List Man → Man → Option ℕ → Bool
 holds men man None = false
 holds men man (Some square) = stands men square man
 
--- some square passes both tests
+-- true if some square passes both tests
 abbrev pub some_man : (ℕ → Bool) → (ℕ → Bool) → Bool
 some_man t u = list_any (λ a. t a && u a) squares
 

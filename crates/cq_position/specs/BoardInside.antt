@@ -1,4 +1,4 @@
--- What a `Position` keeps of its board.
+-- The encoding of a board in a `Position`.
 use Rattle.cq_position.specs.declared.position.Position.TheInside.{Inside}
 use Rattle.cq_position.specs.Board.{Board}
 

@@ -1,4 +1,4 @@
--- What a text in Forsyth-Edwards Notation means (PGN standard 16.1).
+-- The meaning of a text in Forsyth-Edwards Notation (PGN standard 16.1).
 use Rattle.std.specs.Prelude.{ℕ, ◌+◌, ◌-◌, ◌*◌, ◌^◌, List, [], ◌∷◌, length, reverse, replicate, Bool, true, false, ◌&&◌, ◌||◌, not, ◌==◌, nat_le, max, Option, Some, None, Result, Ok, Err, if◌then◌else◌, filter, find, flat_map, is_some, option_to_list}
 use Rattle.std.specs.Option.{option_map_or}
 use Rattle.std.specs.List.{list_all, list_any, slice_split}
@@ -15,11 +15,11 @@ use Rattle.cq_position.specs.Attacks.{in_check}
 use Rattle.cq_position.specs.FenBytes.{space, slash, dash, digit_zero, digit_one, letter_a, side_letter, right_letter}
 use Rattle.cq_position.specs.Board.{Board, are_home, was_passed, has_kings, has_pawn_on_edge, has_too_many_men}
 
--- the parts of a text between the places of a byte
+-- the parts of a text between the occurrences of a byte
 abbrev pub parts : ℕ → List ℕ → List (List ℕ)
 parts byte text = slice_split (λ b. b == byte) text
 
--- the fields of a text are its longest parts without a space, the empty ones left out
+-- the fields of a text are its longest parts without a space, except the empty ones
 abbrev pub is_not_empty : List ℕ → Bool
 is_not_empty [] = false
 is_not_empty (first ∷ rest) = true
@@ -27,15 +27,15 @@ is_not_empty (first ∷ rest) = true
 unfoldable pub fields : List ℕ → List (List ℕ)
 fields text = filter is_not_empty (parts space text)
 
--- a byte from one to another
+-- true if a byte is in a range, both ends included
 abbrev pub is_within : ℕ → ℕ → ℕ → Bool
 is_within low high byte = nat_le low byte && nat_le byte high
 
--- a digit from 1 to 8, which stands for as many empty squares
+-- true of a digit from 1 to 8, which means as many empty squares
 abbrev pub is_run : ℕ → Bool
 is_run byte = is_within digit_one (digit_one + 7) byte
 
--- the squares that a byte of a rank stands for: as many empty ones as a digit says, or the one with the letter's man
+-- the squares that a byte of a rank means: as many empty ones as a digit says, or one with the letter's man
 abbrev pub squares_of : ℕ → List Man
 squares_of byte = if is_run byte then replicate (byte - digit_zero) Empty else option_to_list (man_with_letter byte)
 
@@ -56,7 +56,7 @@ is_placement text = (length (parts slash text) == 8) && list_all is_rank (parts 
 unfoldable pub placed_men : List ℕ → List Man
 placed_men text = flat_map rank_squares (reverse (parts slash text))
 
--- a text of one byte alone
+-- true if a text is this one byte
 abbrev pub is_byte_alone : ℕ → List ℕ → Bool
 is_byte_alone byte [] = false
 is_byte_alone byte (first ∷ []) = first == byte
@@ -81,7 +81,7 @@ is_castling_field text = is_byte_alone dash text || (is_not_empty text && list_a
 abbrev pub has_letter : ℕ → List ℕ → Bool
 has_letter letter text = list_any (λ byte. byte == letter) text
 
--- a right counts where the text names it, and king and rook stand at home
+-- a right counts if the text names it, and king and rook are at home
 abbrev pub right_counts : List Man → List ℕ → Side → Bool → Bool
 right_counts men text side kingside = has_letter (right_letter side kingside) text && are_home men side kingside
 
@@ -94,7 +94,7 @@ rights_kept men text = record {
   black_queenside = right_counts men text Black false;
 }
 
--- the letter of a file, and the digit of a rank
+-- true of the letter of a file, and of the digit of a rank
 abbrev pub is_file_letter : ℕ → Bool
 is_file_letter byte = is_within letter_a (letter_a + 7) byte
 
@@ -111,7 +111,7 @@ names_passant_square (file ∷ rank ∷ more ∷ rest) = false
 abbrev pub is_passant_field : List ℕ → Bool
 is_passant_field text = is_byte_alone dash text || names_passant_square text
 
--- the square named, where a pawn can just have passed it
+-- the named square if a pawn can just have passed it
 abbrev pub passant_kept : List Man → Side → List ℕ → Option ℕ
 passant_kept men side [] = None
 passant_kept men side (byte ∷ []) = None
@@ -126,7 +126,7 @@ is_digit byte = is_within digit_zero (digit_zero + 9) byte
 abbrev pub is_number : List ℕ → Bool
 is_number text = is_not_empty text && nat_le (length text) 9 && list_all is_digit text
 
--- the number that digits write, by the powers of ten of their places
+-- the number that digits write in decimal
 abbrev pub value_of_digits : List ℕ → ℕ
 value_of_digits [] = 0
 value_of_digits (digit ∷ rest) = (digit - digit_zero) * 10 ^ length rest + value_of_digits rest
@@ -140,7 +140,7 @@ pub record FieldTexts : Type 0 where
   pub clock : List ℕ
   pub number : List ℕ
 
--- six fields, or four, which are read as with the clock 0 and the number 1
+-- six fields, or four followed by the clock 0 and the number 1
 abbrev pub field_texts : List (List ℕ) → Option FieldTexts
 field_texts (placement ∷ side ∷ castling ∷ passant ∷ []) =
     Some (record {
@@ -162,7 +162,7 @@ field_texts (placement ∷ side ∷ castling ∷ passant ∷ clock ∷ number �
     })
 field_texts _ = None
 
--- the faults of six fields in their order, each with whether it applies
+-- the faults of six fields in their order, each with a flag that is true if the fault is present
 abbrev pub faults : FieldTexts → List (Bool × FenFault)
 faults f = let men = placed_men f.placement in
     (not (is_placement f.placement), Placement)
@@ -176,7 +176,7 @@ faults f = let men = placed_men f.placement in
     ∷ (in_check men (opponent (side_named f.side)), OpponentInCheck)
     ∷ []
 
--- The position of six fields. A right counts where king and rook stand at home. The clock is not kept, and the number 0 is read as 1.
+-- The position of six fields. A right counts if king and rook are at home. The clock is not kept, and the number 0 is read as 1.
 abbrev pub board_of : FieldTexts → Board
 board_of f = let men = placed_men f.placement in let side = side_named f.side in record {
   men = men;
@@ -190,10 +190,10 @@ abbrev pub fault_or : Board → Option (Bool × FenFault) → Result Board FenFa
 fault_or board None = Ok board
 fault_or board (Some fault) = Err fault.1
 
--- the first fault that applies, or else the position
+-- the first fault that is present, or else the position
 unfoldable pub position_or_fault : FieldTexts → Result Board FenFault
 position_or_fault f = fault_or (board_of f) (find (λ fault. fault.0) (faults f))
 
--- the position of a text, or its first fault; a text of another number of fields than six or four has the fault `Fields`
+-- the position of a text, or its first fault; a text with a number of fields other than six or four has the fault `Fields`
 unfoldable pub fen_meaning : List ℕ → Result Board FenFault
 fen_meaning text = option_map_or position_or_fault (field_texts (fields text)) (Err Fields)

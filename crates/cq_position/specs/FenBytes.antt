@@ -3,14 +3,14 @@ use Rattle.std.specs.Prelude.{ℕ, Bool, true, false}
 use Rattle.cq_position.specs.declared.men.Side.{Side}
 use Rattle.cq_position.specs.declared.men.Side.TheVariants.{White, Black}
 
--- between two fields, and between two ranks
+-- the byte between two fields, and the byte between two ranks
 abbrev pub space : ℕ
 space = 32
 
 abbrev pub slash : ℕ
 slash = 47
 
--- in the place of the rights to castle, or of the en passant square, where there is none
+-- the byte for no right to castle, and for no en passant square
 abbrev pub dash : ℕ
 dash = 45
 

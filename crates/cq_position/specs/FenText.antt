@@ -10,12 +10,12 @@ use Rattle.cq_position.specs.Men.{letter_of_man}
 use Rattle.cq_position.specs.Board.{Board, castling_right}
 use Rattle.cq_position.specs.FenBytes.{space, slash, dash, digit_zero, digit_one, letter_a, side_letter, right_letter}
 
--- a run of empty squares is a digit
+-- the text of a run of empty squares, a digit
 abbrev pub run_text : ℕ → List ℕ
 run_text zero = []
 run_text (suc n) = (digit_one + n) ∷ []
 
--- a man is its letter, after the run of empty squares before it; an empty square goes to the run
+-- the text that a square adds: a man's letter after the run of empty squares before it; an empty square lengthens the run
 abbrev pub letter_text : ℕ → Option ℕ → List ℕ
 letter_text empty None = []
 letter_text empty (Some letter) = run_text empty ++ letter ∷ []
@@ -24,7 +24,7 @@ abbrev pub run_after : ℕ → Option ℕ → ℕ
 run_after empty None = empty + 1
 run_after empty (Some letter) = 0
 
--- the text of a rank, after so many empty squares
+-- the text of a rank after so many empty squares
 abbrev pub rank_text : ℕ → List Man → List ℕ
 rank_text empty [] = run_text empty
 rank_text empty (man ∷ men) = letter_text empty (letter_of_man man) ++ rank_text (run_after empty (letter_of_man man)) men
@@ -48,7 +48,7 @@ placement_text men = join_with_byte slash (rank_texts men)
 abbrev pub side_text : Side → List ℕ
 side_text side = side_letter side ∷ []
 
--- the letter of a right that is left
+-- the letter of a right, if the side has it
 abbrev pub right_text : Rights → Side → Bool → List ℕ
 right_text r side kingside = if castling_right r side kingside then right_letter side kingside ∷ [] else []
 

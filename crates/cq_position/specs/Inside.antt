@@ -1,4 +1,4 @@
--- What four words keep of the men.
+-- The men that four words encode.
 use Rattle.std.specs.Prelude.{◌≡◌, ℕ, zero, suc, ◌<◌, List, refl}
 use Rattle.std.proofs.Common.{ap₂, ◌∙◌}
 use Rattle.cq_position.specs.declared.men.Man.{Man}
@@ -11,7 +11,7 @@ use Rattle.cq_square_sets.proofs.Words.{words_back, AreBack, above}
 abbrev pub men_inside : Inside → List Man
 men_inside p = list_of man_numbered p.ones p.twos p.fours p.eights
 
--- each word has 64 bits, and each square the number of a man
+-- each word has 64 bits, and each square has the number of a man
 abbrev pub AreMen : Inside → Type 0
 AreMen p = AreWords 13 p.ones p.twos p.fours p.eights
 
@@ -23,7 +23,7 @@ words_of men = record {
   eights = word_of man_number 3 men;
 }
 
--- the number of the man of a number
+-- the number of the man with a number
 pub numbered : (n : ℕ) → n < 13 → man_number (man_numbered n) ≡ n
 numbered zero h = refl
 numbered (suc zero) h = refl
@@ -43,7 +43,7 @@ numbered (suc (suc (suc (suc (suc (suc (suc (suc (suc (suc (suc (suc (suc n)))))
 abbrev inside_with : ℕ → ℕ → ℕ → ℕ → Inside
 inside_with a b c d = record { ones = a; twos = b; fours = c; eights = d }
 
--- fields by their equations
+-- equality from the equations of the fields
 by_fields : (a b c d e f g h : ℕ) → a ≡ e → b ≡ f → c ≡ g → d ≡ h → inside_with a b c d ≡ inside_with e f g h
 by_fields a b c d e f g h p q r s = ap₂ (λ x y. inside_with x y c d) p q ∙ ap₂ (λ x y. inside_with e f x y) r s
 

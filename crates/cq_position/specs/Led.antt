@@ -1,4 +1,4 @@
--- What a move led from and took.
+-- The squares and the captured man of the move that led to a node.
 use Rattle.std.specs.Prelude.{ℕ, Bool, List, ◌&&◌, not, ◌==◌, Option, Some, None, if◌then◌else◌}
 use Rattle.cq_geometry.specs.Squares.{file_of, rank_of, square_of}
 use Rattle.cq_position.specs.declared.moves.Move.{Move}
@@ -7,29 +7,28 @@ use Rattle.cq_position.specs.Board.{Board, man_at, is_pawn}
 use Rattle.cq_position.specs.Games.{Node, node_at}
 use Rattle.cq_position.specs.Legal.{is_none}
 
--- the square that a move left and the one that it went to, the square of the man that it took, and whether it promoted; of castling these
--- are the king's squares
+-- The origin and the goal of a move, the square of the captured man, and a flag for promotion. For castling these are the king's squares.
 pub record PlainLed : Type 0 where
   pub origin : ℕ
   pub goal : ℕ
   pub taken : Option ℕ
   pub promoted : Bool
 
--- The square on which a move takes a man: its goal, where a man stands there; where a pawn goes to another file and its goal is empty, the
--- square beside it on that file (FIDE Laws of Chess, article 3.7, en passant); else none.
+-- The square on which a move captures a man: its goal if a man is there. If a pawn goes to another file and its goal is empty, it is the
+-- adjoining square on that file (FIDE Laws of Chess, article 3.7, en passant). Otherwise there is none.
 abbrev pub taken_square : Board → Move → Option ℕ
 taken_square p m =
     if is_occupied p.men m.to then Some m.to
     else (if is_pawn (man_at p.men m.from) && not (file_of m.from == file_of m.to) then Some (square_of (file_of m.to) (rank_of m.from))
     else None)
 
--- nothing of a null move
+-- none for a null move
 unfoldable pub led : Board → Move → Option PlainLed
 led p m =
     if m.null then None
     else Some (record { origin = m.from; goal = m.to; taken = taken_square p m; promoted = not (is_none m.promotion) })
 
--- what the move to a node led from, which the root has not
+-- the same for the move to a node; the root has none
 abbrev pub led_from : List Node → Option Move → Option ℕ → Option PlainLed
 led_from nodes None parent = None
 led_from nodes (Some m) None = None

@@ -1,4 +1,4 @@
--- The men of both sides, and the letters that stand for them.
+-- The men of both sides, and their letters.
 use Rattle.std.specs.Prelude.{ℕ, List, [], ◌∷◌, codes, Bool, ◌==◌, Option, Some, None, find, option_map, nat_lt, nat_le, ◌&&◌}
 use Rattle.std.specs.List.{zip}
 use Rattle.std.specs.Cmp.{IsEquivalence}
@@ -13,7 +13,7 @@ use Rattle.cq_position.specs.declared.men.Promotion.TheVariants.{None as NoPromo
 use Rattle.cq_position.specs.declared.men.Side.{Side}
 use Rattle.cq_position.specs.declared.men.Side.TheVariants.{White, Black}
 
--- the man's place in the order of the type
+-- the number of a man, its place in the order of the type
 abbrev pub man_number : Man → ℕ
 man_number K = 0
 man_number Q = 1
@@ -29,11 +29,11 @@ man_number BlackN = 10
 man_number BlackP = 11
 man_number Empty = 12
 
--- whether two squares hold the same
+-- true if two squares have the same man, or are both empty
 abbrev pub same_man : Man → Man → Bool
 same_man m n = man_number m == man_number n
 
--- whether two lists have the same men, place by place
+-- true if two lists have the same men, place by place
 abbrev pub same_men : List Man → List Man → Bool
 same_men = pointwise same_man
 
@@ -52,7 +52,7 @@ man_with_letter letter = option_map (λ entry. entry.1) (find (λ entry. entry.0
 abbrev pub letter_of_man : Man → Option ℕ
 letter_of_man man = option_map (λ entry. entry.0) (find (λ entry. same_man entry.1 man) letters)
 
--- whether a man is of a side
+-- true if a man is of a side
 abbrev pub is_of_side : Side → Man → Bool
 is_of_side White m = nat_lt (man_number m) 6
 is_of_side Black m = nat_le 6 (man_number m) && nat_lt (man_number m) 12
@@ -62,7 +62,7 @@ abbrev pub opponent : Side → Side
 opponent White = Black
 opponent Black = White
 
--- the man of a side that is such a piece
+-- the man of a side and a piece
 abbrev pub man_of : Side → Piece → Man
 man_of White King = K
 man_of White Queen = Q
@@ -77,7 +77,7 @@ man_of Black Bishop = BlackB
 man_of Black Knight = BlackN
 man_of Black Pawn = BlackP
 
--- the side of a man and the piece that it is; none for the empty square
+-- the side and the piece of a man; none for the empty square
 abbrev pub side_and_piece : Man → Option (Side × Piece)
 side_and_piece K = Some (White, King)
 side_and_piece Q = Some (White, Queen)
@@ -103,7 +103,7 @@ rook_of side = man_of side Rook
 abbrev pub pawn_of : Side → Man
 pawn_of side = man_of side Pawn
 
--- the place of a promotion in the order of the type: no promotion, and those to a queen, a rook, a bishop and a knight
+-- the number of a promotion in the order of the type: none, to a queen, a rook, a bishop and a knight
 abbrev pub promotion_number : Promotion → ℕ
 promotion_number NoPromotion = 0
 promotion_number ToQueen = 1

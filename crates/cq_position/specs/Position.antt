@@ -1,11 +1,12 @@
--- The conditions that every position meets.
+-- The invariant of every position.
 use Rattle.std.specs.Prelude.{◌≡◌, ◌<◌, length, true, false}
 use Rattle.cq_position.specs.Men.{opponent}
 use Rattle.cq_position.specs.Board.{Board, has_kings, has_pawn_on_edge, has_too_many_men, rights_stand, passant_stands}
 use Rattle.cq_position.specs.Attacks.{in_check}
 
--- One king of each side, no pawn on the first and the last rank, at most sixteen men of a side, each right to castle with its king and rook
--- at home, an en passant square that a pawn can just have passed, the side not to move not in check, and a number from 1 to 2^32 - 1.
+-- A position has one king of each side, no pawn on the first or the last rank, and at most sixteen men of a side. Each right to castle has
+-- its king and rook at home. A pawn can just have passed the en passant square. The side not to move is not in check. The number is from 1
+-- to 2^32 - 1.
 pub record IsPosition (b : Board) : Type 0 where
   pub whole : length b.men ≡ 64
   pub kings : has_kings b.men ≡ true

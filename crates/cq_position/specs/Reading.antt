@@ -1,4 +1,4 @@
--- Words for the contracts of the functions that read a text.
+-- Definitions for the contracts of functions that read a text.
 use Rattle.std.specs.Prelude.{◌≡◌, ℕ, ◌≤◌, List, [], Bool, true, false, Option, Some, None, MatchOption, replicate, ◌⊎◌}
 use Rattle.cq_position.specs.declared.men.Man.{Man}
 use Rattle.cq_position.specs.declared.men.Man.TheVariants.{Empty}
@@ -6,7 +6,7 @@ use Rattle.cq_position.specs.declared.fen.fields.Fields.{Fields}
 use Rattle.cq_position.specs.FenBytes.{slash}
 use Rattle.cq_position.specs.Fen.{FieldTexts, parts, squares_of, is_rank_byte}
 
--- the value, exactly where the test is true
+-- the value exactly if the test is true
 abbrev pub SomeIfTrue : {X : Type 0} → Option X → Bool → X → Type 0
 SomeIfTrue result test value = MatchOption result (test ≡ false) (λ x. (test ≡ true) × (x ≡ value))
 
@@ -21,12 +21,12 @@ texts_of f = record {
   number = f.number.now;
 }
 
--- the ranks after a slash, none where no slash stood
+-- the ranks after a slash, none if there was no slash
 abbrev pub ranks_left : Option (List ℕ) → List (List ℕ)
 ranks_left None = []
 ranks_left (Some text) = parts slash text
 
--- a run of squares that hold the same, which a byte of a rank stands for
+-- a run of squares with the same man or none, as a byte of a rank means it
 pub record IsRunOf (byte : ℕ) (man : Man) (width : ℕ) : Type 0 where
   pub known : is_rank_byte byte ≡ true
   pub squares : squares_of byte ≡ replicate width man

@@ -1,4 +1,4 @@
-//! Whether a square is attacked, by the sets of men that attack it as seen from the square.
+//! Tests of attacked squares, by the sets of men that the square sees.
 ghost use Rattle.std.specs.Prelude.{◌≡◌, ◌&&◌};
 ghost use Rattle.cq_geometry.specs.Lines as lines;
 ghost use Rattle.cq_geometry.specs.Steps as steps;
@@ -17,7 +17,7 @@ use cq_square_sets::{
     bishop_attacks, bishop_lines, king_attacks, knight_attacks, meets, rook_attacks, rook_lines,
 };
 
-/// Whether a man of a side attacks a square of this board, also where the man may not move (FIDE Laws of Chess, article 3.9.1).
+/// Returns true if a man of a side attacks a square of this board, even if the man may not move there (FIDE Laws of Chess, article 3.9.1).
 #[tactic(auto, using(crate::proofs::Attackers::attacked_in_ways))]
 pub fn is_attacked(men: &Men, by: Side, square: Square) -> bool
     ensures { result ≡ attack.is_attacked men.now by square }
@@ -29,7 +29,7 @@ pub fn is_attacked(men: &Men, by: Side, square: Square) -> bool
         || is_attacked_by_king(men, by, square)
 }
 
-/// Expands to whether one of the attackers is seen, where one stands on these lines at all.
+/// Expands to true if one of the attackers is seen. The cheap test of the lines comes first.
 macro_rules! meets_seen {
     ($attackers:expr, $lines:expr, $seen:expr) => {{
         let attackers = $attackers;
@@ -37,7 +37,7 @@ macro_rules! meets_seen {
     }};
 }
 
-// Whether a rook or queen of the side attacks the square. Most squares have none on their lines, so these are asked first.
+// Returns true if a rook or queen of the side attacks the square. Most squares have none on their lines, so the lines are tested first.
 #[inline]
 fn is_attacked_orthogonally(men: &Men, by: Side, square: Square) -> bool
     ensures { result ≡ some_man (λ a. is_orthogonal_slider by (man_at men.now a))
@@ -50,7 +50,7 @@ fn is_attacked_orthogonally(men: &Men, by: Side, square: Square) -> bool
     )
 }
 
-// Whether a bishop or queen of the side attacks the square, where one stands on its diagonals.
+// Returns true if a bishop or queen of the side attacks the square. The diagonals are tested first.
 #[inline]
 fn is_attacked_diagonally(men: &Men, by: Side, square: Square) -> bool
     ensures { result ≡ some_man (λ a. is_diagonal_slider by (man_at men.now a))
@@ -63,7 +63,7 @@ fn is_attacked_diagonally(men: &Men, by: Side, square: Square) -> bool
     )
 }
 
-// Whether a knight of the side attacks the square.
+// Returns true if a knight of the side attacks the square.
 #[inline]
 fn is_attacked_by_knight(men: &Men, by: Side, square: Square) -> bool
     ensures { result ≡ some_man (λ a. board.stands men.now a (knight_of by)) (steps.is_knight_step square) }
@@ -74,7 +74,7 @@ fn is_attacked_by_knight(men: &Men, by: Side, square: Square) -> bool
     )
 }
 
-// Whether a pawn of the side attacks the square: a pawn of the other side would attack it from there.
+// Returns true if a pawn of the side attacks the square. A pawn of the other side would attack it from there.
 #[inline]
 fn is_attacked_by_pawn(men: &Men, by: Side, square: Square) -> bool
     ensures { result ≡ some_man (λ a. board.stands men.now a (men_spec.pawn_of by))
@@ -86,7 +86,7 @@ fn is_attacked_by_pawn(men: &Men, by: Side, square: Square) -> bool
     )
 }
 
-// Whether the king of the side attacks the square.
+// Returns true if the king of the side attacks the square.
 #[inline]
 fn is_attacked_by_king(men: &Men, by: Side, square: Square) -> bool
     ensures { result ≡ some_man (λ a. board.stands men.now a (men_spec.king_of by)) (steps.is_king_step square) }
@@ -94,7 +94,7 @@ fn is_attacked_by_king(men: &Men, by: Side, square: Square) -> bool
     meets(men.squares_of_piece(by, Piece::King), king_attacks(square))
 }
 
-/// The squares of a side's rooks and queens: bit k of the answer is square k.
+/// The squares of a side's rooks and queens. Bit k of the result is the square k.
 #[inline]
 pub fn orthogonal_sliders(men: &Men, by: Side) -> u64
     ensures { IsBitboard result (λ a. is_orthogonal_slider by (man_at men.now a)) }
@@ -102,7 +102,7 @@ pub fn orthogonal_sliders(men: &Men, by: Side) -> u64
     men.squares_of_piece(by, Piece::Queen) | men.squares_of_piece(by, Piece::Rook)
 }
 
-/// The squares of a side's bishops and queens: bit k of the answer is square k.
+/// The squares of a side's bishops and queens. Bit k of the result is the square k.
 #[inline]
 pub fn diagonal_sliders(men: &Men, by: Side) -> u64
     ensures { IsBitboard result (λ a. is_diagonal_slider by (man_at men.now a)) }

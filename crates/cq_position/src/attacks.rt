@@ -1,4 +1,4 @@
-//! Which squares the men attack.
+//! The squares that the men attack.
 ghost use Rattle.std.specs.Prelude.{◌≡◌, ◌&&◌, ◌||◌};
 ghost use Rattle.cq_geometry.specs.Lines as lines;
 ghost use Rattle.cq_position.specs.Attacks as attack;
@@ -15,10 +15,10 @@ use cq_square_sets::{
     white_pawn_attacks,
 };
 
-/// The squares that the man on a square attacks, whatever stands there (FIDE Laws of Chess, articles 3.2 to 3.8): bit k of the
-/// answer is square k. An empty square attacks none.
+/// The squares that the man on a square attacks, whether occupied or not (FIDE Laws of Chess, articles 3.2 to 3.8). Bit k of the result is
+/// the square k. An empty square attacks none.
 ///
-/// A rook, a bishop and a queen attack along their lines up to and with the first man in the way.
+/// A rook, a bishop and a queen attack along their lines, up to and including the first occupied square.
 #[tactic(auto, unfolding(crate::specs::Attacks::attacks))]
 pub fn attacks_from(position: &Position, square: Square) -> u64
     ensures { IsBitboard result (attack.attacks position.now.men square) }
@@ -26,7 +26,7 @@ pub fn attacks_from(position: &Position, square: Square) -> u64
     squares_attacked(position.at(square), position.men(), square)
 }
 
-/// Whether the king of a side is attacked (FIDE Laws of Chess, article 3.9.1).
+/// Returns true if the king of a side is attacked (FIDE Laws of Chess, article 3.9.1).
 #[tactic(auto, using(crate::proofs::Kings::check_is_at_king))]
 pub fn in_check(position: &Position, side: Side) -> bool
     ensures { result ≡ attack.in_check position.now.men side }
@@ -34,7 +34,7 @@ pub fn in_check(position: &Position, side: Side) -> bool
     is_attacked(position.men(), opponent(side), king_square(position, side))
 }
 
-/// Whether the king of a side is attacked on this board (FIDE Laws of Chess, article 3.9.1).
+/// Returns true if the king of a side is attacked on this board (FIDE Laws of Chess, article 3.9.1).
 pub fn is_king_attacked(men: &Men, side: Side) -> bool
     ensures { result ≡ attack.in_check men.now side }
 {
@@ -46,14 +46,15 @@ pub fn is_king_attacked(men: &Men, side: Side) -> bool
     false
 }
 
-// Whether the side's king stands on the square and is attacked there.
+// Returns true if the side's king is on the square and attacked there.
 fn is_attacked_king(men: &Men, side: Side, square: Square) -> bool
     ensures { result ≡ attack.attacked_king men.now side square }
 {
     stands(men, square, king_of(side)) && is_attacked(men, opponent(side), square)
 }
 
-/// Whether a pawn of a side on `a` attacks `b`: one of the two squares diagonally in front of it (FIDE Laws of Chess, article 3.7.3).
+/// Returns true if a pawn of a side on `a` attacks `b`, one of the two squares diagonally in front of it (FIDE Laws of Chess, article
+/// 3.7.3).
 #[inline]
 pub fn is_pawn_attack(side: Side, a: Square, b: Square) -> bool
     ensures { result ≡ attack.is_pawn_attack side a b }
@@ -64,7 +65,7 @@ pub fn is_pawn_attack(side: Side, a: Square, b: Square) -> bool
     }
 }
 
-/// Whether no man stands strictly between two squares of one rank, file or diagonal; true for other pairs.
+/// Returns true if no man is strictly between two squares of one rank, file or diagonal. Returns true for other pairs.
 pub fn is_open(men: &Men, a: Square, b: Square) -> bool
     ensures { result ≡ lines.is_open (attack.is_occupied men.now) a b }
 {
@@ -74,7 +75,7 @@ pub fn is_open(men: &Men, a: Square, b: Square) -> bool
         .all(|square| !is_occupied(men, *square))
 }
 
-/// Whether a man stands on a square.
+/// Returns true if a man is on the square.
 #[inline]
 pub fn is_occupied(men: &Men, square: Square) -> bool
     ensures { result ≡ attack.is_occupied men.now square }
@@ -82,7 +83,7 @@ pub fn is_occupied(men: &Men, square: Square) -> bool
     !stands(men, square, Man::Empty)
 }
 
-/// The squares that a man attacks from a square of this board: bit k of the answer is square k.
+/// The squares that a man attacks from a square of this board. Bit k of the result is the square k.
 #[tactic(auto, using(cq_square_sets::proofs::Marked::marks_none))]
 pub fn squares_attacked(man: Man, men: &Men, from: Square) -> u64
     ensures { IsBitboard result (attack.attacks_as man (attack.is_occupied men.now) from) }
@@ -99,7 +100,7 @@ pub fn squares_attacked(man: Man, men: &Men, from: Square) -> u64
     }
 }
 
-/// The squares that a queen on a square attacks: bit k of the answer is square k (FIDE Laws of Chess, articles 3.4 and 3.5).
+/// The squares that a queen on a square attacks (FIDE Laws of Chess, articles 3.4 and 3.5). Bit k of the result is the square k.
 pub fn queen_squares(men: &Men, from: Square) -> u64
     ensures { IsBitboard result (λ to.
         (lines.is_orthogonal from to || lines.is_diagonal from to) && lines.is_open (attack.is_occupied men.now) from to) }

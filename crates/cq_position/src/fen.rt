@@ -21,8 +21,8 @@ use status::{
 };
 pub use writing::fen_text;
 
-/// Why a text is no position: its form (PGN standard, section 16.1.3), or a position that no game has. Where several faults apply, the
-/// first in this order is answered.
+/// The faults of a text: of its form (PGN standard, section 16.1.3), or a position that no game can have. If several are present, the first
+/// in this order is returned.
 #[derive(Clone, Copy, Debug, PartialEq, Eq, Error)]
 pub enum FenFault {
     #[error("not six fields, nor four")]
@@ -47,11 +47,15 @@ pub enum FenFault {
     OpponentInCheck,
 }
 
-/// Reads a position from the text of its FEN (PGN standard, section 16.1), or answers the first fault that applies.
+/// Reads a position from the text of its FEN (PGN standard, section 16.1).
 ///
-/// Fields are separated by spaces, which may also stand before and after them. A text of four fields is read as with `0 1` after
-/// them. The halfmove clock is not kept, and the move number 0 is read as 1. A right to castle counts only with king and rook at home,
-/// and an en passant square only where the opponent's pawn can just have passed it.
+/// Fields are separated by spaces. Spaces before and after them are allowed. A text of four fields is read as with `0 1` after them. The
+/// halfmove clock is not kept, and the move number 0 is read as 1. A right to castle counts only with king and rook at home. An en passant
+/// square counts only if the opponent's pawn can just have passed it.
+///
+/// # Errors
+///
+/// Returns the first [`FenFault`] in the order of its variants that is present.
 #[tactic(auto, unfolding(crate::specs::Fen::fen_meaning, crate::specs::Fen::position_or_fault))]
 pub fn read_fen(text: &[u8]) -> Result<Position, FenFault>
     ensures { result ≡ fen_meaning text.now }

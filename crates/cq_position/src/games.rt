@@ -1,6 +1,6 @@
-//! How a game ends.
+//! The results of games.
 
-/// The result of a game, as its termination marker tells it (PGN standard, section 8.2.6).
+/// The result of a game, as its termination marker gives it (PGN standard, section 8.2.6).
 #[derive(Clone, Copy, Debug, PartialEq, Eq)]
 pub enum GameResult {
     /// White won: `1-0`.

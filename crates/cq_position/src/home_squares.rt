@@ -1,4 +1,4 @@
-//! The squares of kings and rooks at home, where a game begins, and those to which they castle (FIDE Laws of Chess, articles 2.3 and
+//! The home squares of kings and rooks at the start of a game, and the squares to which they castle (FIDE Laws of Chess, articles 2.3 and
 //! 3.8.2).
 ghost use Rattle.std.specs.Prelude.{◌≡◌};
 ghost use Rattle.cq_position.specs.Board as board;
@@ -35,7 +35,7 @@ const G8: u8 = 62;
 
 const H8: u8 = 63;
 
-/// The square on which a side's king stands at home.
+/// The home square of a side's king.
 #[inline]
 pub fn king_home(side: Side) -> Square
     ensures { result ≡ board.king_home side }
@@ -46,7 +46,7 @@ pub fn king_home(side: Side) -> Square
     }
 }
 
-/// The square on which the rook of the king's side, or of the queen's side, stands at home.
+/// The home square of a side's rook on the king's side, or on the queen's side.
 #[inline]
 pub fn rook_home(side: Side, kingside: bool) -> Square
     ensures { result ≡ board.rook_home side kingside }

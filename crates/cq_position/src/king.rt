@@ -1,4 +1,4 @@
-//! Where the kings stand.
+//! The squares of the kings.
 ghost use Rattle.cq_position.specs.King.{IsKingSquare};
 
 use crate::men::{Piece, Side};
@@ -6,7 +6,7 @@ use crate::position::Position;
 use cq_geometry::Square;
 use cq_square_sets::lowest_square;
 
-/// The square on which the king of a side stands.
+/// The square of a side's king.
 pub fn king_square(position: &Position, side: Side) -> Square
     ensures { IsKingSquare position.now.men side result }
 {

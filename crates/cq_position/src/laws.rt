@@ -16,33 +16,34 @@ ghost use Rattle.cq_position.specs.Search.{SearchedTree, IsPath, paths};
 
 use crate::position::Position;
 
-/// Two positions are equal exactly where they have the same men, side to move, rights, en passant square and number.
+/// Two positions are equal exactly if they have the same men, side to move, rights, en passant square and number.
 pub fn equal_positions_have_equal_parts(p: &Position, q: &Position) -> bool
     ensures { IsTrue result ↔ (p.now ≡ q.now) }
 {
     *p == *q
 }
 
-/// The test of legality is true exactly where the move leads to some position.
+/// The test of legality is true exactly if the move leads to some position.
 #[tactic(auto, using(crate::proofs::Legality::legal_law))]
 pub fn test_is_the_legal_relation()
     ensures { (p : Board) (m : MoveValue) → (legal_test p m ≡ true) ↔ ((q : Board) × Legal p m q) }
 {}
 
-/// The side to move has a legal move by the test exactly where some move leads from the position to another.
+/// The side to move has a legal move by the test exactly if some move leads from the position to another.
 #[tactic(auto, using(crate::proofs::Legality::legal_move_law))]
 pub fn some_move_passes_where_one_is_legal()
     ensures { (p : Board) → length p.men ≡ 64 → (has_legal_move p ≡ true) ↔ ((m : MoveValue) × (q : Board) × Legal p m q) }
 {}
 
-/// A side is in check exactly where the opponent attacks the square of its king.
+/// A side is in check exactly if the opponent attacks the square of its king.
 #[tactic(auto, using(crate::proofs::Kings::check_is_at_king))]
 pub fn check_is_at_the_king()
     ensures { (men : List ManValue) (side : SideValue) (k : ℕ) → IsKingSquare men side k →
         attack.in_check men side ≡ attack.is_attacked men (opponent side) k }
 {}
 
-/// A man that no line from a square reaches first covers no attack on that square: the square is attacked no more where the man leaves.
+/// A man that no line from a square reaches first hides no attack on the square. If the square is not attacked, it is not attacked after
+/// the man leaves.
 #[tactic(auto, using(crate::proofs::Shields::uncovers_nothing))]
 pub fn unseen_men_cover_nothing()
     ensures { (men : List ManValue) (by : SideValue) (from k : ℕ) → from < length men → from < 64 → k < 64 →
@@ -58,7 +59,7 @@ pub fn men_that_come_open_nothing()
         attack.is_attacked men by k ≡ false → attack.is_attacked (slice_set men to man) by k ≡ false }
 {}
 
-/// The paths that are listed from a node of a game are exactly its paths, down or up, by any steps or `primary` ones alone.
+/// The paths listed from a node of a game are exactly its paths, down or up, by any steps or by `primary` ones alone.
 #[tactic(auto, using(crate::proofs::Paths::paths_law))]
 pub fn paths_are_listed()
     ensures { (tree : SearchedTree) → IsTree tree.game.nodes → (back primary : Bool) (n : ℕ) (path : List ℕ) →

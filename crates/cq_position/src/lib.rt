@@ -1,6 +1,6 @@
 //! Chess positions: the men, the moves, and the text of a position in Forsyth-Edwards Notation.
 //!
-//! `specs/Position` has the conditions that every position meets, `specs/Fen` the meaning of a text, `specs/Attacks` the attacks, and
+//! `specs/Position` has the invariant of every position, and `specs/Fen` the meaning of a text. `specs/Attacks` has the attacks, and
 //! `specs/Legal` the moves and the position after each.
 #![tactic(auto)]
 

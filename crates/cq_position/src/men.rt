@@ -10,7 +10,7 @@ pub enum Side {
     Black,
 }
 
-/// What stands on a square: a man of White (`K` to `P`: king, queen, rook, bishop, knight, pawn), a man of Black, or nothing.
+/// A man of White (`K` to `P`: king, queen, rook, bishop, knight, pawn), a man of Black, or `Empty` for an empty square.
 #[derive(Clone, Copy, Debug, PartialEq, Eq)]
 pub enum Man {
     K,
@@ -47,7 +47,7 @@ impl Man {
     ];
 }
 
-/// What a man is, whatever its side (FIDE Laws of Chess, article 2.2).
+/// The kinds of men of either side (FIDE Laws of Chess, article 2.2).
 #[derive(Clone, Copy, Debug, PartialEq, Eq)]
 pub enum Piece {
     King,
@@ -58,8 +58,8 @@ pub enum Piece {
     Pawn,
 }
 
-/// What a pawn that reaches the last rank becomes: a queen, a rook, a bishop or a knight (FIDE Laws of Chess, article 3.7); `None` for
-/// every other move.
+/// The piece that a pawn becomes on the last rank: a queen, a rook, a bishop or a knight (FIDE Laws of Chess, article 3.7). It is `None`
+/// for every other move.
 #[derive(Clone, Copy, Debug, PartialEq, Eq)]
 pub enum Promotion {
     None,
@@ -90,7 +90,7 @@ pub fn man_of_letter(letter: u8) -> Option<Man>
     }
 }
 
-/// The letter of a man, upper case for White; None for the empty square (PGN standard, section 16.1.3.1).
+/// The letter of a man, upper case for White, or None for the empty square (PGN standard, section 16.1.3.1).
 pub fn letter_of(man: Man) -> Option<u8>
     ensures { result ≡ letter_of_man man }
 {
@@ -111,7 +111,7 @@ pub fn letter_of(man: Man) -> Option<u8>
     }
 }
 
-/// Whether a man is of a side; the empty square is of none.
+/// Returns true if a man is of a side. The empty square is of none.
 #[inline]
 pub fn is_of_side(man: Man, side: Side) -> bool
     ensures { result ≡ men_spec.is_of_side side man }
@@ -134,7 +134,7 @@ pub fn opponent(side: Side) -> Side
     }
 }
 
-/// The man of a side that is such a piece.
+/// The man of a side and a piece.
 #[inline]
 pub fn man_of(side: Side, piece: Piece) -> Man
     ensures { result ≡ men_spec.man_of side piece }

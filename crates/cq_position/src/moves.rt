@@ -14,9 +14,9 @@ pub struct Move {
     pub from: Square,
     /// The square to which the man goes.
     pub to: Square,
-    /// What the man becomes; `None` but where a pawn reaches the last rank.
+    /// The piece that the man becomes, or `None` unless a pawn reaches the last rank.
     pub promotion: Promotion,
-    /// Whether it is the null move.
+    /// True for the null move.
     pub null: bool,
 }
 

@@ -13,10 +13,10 @@ use crate::men::{Man, Piece, Side, man_of};
 use cq_geometry::Square;
 use std::marker::Model;
 
-/// What stands on the squares a1, b1, .. h8: contracts see the list of the men.
+/// The men on the squares a1, b1, .. h8. Contracts see the list of the men.
 ///
-/// Bit k of the four words, the lowest first, is the number of the man on the square k in the order of [`Man`]. So the squares of a man
-/// come from the words in a few instructions.
+/// Bit k of the four words, the lowest word first, is the number of the man on the square k in the order of [`Man`]. The squares of a man
+/// therefore come from the words in a few instructions.
 #[derive(Clone, Copy, Debug)]
 pub struct Men {
     ones: u64,
@@ -63,7 +63,7 @@ impl Eq for Men {
 }
 
 impl Men {
-    /// Nothing stands anywhere.
+    /// A board without men.
     pub fn empty() -> Men
         ensures { result ≡ replicate 64 Empty }
     {
@@ -75,7 +75,7 @@ impl Men {
         }
     }
 
-    /// The men that are listed for the squares a1, b1, .. h8.
+    /// The men of a list for the squares a1, b1, .. h8.
     pub fn of(listed: &[Man; 64]) -> Men
         ensures { result ≡ listed.now }
     {
@@ -86,7 +86,7 @@ impl Men {
         men
     }
 
-    /// The men, listed for the squares a1, b1, .. h8.
+    /// The list of the men for the squares a1, b1, .. h8.
     pub fn listed(&self) -> [Man; 64]
         ensures { result ≡ self.now }
     {
@@ -98,7 +98,7 @@ impl Men {
         listed
     }
 
-    /// What stands on a square.
+    /// The man on a square, or `Empty`.
     #[inline]
     pub fn at(&self, square: Square) -> Man
         ensures { result ≡ man_at self.now square }
@@ -111,7 +111,7 @@ impl Men {
         )
     }
 
-    /// Puts a man on a square in place of what stood there, or `Empty` for none.
+    /// Puts a man on a square in place of the one there, or empties it with `Empty`.
     #[inline]
     pub fn set(&mut self, square: Square, man: Man)
         ensures { self.new ≡ slice_set self.old square man }
@@ -123,7 +123,7 @@ impl Men {
         self.eights = with_bit(self.eights, square, digit(number, 3));
     }
 
-    /// Takes what stands on a square to another, in place of what stood there, and leaves the first one empty.
+    /// Takes the man on one square to another, in place of the one there, and leaves the first square empty.
     #[inline]
     pub fn carry(&mut self, from: Square, to: Square)
         ensures { self.new ≡ slice_set (slice_set self.old from Empty) to (man_at self.old from) }
@@ -134,7 +134,7 @@ impl Men {
         self.eights = moved_bit(self.eights, from, to, 1);
     }
 
-    /// The squares of a side's men: bit k of the answer is square k.
+    /// The squares of a side's men. Bit k of the result is the square k.
     #[inline]
     pub fn squares_of_side(&self, side: Side) -> u64
         ensures { IsBitboard result (λ square. is_of_side side (man_at self.now square)) }
@@ -145,8 +145,8 @@ impl Men {
         }
     }
 
-    /// The squares of a side's men that are such a piece: bit k of the answer is square k.
-    // A side at a time, so that the man's number is known where the piece is.
+    /// The squares of a side's men of one kind. Bit k of the result is the square k.
+    // Each side has its own call, so that the man's number is a constant if the piece is.
     #[inline]
     pub fn squares_of_piece(&self, side: Side, piece: Piece) -> u64
         ensures { IsBitboard result (λ square. board.stands self.now square (man_of_piece side piece)) }
@@ -157,7 +157,7 @@ impl Men {
         }
     }
 
-    /// The squares on which a man stands, or nothing where `Empty` is asked: bit k of the answer is square k.
+    /// The squares of a man, or the empty squares for `Empty`. Bit k of the result is the square k.
     #[inline]
     pub fn squares_of(&self, man: Man) -> u64
         ensures { IsBitboard result (λ square. board.stands self.now square man) }
@@ -170,7 +170,7 @@ impl Men {
     }
 }
 
-// Whether each of two words is the same as the word after it.
+// Returns true if `a` is `b` and `c` is `d`.
 #[inline]
 fn are_same(a: u64, b: u64, c: u64, d: u64) -> bool
     ensures { result ≡ (a == b && c == d) }
@@ -178,7 +178,7 @@ fn are_same(a: u64, b: u64, c: u64, d: u64) -> bool
     a == b && c == d
 }
 
-// The man of a number in the order of the type, nothing for those above.
+// The man with a number in the order of the type, `Empty` for all numbers above.
 #[inline]
 fn man_numbered(number: u8) -> Man
     ensures { result ≡ man_numbered number }
@@ -200,7 +200,7 @@ fn man_numbered(number: u8) -> Man
     }
 }
 
-// The man's place in the order of the type.
+// The man's number in the order of the type.
 #[inline]
 fn number_of(man: Man) -> u8
     ensures { result ≡ man_number man }
@@ -218,7 +218,7 @@ fn digit(number: u8, place: u8) -> u8
     number >> place & 1
 }
 
-// Whether a word has the square: its bit.
+// The bit of a square in a word.
 #[inline]
 fn bit(word: u64, square: Square) -> u8
     ensures value { result ≡ bit_at word square }
@@ -242,7 +242,7 @@ fn with_bit(word: u64, square: Square, bit: u8) -> u64
     }
 }
 
-// The word whose bit at one square has gone to another, and this one has taken its place.
+// The word after its bit at one square went to another, and a new bit took its place.
 #[inline]
 fn moved_bit(word: u64, from: Square, to: Square, left: u8) -> u64
     requires { left < 2 }

@@ -13,21 +13,21 @@ use std::marker::Model;
 /// The rights to castle that are left (FIDE Laws of Chess, article 3.8.2).
 #[derive(Clone, Copy, Debug, PartialEq, Eq)]
 pub struct Rights {
-    /// White may castle with the rook of h1.
+    /// White can still castle with the rook of h1.
     pub white_kingside: bool,
-    /// White may castle with the rook of a1.
+    /// White can still castle with the rook of a1.
     pub white_queenside: bool,
-    /// Black may castle with the rook of h8.
+    /// Black can still castle with the rook of h8.
     pub black_kingside: bool,
-    /// Black may castle with the rook of a8.
+    /// Black can still castle with the rook of a8.
     pub black_queenside: bool,
 }
 
-/// A position: contracts see its board.
+/// A position. Contracts see its board.
 ///
-/// It has one king of each side, no pawn on the first and the last rank and at most sixteen men of a side. A right to castle stands
-/// only with king and rook at home, and an en passant square only where the opponent's pawn can just have passed it. The side that is
-/// not to move is not in check. The number of the move is at least 1.
+/// It has one king of each side, no pawn on the first or the last rank, and at most sixteen men of a side. Each right to castle has its
+/// king and rook at home. An en passant square is one that the opponent's pawn can just have passed. The side that is not to move is not in
+/// check. The number of the move is at least 1.
 #[derive(Clone, Copy, Debug, PartialEq, Eq)]
 pub struct Position {
     number: u32,
@@ -53,7 +53,7 @@ impl Model for Position {
 }
 
 impl Position {
-    /// The position in which a game begins.
+    /// The position at the start of a game.
     pub fn start() -> Position
         ensures { result ≡ start_board }
     {
@@ -81,7 +81,7 @@ impl Position {
         }
     }
 
-    /// The position of these parts, which meet the conditions of a position.
+    /// The position of these parts, which satisfy the invariant of positions.
     #[inline(always)]
     pub fn from_parts(
         number: u32,
@@ -102,7 +102,7 @@ impl Position {
         }
     }
 
-    /// What stands on a square.
+    /// The man on a square, or `Empty`.
     #[inline]
     pub fn at(&self, square: Square) -> Man
         ensures man { result ≡ man_at self.now.men square }
@@ -113,7 +113,7 @@ impl Position {
         self.men.at(square)
     }
 
-    /// What stands on the squares a1, b1, .. h8.
+    /// The men on the squares a1, b1, .. h8.
     #[inline]
     pub fn men(&self) -> &Men
         ensures men { result.now ≡ self.now.men }
@@ -122,7 +122,7 @@ impl Position {
         &self.men
     }
 
-    /// Whether the number of the move counts from 1: it always does. The clauses are what every position keeps.
+    /// Returns true, since the number of the move is never 0. Proofs call it for its clauses, the invariant of positions.
     #[inline]
     pub fn is_position(&self) -> bool
         ensures value { result ≡ true }
@@ -140,7 +140,7 @@ impl Position {
         self.side
     }
 
-    /// The en passant square that the position keeps: one that the opponent's pawn can just have passed by a double step.
+    /// The en passant square: one that the opponent's pawn can just have passed by a double step.
     #[inline]
     pub fn passant(&self) -> Option<Square>
         ensures square { result ≡ self.now.passant }
@@ -149,7 +149,7 @@ impl Position {
         self.passant
     }
 
-    /// Whether a side has kept its right to castle on the king's side, or on the queen's side.
+    /// Returns true if a side has the right to castle on the king's side, or on the queen's side.
     #[inline]
     pub fn may_castle(&self, side: Side, kingside: bool) -> bool
         ensures right { result ≡ castling_right self.now.rights side kingside }
@@ -166,7 +166,7 @@ impl Position {
         self.rights
     }
 
-    /// The number of the move, from 1 to 4,294,967,295, which rises after Black's moves.
+    /// The number of the move, from 1 to 4,294,967,295. It rises after Black's moves.
     pub fn number(&self) -> u32
         ensures number { result ≡ self.now.number }
         ensures kept { IsPosition self.now }
@@ -175,7 +175,7 @@ impl Position {
     }
 }
 
-// Whether a side has kept its right to castle on the king's side, or on the queen's side.
+// Returns true if a side has the right to castle on the king's side, or on the queen's side.
 #[inline]
 fn right_of(rights: Rights, side: Side, kingside: bool) -> bool
     ensures { result ≡ castling_right rights side kingside }
@@ -188,7 +188,7 @@ fn right_of(rights: Rights, side: Side, kingside: bool) -> bool
     }
 }
 
-/// Whether a square of the board holds a man, or nothing where `Empty` is asked.
+/// Returns true if a square of the board has this man, or is empty for `Empty`.
 #[inline]
 pub fn stands(men: &Men, square: Square, man: Man) -> bool
     ensures { result ≡ board.stands men.now square man }
@@ -196,7 +196,7 @@ pub fn stands(men: &Men, square: Square, man: Man) -> bool
     men.at(square) == man
 }
 
-/// How many squares hold a man, or nothing where `Empty` is asked, from 0 to 64.
+/// The number of squares with this man, or of empty squares for `Empty`, from 0 to 64.
 #[tactic(auto, using(crate::proofs::Counts::counted))]
 pub fn material(position: &Position, man: Man) -> u32
     ensures { result ≡ count_of man position.now.men }
@@ -205,21 +205,21 @@ pub fn material(position: &Position, man: Man) -> u32
     position.men().squares_of(man).count_ones()
 }
 
-// How many squares hold a man.
+// The number of squares with this man.
 fn count(men: &[Man; 64], man: Man) -> u32
     ensures { result ≡ count_of man men.now }
 {
     men.iter().filter(|m| **m == man).count() as u32
 }
 
-/// Whether there is exactly one king of each side.
+/// Returns true if there is exactly one king of each side.
 pub fn has_kings(men: &[Man; 64]) -> bool
     ensures { result ≡ board.has_kings men.now }
 {
     count(men, Man::K) == 1 && count(men, Man::BlackK) == 1
 }
 
-/// Whether a pawn of either side stands on the first or the last rank.
+/// Returns true if a pawn of either side is on the first or the last rank.
 pub fn has_pawn_on_edge(men: &[Man; 64]) -> bool
     ensures { result ≡ board.has_pawn_on_edge men.now }
 {
@@ -232,7 +232,7 @@ fn has_pawn(squares: &[Man]) -> bool
     squares.iter().any(|m| is_pawn(*m))
 }
 
-/// Whether a man is a pawn of either side.
+/// Returns true if a man is a pawn of either side.
 #[inline]
 pub fn is_pawn(man: Man) -> bool
     ensures { result ≡ board.is_pawn man }
@@ -240,14 +240,14 @@ pub fn is_pawn(man: Man) -> bool
     man == Man::P || man == Man::BlackP
 }
 
-/// Whether a side has more than sixteen men.
+/// Returns true if a side has more than sixteen men.
 pub fn has_too_many_men(men: &[Man; 64]) -> bool
     ensures { result ≡ board.has_too_many_men men.now }
 {
     count_of_side(men, Side::White) > 16 || count_of_side(men, Side::Black) > 16
 }
 
-// How many men a side has.
+// The number of a side's men.
 fn count_of_side(men: &[Man; 64], side: Side) -> u32
     ensures { result ≡ board.count_of_side side men.now }
 {

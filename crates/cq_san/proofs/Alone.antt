@@ -1,4 +1,4 @@
--- The parts that are written for a move are fitted by this move alone.
+-- The parts written for a move fit this move alone.
 use Rattle.std.proofs.Common.{◌≡◌, ℕ, Bool, true, false, cond, not, ◌&&◌, Option, Some, None, List, [], ◌∷◌, refl, sym, ap, ap₂, ◌∙◌, subst, inl, inr, eqb-true}
 use Rattle.std.specs.Prelude.{◌==◌, nat_lt, if◌then◌else◌}
 use Rattle.std.proofs.lemmas.Bool.{eq-eqb, ne_eqb, and_parts, and_from, not-true, not_from_false, false≢true}
@@ -69,7 +69,7 @@ same_move m n from to promotion null =
     ∙ ap (λ x. record { from = m.from; to = x; promotion = n.promotion; null = n.null }) to
     ∙ ap₂ (λ x y. record { from = m.from; to = m.to; promotion = x; null = y }) promotion null
 
--- what is given of the moving man agrees with him
+-- the given coordinates of the moving man agree with him
 itself : (part : ℕ) → (part == part) ≡ true
 itself part = eq-eqb part part refl
 
@@ -117,7 +117,7 @@ parts_agree p m w plain =
     (stands_there p.men m.from (man_of p.side (piece_of_man (man_at p.men m.from))) (sym (man_back p.side (man_at p.men m.from) w.own)))
     given.0 given.1 (itself m.to) (itself (promotion_number m.promotion)))
 
--- what agrees in the parts of a man's move
+-- the agreement of the parts of a man's move
 pub record AgreesSo (p : Board) (parts : PieceMove) (n : Move) : Type 0 where
   pub plain : is_castling p n ≡ false
   pub man : man_at p.men n.from ≡ man_of p.side parts.piece
@@ -179,7 +179,7 @@ moved_meant p m q kept legal w plain = record {
   ];
 }
 
--- what castles: from where, to where, and as no promotion
+-- a castling move: its origin, its goal, and no promotion
 pub record CastlesSo (p : Board) (m : Move) : Type 0 where
   pub from : m.from ≡ king_home p.side
   pub to : m.to ≡ castling_goal p.side (goes_right m)

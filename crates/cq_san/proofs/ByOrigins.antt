@@ -1,4 +1,4 @@
--- The answer to the parts of a text by the squares from which the move comes, and to castling.
+-- The result for the parts of a text, by the origins of the move, and for castling.
 use Rattle.std.proofs.Common.{◌≡◌, ℕ, ◌<◌, Bool, true, false, not, ◌&&◌, map, length, refl, sym, ap, subst, ◌∙◌, inl, inr}
 use Rattle.std.specs.List.{AllPairs, Contains, filter}
 use Rattle.std.proofs.lemmas.Bool.{and_parts, and_from, not-true, not_from_false, false≢true}
@@ -25,7 +25,7 @@ use Rattle.cq_san.specs.Reading.{IsMeaningOfParts, IsMeant, IsIllegal, only}
 use Rattle.cq_san.proofs.Alone.{agrees_so, null_fails, same_move, both_none, castles_so, agrees_castling, castling_meant}
 use Rattle.cq_san.proofs.Meaning.{answer_of}
 
--- what agrees with the parts of a move is no null move and no castling, and agrees part by part
+-- a move that agrees with the parts of a move is no null move and no castling, and agrees part by part
 agrees_as : (p : Board) (parts : PieceMove) (m : Move) → agrees p (Moved parts) m ≡ true → (m.null ≡ false) × (not (is_castling p m) ≡ true) × (agrees_in_parts p parts m ≡ true)
 unfolding agrees
 agrees_as p parts m e =

@@ -1,4 +1,4 @@
--- What the first byte tells of a text.
+-- Texts known by their first byte.
 use Rattle.std.proofs.Common.{◌≡◌, ℕ, Bool, true, false, ◌||◌, ◌&&◌, ◌==◌, cond, List, [], ◌∷◌, reverse, Some, refl, ap, ap₂, sym, ◌∙◌}
 use Rattle.std.specs.Prelude.{codes}
 use Rattle.std.specs.Str.{bytes_eq}
@@ -12,7 +12,7 @@ neither false t e = (refl, e)
 unlike : (c a : ℕ) (rest more : List ℕ) → (c == a) ≡ false → bytes_eq (c ∷ rest) (a ∷ more) ≡ false
 unlike c a rest more e = ap (λ t. t && bytes_eq rest more) e
 
--- where the first byte is none of two, the text is none of two that begin with these
+-- if the first byte is none of two, the text is none of two that begin with these
 none_of : (a b : ℕ) (x y text : List ℕ) → begins_with a b text ≡ false → (bytes_eq text (a ∷ x) || bytes_eq text (b ∷ y)) ≡ false
 none_of a b x y [] e = refl
 none_of a b x y (c ∷ rest) e =

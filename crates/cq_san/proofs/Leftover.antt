@@ -1,4 +1,4 @@
--- The origins among the squares of a set that are still to be looked at.
+-- The origins among the squares of a set that are still to be tested.
 use Rattle.std.proofs.Common.{◌≡◌, ◌≢◌, ℕ, ◌^◌, ◌<◌, Bool, true, false, not, ◌&&◌, cond, List, [], ◌∷◌, ◌++◌, length, refl, sym, ap, ◌∙◌, arith, inl, inr, map, Option, Some, None, Err}
 use Rattle.std.specs.List.{All, filter, list_any}
 use Rattle.std.specs.Option.{is_some, option_to_list}
@@ -38,7 +38,7 @@ kept_of_rest test mask (x ∷ xs) h =
       | inr e ↦ rw (e, rest, All-head (λ s. has_bit mask s ≡ false → test s ≡ false) x xs h e) refl
     ]
 
--- what is found and what is left are the whole
+-- the squares found and the squares left are the whole
 pub record IsFound (test : ℕ → Bool) (found : List ℕ) (mask : ℕ) : Type 0 where
   pub rest : found ++ filter test (set_squares mask) ≡ filter test squares
 
@@ -116,7 +116,7 @@ origin_comes p parts mask there low m n s h clear =
     let bad : false ≡ true = sym clear ∙ eq-eqb (bit_at (bit_and mask there) s) 1 set in
     cc)
 
--- where no bit but one is set, no other square is in the set
+-- if no bit but one is set, no other square is in the set
 lone_bit : (mask bit s : ℕ) → bit < 64 → s < 64 → s ≢ bit → cleared mask bit ≡ 0 → has_bit mask s ≡ false
 lone_bit mask bit s within h other empty =
     ap (λ n. n == 1) (sym (bit_at_clear_other w64 mask bit within s h other) ∙ ap (λ n. bit_at n s) empty ∙ bit_at-zero s)

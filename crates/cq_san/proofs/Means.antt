@@ -1,4 +1,4 @@
--- What a text means, as a value, is the answer that the grammar and the legal moves give; and what is written is read.
+-- The value of a text is the result by the grammar and the legal moves, and the text of a move is read as this move.
 use Rattle.std.proofs.Common.{◌≡◌, ◌≢◌, ℕ, List, length, Bool, true, false, cond, Some, Ok, Err, Result, refl, sym, ap, subst, ◌∙◌, inl, inr}
 use Rattle.cq_position.specs.declared.moves.Move.{Move}
 use Rattle.cq_position.specs.Board.{Board}
@@ -66,7 +66,7 @@ exact p text long =
       ambiguous = exactly_ambiguous p text (san p text) reading;
     }
 
--- what is written of a move is read as that move
+-- the text of a move is read as that move
 pub written_read : (p : Board) (m : Move) (q : Board) → IsPosition p → Leads p m q → san p (san_text p m) ≡ Ok m
 written_read p m q kept leads =
     let board = on_board p m q kept leads in

@@ -1,4 +1,4 @@
--- What is given of the origin, by what others share.
+-- The given coordinates of the origin, by those that others share.
 use Rattle.std.proofs.Common.{◌≡◌, ℕ, Bool, true, false, cond, not, ◌&&◌, ◌||◌, List, [], ◌∷◌, Some, None, refl, sym, ap, ap₂, ◌∙◌}
 use Rattle.std.specs.Prelude.{◌==◌, if◌then◌else◌}
 use Rattle.std.specs.List.{filter, list_any}
@@ -67,7 +67,7 @@ pub rank_by_others : (p : Board) (m : Move) (ms : List Move) (any file : Bool) �
 rank_by_others p m ms any file a f =
     rank_by_two (filter (is_rival p m) ms) m any file (a ∙ sym (any_by_others (is_rival p m) ms)) (told_by_others (is_rival p m) file_of ms m ∙ ap not (sym f))
 
--- what is given of the origin of a man that is no pawn
+-- the given coordinates of the origin of a man that is no pawn
 pub file_given : (p : Board) (m : Move) (any file rank : Bool) → is_pawn (man_at p.men m.from) ≡ false → any ≡ list_any (is_rival p m) (legal_list p)
     → file ≡ list_any (on_file p m) (legal_list p) → rank ≡ list_any (on_rank p m) (legal_list p)
     → (if any && (not file || rank) then Some (file_of m.from) else None) ≡ given_file p m

@@ -1,4 +1,4 @@
--- A pawn's goal, and its file where it captures, tell from where it comes.
+-- A pawn's goal, and its file if it captures, determine its origin.
 use Rattle.std.proofs.Common.{◌≡◌, ℕ, ◌+◌, ◌-◌, Bool, true, false, not, ◌&&◌, ◌||◌, Option, Some, None, List, refl, sym, ap, ◌∙◌, subst, inl, inr, arith, eqb-true}
 use Rattle.std.specs.Prelude.{◌==◌}
 use Rattle.std.proofs.lemmas.Bool.{and_parts, and_from, or_cases, or_left, or_right, not-true, not-false, not_from_false, false_from_ne_true, false≢true}
@@ -110,7 +110,7 @@ empty_not_theirs : (side : Side) (man : Man) → man ≡ Empty → is_of_side si
 empty_not_theirs White man is = ap (is_of_side White) is
 empty_not_theirs Black man is = ap (is_of_side Black) is
 
--- what is captured on an empty square was passed
+-- an empty square on which a pawn captures was just passed by a pawn
 passed_there : (p : Board) (b : ℕ) → passant_stands p.men p.side p.passant ≡ true → man_at p.men b ≡ Empty
     → (is_of_side (opponent p.side) (man_at p.men b) || is_goal p.passant b) ≡ true → was_passed p.men p.side b ≡ true
 passed_there p b kept empty takes_ =

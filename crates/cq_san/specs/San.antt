@@ -1,4 +1,4 @@
--- What a text means in a position, as a value. That it is what the grammar and the legal moves say is the law `san_means`.
+-- The meaning of a text in a position as a value. By the law `san_means` it is the meaning by the grammar and the legal moves.
 use Rattle.std.specs.Prelude.{◌≡◌, ◌↔◌, ℕ, List, Option, Some, None, Result, Ok, Err, if◌then◌else◌}
 use Rattle.std.specs.List.{filter}
 use Rattle.cq_position.specs.declared.moves.Move.{Move}
@@ -15,11 +15,11 @@ use Rattle.cq_san.specs.Fits.{agrees}
 use Rattle.cq_san.specs.Spelling.{Spells}
 use Rattle.cq_san.specs.Reading.{IsMeant, IsIllegal, IsAmbiguous, only}
 
--- the null move, where the side to move may pass
+-- the null move if the side to move can pass
 abbrev pub null_move_result : Board → Result Move SanFault
 null_move_result p = if in_check p.men p.side then Err IllegalMove else Ok null_move
 
--- the one legal move that agrees with the parts
+-- the only legal move that agrees with the parts
 abbrev pub parts_result : Board → Parts → Result Move SanFault
 parts_result p Null = null_move_result p
 parts_result p (Castling kingside) = only (filter (agrees p (Castling kingside)) (legal_list p))
@@ -29,11 +29,11 @@ abbrev pub result_by : Board → Option Parts → Result Move SanFault
 result_by p None = Err NotAMove
 result_by p (Some parts) = parts_result p parts
 
--- the move that a text means, or why it means none
+-- the move that a text means, or its fault
 unfoldable pub san : Board → List ℕ → Result Move SanFault
 san p text = result_by p (parts_from_end text)
 
--- each answer is given exactly where it is right
+-- each result is returned exactly if it is right
 pub record MeansExactly (p : Board) (text : List ℕ) (answer : Result Move SanFault) : Type 0 where
   pub meant : (m : Move) → (answer ≡ Ok m) ↔ ((parts : Parts) × Spells text parts × IsMeant p parts m)
   pub not_a_move : (answer ≡ Err NotAMove) ↔ ((parts : Parts) → Spells text parts → ⊥)

@@ -1,4 +1,4 @@
--- How a move is written in Standard Algebraic Notation (PGN standard 8.2.3).
+-- The text of a move in Standard Algebraic Notation (PGN standard 8.2.3).
 use Rattle.std.specs.Prelude.{ℕ, ◌+◌, ◌<◌, IfSome, ◌==◌, Bool, true, false, ◌&&◌, ◌||◌, not, List, [], ◌∷◌, ◌++◌, codes, Option, Some, None, option_map, unwrap_or, if◌then◌else◌}
 use Rattle.std.specs.List.{filter, list_all}
 use Rattle.cq_geometry.specs.Squares.{file_of, rank_of}
@@ -18,15 +18,15 @@ use Rattle.cq_san.specs.declared.parts.Parts.{Parts}
 use Rattle.cq_san.specs.declared.parts.Parts.TheVariants.{Castling, Null, Moved}
 use Rattle.cq_san.specs.Fits.{goes_right}
 
--- the piece that a man is; the empty square, which no move leaves, counts as a pawn
+-- the piece of a man; the empty square, which no move leaves, counts as a pawn
 abbrev pub piece_of_man : Man → Piece
 piece_of_man man = unwrap_or (option_map (λ known. known.1) (side_and_piece man)) Pawn
 
--- the move captures a man, also en passant
+-- true if the move captures a man, en passant included
 abbrev pub is_capture : Board → Move → Bool
 is_capture p m = is_occupied p.men m.to || is_en_passant_capture p m
 
--- another man of the same kind goes to the same square
+-- true of a move of another man of the same kind to the same square
 abbrev pub is_rival : Board → Move → Move → Bool
 is_rival p m n = same_man (man_at p.men n.from) (man_at p.men m.from) && (n.to == m.to) && not (n.from == m.from)
 
@@ -34,11 +34,12 @@ is_rival p m n = same_man (man_at p.men n.from) (man_at p.men m.from) && (n.to =
 abbrev pub rivals_of : Board → Move → List Move
 rivals_of p m = filter (is_rival p m) (legal_list p)
 
--- the file, or the rank, tells the moving man from all of them
+-- true if the file, or the rank, of the moving man differs from those of all others
 abbrev pub tells : (ℕ → ℕ) → List Move → Move → Bool
 tells part others m = list_all (λ n. not (part m.from == part n.from)) others
 
--- Where there are others, the file of the origin is given if it tells the man from all of them, else the rank if that does, else both.
+-- The origin's coordinates if there are others. The file is given if it differs from those of all others. Otherwise the rank is given if it
+-- differs from theirs, or else both are given.
 abbrev pub file_among : List Move → Move → Option ℕ
 file_among [] m = None
 file_among (n ∷ ns) m =
@@ -48,7 +49,7 @@ abbrev pub rank_among : List Move → Move → Option ℕ
 rank_among [] m = None
 rank_among (n ∷ ns) m = if tells file_of (n ∷ ns) m then None else Some (rank_of m.from)
 
--- a pawn's file is given where it captures, and its rank never
+-- a pawn's file is given if it captures, and its rank never
 abbrev pub given_file : Board → Move → Option ℕ
 given_file p m =
     if is_pawn (man_at p.men m.from) then (if is_capture p m then Some (file_of m.from) else None) else file_among (rivals_of p m) m
@@ -56,7 +57,7 @@ given_file p m =
 abbrev pub given_rank : Board → Move → Option ℕ
 given_rank p m = if is_pawn (man_at p.men m.from) then None else rank_among (rivals_of p m) m
 
--- the parts that are written
+-- the written parts
 abbrev pub piece_parts : Board → Move → PieceMove
 piece_parts p m = record {
   piece = piece_of_man (man_at p.men m.from);
@@ -69,7 +70,7 @@ piece_parts p m = record {
 unfoldable pub san_parts : Board → Move → Parts
 san_parts p m = if m.null then Null else (if is_castling p m then Castling (goes_right m) else Moved (piece_parts p m))
 
--- each part as text
+-- the text of each part
 abbrev pub letter : Piece → List ℕ
 letter King = codes "K"
 letter Queen = codes "Q"
@@ -114,7 +115,7 @@ sign_of q = check_sign (in_check q.men q.side) (legal_list q)
 unfoldable pub san_text : Board → Move → List ℕ
 san_text p m = if m.null then codes "--" else parts_text (is_capture p m) (san_parts p m) ++ sign_of (after p m)
 
--- the origin that is given is of the board
+-- the given origin is on the board
 abbrev pub AreOnBoard : Parts → Type 0
 AreOnBoard (Castling kingside) = Unit {0}
 AreOnBoard Null = Unit {0}

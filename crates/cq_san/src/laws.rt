@@ -1,4 +1,4 @@
-//! Laws of Standard Algebraic Notation, for the crates above. Each is proved for all positions; to call one costs nothing.
+//! Laws of Standard Algebraic Notation, for the crates above. Each is proved for all positions, and a call of it costs nothing.
 ghost use Rattle.std.specs.Prelude.{◌≡◌, ℕ, List, Ok, length};
 ghost use Rattle.cq_position.specs.declared.moves.Move.{Move as MoveValue};
 ghost use Rattle.cq_position.specs.Board.{Board};
@@ -8,17 +8,17 @@ ghost use Rattle.cq_san.specs.San.{san, MeansExactly};
 ghost use Rattle.cq_san.specs.Signs.{SignsSay};
 ghost use Rattle.cq_san.specs.Writing.{san_text, sign_of};
 
-/// `san` gives each answer exactly where `read_san` promises it.
+/// `san` returns each result exactly if `read_san` promises it.
 pub fn san_means()
     ensures { (p : Board) (text : List ℕ) → length p.men ≡ 64 → MeansExactly p text (san p text) }
 {}
 
-/// What is written of a move is read as this move.
+/// The text of a move is read as this move.
 pub fn written_is_read()
     ensures { (p : Board) (m : MoveValue) (q : Board) → IsPosition p → Leads p m q → san p (san_text p m) ≡ Ok m }
 {}
 
-/// The sign that is written after a move says whether it gives check or mate.
+/// The sign after a move's text is right about check and mate.
 pub fn signs_mean()
     ensures { (p : Board) → length p.men ≡ 64 → SignsSay p (sign_of p) }
 {}

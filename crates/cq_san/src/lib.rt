@@ -1,7 +1,7 @@
-//! Moves in Standard Algebraic Notation: reading a text as the one legal move that it means in a position, and writing a move.
+//! Moves in Standard Algebraic Notation. A text is read as the one legal move that it means in a position, and a move is written as text.
 //!
-//! `specs/Spelling` says how a move is spelled, and where that is more lenient than the PGN standard; `specs/Fits` says which moves fit;
-//! `specs/Writing` says how a move is written.
+//! `specs/Spelling` defines the spelling of a move, which is more lenient than the PGN standard. `specs/Fits` defines the moves that fit,
+//! and `specs/Writing` the text of a move.
 #![tactic(auto)]
 
 mod fault;

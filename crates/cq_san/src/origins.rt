@@ -1,4 +1,4 @@
-//! The squares from which a move comes that agrees with the parts of a text.
+//! The origins of moves that agree with the parts of a text.
 ghost use Rattle.std.specs.Prelude.{◌≡◌, ◌<◌, ◌==◌, ◌&&◌, not, ℕ, Bool, true, false, map};
 ghost use Rattle.cq_position.specs.Attacks.{is_occupied};
 ghost use Rattle.cq_square_sets.specs.Bitboards.{IsBitboard};
@@ -21,7 +21,7 @@ use cq_position::home_squares::{castling_goal, king_home};
 use cq_position::{Move, Position, Promotion, Side, man_of};
 use cq_square_sets::lowest_square;
 
-/// The squares from which a legal move comes, other than castling, that agrees with the parts.
+/// The origins of the legal moves, other than castling, that agree with the parts.
 pub(crate) fn origins(position: &Position, parts: &PieceMove) -> ArrayVec<Square, 64>
     ensures { result.items ≡ origin.origins position.now parts.now }
 {
@@ -41,8 +41,8 @@ pub(crate) fn origins(position: &Position, parts: &PieceMove) -> ArrayVec<Square
     found
 }
 
-/// The one legal move, other than castling, that agrees with the parts.
-// The squares are kept nowhere: a text that means a move has one of them.
+/// The only legal move, other than castling, that agrees with the parts.
+// The origins are not stored, since a text that means a move has only one.
 #[inline(always)]
 pub(crate) fn only_move(position: &Position, parts: &PieceMove) -> Result<Move, SanFault>
     ensures { result ≡ only (map (origin.move_from parts.now) (origin.origins position.now parts.now)) }
@@ -69,7 +69,7 @@ pub(crate) fn only_move(position: &Position, parts: &PieceMove) -> Result<Move, 
     }
 }
 
-/// Whether no man of the kind may come to the goal from another square than this one: then no other square is an origin.
+/// Returns true only if no man of the kind can come to the goal from a square other than this one. Then no other square is an origin.
 pub(crate) fn is_sole_origin(position: &Position, parts: &PieceMove, from: Square) -> bool
     ensures { result ≡ true → (s : ℕ) → s < 64 → (s == from) ≡ false → origin.is_origin position.now parts.now s ≡ false }
 {
@@ -80,8 +80,8 @@ pub(crate) fn is_sole_origin(position: &Position, parts: &PieceMove, from: Squar
     seen & there & !(1 << from.number()) == 0
 }
 
-// The parts are asked before the laws of chess, which take longer. `seen` has the squares from which the piece may come, and `there` those
-// where one stands.
+// Returns true if a square is an origin. The parts are tested before the legality, which takes longer. `seen` has the candidates for the
+// origin, and `there` the squares of the piece.
 #[inline(always)]
 fn is_origin(position: &Position, parts: &PieceMove, seen: u64, there: u64, from: Square) -> bool
     requires seen { IsBitboard seen (may_come position.now.side parts.now.piece (is_occupied position.now.men) parts.now.goal) }
@@ -93,7 +93,7 @@ fn is_origin(position: &Position, parts: &PieceMove, seen: u64, there: u64, from
     agrees_at(parts, there, from) && is_plain_and_legal(position, parts, seen, &m)
 }
 
-// Whether the move from a square agrees with the parts, by the set of the squares where the piece stands.
+// Returns true if the move from a square agrees with the parts, given the set of the piece's squares.
 #[inline(always)]
 fn agrees_at(parts: &PieceMove, there: u64, from: Square) -> bool
     ensures { (p : Board) → IsBitboard there (λ square. stands p.men square (man_of p.side parts.now.piece)) →
@@ -102,7 +102,7 @@ fn agrees_at(parts: &PieceMove, there: u64, from: Square) -> bool
     contains(there, from) && comes_from(parts, from)
 }
 
-// Whether the set has the square.
+// Returns true if the set has the square.
 #[inline(always)]
 fn contains(set: u64, square: Square) -> bool
     ensures { (test : ℕ → Bool) → IsBitboard set test → result ≡ test square }
@@ -110,7 +110,7 @@ fn contains(set: u64, square: Square) -> bool
     set >> square.number() & 1 == 1
 }
 
-// Whether a move that agrees with the parts is legal and no castling.
+// Returns true if a move that agrees with the parts is legal and no castling.
 #[inline(always)]
 fn is_plain_and_legal(position: &Position, parts: &PieceMove, seen: u64, m: &Move) -> bool
     requires seen { IsBitboard seen (may_come position.now.side parts.now.piece (is_occupied position.now.men) m.now.to) }
@@ -121,7 +121,7 @@ fn is_plain_and_legal(position: &Position, parts: &PieceMove, seen: u64, m: &Mov
     !is_castling(position, m) && is_legal_seen(position, parts.piece, seen, m)
 }
 
-/// The move from a square to the goal that the parts tell.
+/// The move from a square to the goal of the parts.
 #[inline(always)]
 pub(crate) fn move_from(parts: &PieceMove, from: Square) -> Move
     ensures { result ≡ origin.move_from parts.now from }
@@ -134,7 +134,7 @@ pub(crate) fn move_from(parts: &PieceMove, from: Square) -> Move
     }
 }
 
-/// The move by which a side castles, on the king's side or on the queen's.
+/// The castling move of a side, on the king's side or on the queen's side.
 pub(crate) fn castling_move(side: Side, kingside: bool) -> Move
     ensures { result ≡ origin.castling_move side kingside }
 {

@@ -24,7 +24,7 @@ use cq_moves::{is_castling, is_en_passant_capture, is_mate, play};
 use cq_position::position::is_pawn;
 use cq_position::{Man, Move, Piece, Position, Promotion, in_check};
 
-// The piece that a man is.
+// The piece of a man.
 fn piece_of_man(man: Man) -> Piece
     ensures { result ≡ writing.piece_of_man man }
 {
@@ -38,14 +38,14 @@ fn piece_of_man(man: Man) -> Piece
     }
 }
 
-// Whether a man is captured, en passant too.
+// Returns true if a man is captured, en passant included.
 fn is_capture(position: &Position, m: &Move) -> bool
     ensures { result ≡ writing.is_capture position.now m.now }
 {
     position.at(m.to) != Man::Empty || is_en_passant_capture(position, m)
 }
 
-// What the legal moves of other men of the same kind to the same square have in common with a move.
+// Facts about the rivals of a move, the legal moves of other men of the same kind to the same square.
 #[derive(Clone, Copy)]
 struct Rivals {
     any: bool,
@@ -54,7 +54,7 @@ struct Rivals {
 }
 
 impl Rivals {
-    // The file of the origin, where it tells the man from all others or the rank alone doesn't.
+    // The file of the origin if there are rivals, unless some share it and none shares the rank.
     fn file_of(&self, from: Square) -> Option<u8>
         ensures { result ≡ (if self.now.any && (not self.now.on_file || self.now.on_rank) then Some (squares.file_of from) else None) }
     {
@@ -65,7 +65,7 @@ impl Rivals {
         }
     }
 
-    // The rank of the origin, where the file alone doesn't tell the man from all others.
+    // The rank of the origin if some rival shares the file.
     fn rank_of(&self, from: Square) -> Option<u8>
         ensures { result ≡ (if self.now.any && self.now.on_file then Some (squares.rank_of from) else None) }
     {
@@ -138,7 +138,7 @@ fn is_any_on_rank(origins: &[Square], from: Square) -> bool
         .any(|other| *other != from && rank(from) == rank(*other))
 }
 
-// The file and the rank that are given of the origin of a plain move.
+// The written file and rank of the origin of a plain move.
 fn given_origin(position: &Position, m: &Move) -> (Option<u8>, Option<u8>)
     requires legal { (q : Board) × Legal position.now m.now q }
     requires plain { is_castling position.now m.now ≡ false }
@@ -158,7 +158,7 @@ fn given(is_given: bool, part: u8) -> Option<u8>
     if is_given { Some(part) } else { None }
 }
 
-// The parts that are written of a plain move.
+// The written parts of a plain move.
 fn piece_parts(position: &Position, m: &Move) -> PieceMove
     requires legal { (q : Board) × Legal position.now m.now q }
     requires plain { is_castling position.now m.now ≡ false }
@@ -174,7 +174,7 @@ fn piece_parts(position: &Position, m: &Move) -> PieceMove
     }
 }
 
-// The parts that are written of a legal move.
+// The written parts of a legal move.
 #[tactic(auto, unfolding(crate::specs::Writing::san_parts))]
 fn san_parts(position: &Position, m: &Move) -> Parts
     requires legal { (q : Board) × Legal position.now m.now q }
@@ -234,7 +234,7 @@ fn promotion_text(promotion: Promotion) -> &'static str
     }
 }
 
-// The sign of a position that a move leads to.
+// The sign for a position to which a move leads.
 fn sign_of(position: &Position) -> &'static str
     ensures { result.now ≡ writing.sign_of position.now }
 {
@@ -246,7 +246,7 @@ fn sign_of(position: &Position) -> &'static str
     }
 }
 
-// The sign of a position in check.
+// The sign for a position in check.
 fn check_sign(position: &Position) -> &'static str
     requires { attack.in_check position.now.men position.now.side ≡ true }
     ensures { result.now ≡ writing.sign_of position.now }
@@ -273,7 +273,7 @@ fn write_move(text: &mut ArrayString<8>, capture: bool, m: &PieceMove)
     push(text, promotion_text(m.promotion));
 }
 
-/// A legal move, or an allowed null move, in Standard Algebraic Notation. No other move fits the text.
+/// The text of a legal move, or of an allowed null move, in Standard Algebraic Notation. No other move fits the text.
 pub fn san_text(position: &Position, m: Move) -> ArrayString<8>
     requires { (q : Board) × Leads position.now m q }
     ensures text { result.bytes ≡ writing.san_text position.now m }
@@ -285,7 +285,7 @@ pub fn san_text(position: &Position, m: Move) -> ArrayString<8>
     text_of(position, m)
 }
 
-/// The same text of a move of which the position after it is known, so that the move isn't played again.
+/// The same text, given the position after the move, so that the move isn't played again.
 pub fn san_text_to(position: &Position, m: Move, after: &Position) -> ArrayString<8>
     requires { Leads position.now m after.now }
     ensures text { result.bytes ≡ writing.san_text position.now m }
@@ -330,7 +330,7 @@ fn null_text() -> ArrayString<8>
     text
 }
 
-// The text of a legal move, with the sign of the position after it.
+// The text of a legal move, with the sign for the position after it.
 #[tactic(auto, unfolding(crate::specs::Writing::san_text))]
 fn moved_text(position: &Position, m: &Move, after: &Position) -> ArrayString<8>
     requires legal { Legal position.now m.now after.now }

@@ -1,4 +1,4 @@
--- Which squares the union and the common part of two sets have, and a set that was shifted.
+-- The squares of the union, of the intersection, and of a shifted set.
 use Rattle.std.proofs.Common.{◌≡◌, ℕ, zero, suc, ◌+◌, ◌-◌, ◌*◌, ◌/◌, ◌%◌, ◌^◌, ◌<◌, ◌≤◌, ◌⊎◌, inl, inr, ⊎_elim, refl, sym, ap, ◌∙◌, arith, div-add-mod'}
 use Rattle.std.specs.Prelude.{bit_or, bit_and}
 use Rattle.std.specs.Int.{bit_at}
@@ -36,7 +36,7 @@ both_have a b i h k = let o = bit_at_and a b i in omega arith
 pub nothing_there : (i : ℕ) → Has 0 i → ⊥
 nothing_there i h = let z = bit_at-zero i in omega arith
 
--- what is cut off above doesn't change the bits below
+-- bits cut off above don't change the bits below
 low_bits : (n w i : ℕ) → i < w → bit_at (n % 2 ^ w) i ≡ bit_at n i
 low_bits n w i below = sym (bit_at_cat_low (n / 2 ^ w) w (n % 2 ^ w) i below) ∙ ap (λ m. bit_at m i) (div-add-mod' n (2 ^ w))
 

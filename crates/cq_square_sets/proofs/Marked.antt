@@ -1,4 +1,4 @@
--- Sets of squares as numbers, and what they hold.
+-- Sets of squares as numbers, and their elements.
 use Rattle.std.proofs.Common.{◌≡◌, ℕ, ◌-◌, ◌*◌, ◌%◌, ◌^◌, ◌<◌, max, min, Bool, true, false, not, ◌&&◌, ◌||◌, eqb, refl, sym, ap, ◌∙◌, arith, inl, inr, pos, negsuc}
 use Rattle.std.specs.Prelude.{bit_or, bit_and}
 use Rattle.std.specs.Int.{bit_not, w64}
@@ -18,7 +18,7 @@ same_test a b e = grind (arith, nat_tests)
 other_test : (a b : ℕ) → (a ≡ b → ⊥) → eqb a b ≡ false
 other_test a b ne = grind (arith, nat_tests)
 
--- what passes the same test
+-- sets whose squares pass the same test
 pub marks_same : (mask : ℕ) (t u : ℕ → Bool) → ((k : ℕ) → k < 64 → t k ≡ u k) → IsBitboard mask t → IsBitboard mask u
 marks_same mask t u same m = record { bit = λ k h. m.bit k h ∙ ap bit_of (same k h) }
 
@@ -62,7 +62,7 @@ marks_one s low = record {
   ];
 }
 
--- what is seen along the first of two lists, or the second, and so on
+-- the squares seen along the first of two lists, or the second, and so on
 or_four : (a b c d : Bool) → (((a || b) || c) || d) ≡ (a || (b || (c || (d || false))))
 or_four true b c d = refl
 or_four false true c d = refl

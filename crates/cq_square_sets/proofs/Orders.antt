@@ -55,7 +55,7 @@ lowest_first set s some fits e low =
 pub highest_first : (set s : ℕ) → bit_at set s ≡ 1 → ((k : ℕ) → s < k → bit_at set k ≡ 0) → s < 64 → IsFirst is_above set s
 highest_first set s there above low = record { there = there; none = λ k b. above k (ltb-true s k b); board = low }
 
--- what is seen along a ray whose numbers rise, by the lowest stop
+-- the squares seen along a ray with rising numbers, by the lowest stop
 pub seen_to_lowest : (ray empty s : ℕ) (along : List ℕ) (occupied : ℕ → Bool) → ray < 2 ^ 64 → empty < 2 ^ 64
     → s ≡ trailing_zeros w64 (bit_or (bit_and ray (bit_not w64 empty)) 9223372036854775808) → s < 64
     → rises along ≡ true → IsBitboard ray (contains along) → IsBitboard empty (λ k. not (occupied k))

@@ -1,4 +1,4 @@
--- Sets in common.
+-- Intersections of sets.
 use Rattle.std.proofs.Common.{◌≡◌, ℕ, ◌^◌, ◌<◌, Bool, true, false, not, ◌&&◌, ◌==◌, length, get_or, refl, sym, ap, ◌∙◌, arith, inl, inr}
 use Rattle.std.specs.Prelude.{bit_and}
 use Rattle.std.specs.List.{list_any}

@@ -9,7 +9,7 @@ use Rattle.cq_square_sets.specs.Bitboards.{contains}
 use Rattle.cq_square_sets.specs.Sets.{Has, has, IsSetOf, IsStepped, IsSlid, reaches}
 use Rattle.cq_square_sets.proofs.Bits.{in_both, both_have, in_either, from_first, from_second, nothing_there}
 
--- what was reached so far, and what is reached from the edge, are all that is reached
+-- the squares reached so far, and those reached from the edge, are all that are reached
 pub record Sliding (files ranks : ℤ) (from empty reached edge turn : ℕ) : Type 0 where
   pub all : (t : ℕ) → t < 64 → IsSlid files ranks from empty t → Has reached t ⊎ IsSlid files ranks edge empty t
   pub done : (t : ℕ) → t < 64 → Has reached t → IsSlid files ranks from empty t
@@ -24,7 +24,7 @@ begins files ranks from empty = record {
   short = λ s low h. let r = ray_short files ranks s in omega arith;
 }
 
--- what is reached over a next square
+-- the squares reached over a next square
 reaches_on : (files ranks : ℤ) (occupied : ℕ → Bool) (s n t : ℕ) → IsDirection files ranks → s < 64 → stepped files ranks s ≡ Some n
     → reaches files ranks occupied s t ≡ (n == t || contains (if occupied n then [] else seen occupied (ray_from files ranks n)) t)
 reaches_on files ranks occupied s n t d low e = ap (λ xs. contains (seen occupied xs) t) (ray_some files ranks s n d low e)

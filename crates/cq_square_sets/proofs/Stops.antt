@@ -1,4 +1,4 @@
--- How far a ray is seen: up to its first square that is not empty, the lowest where its numbers rise, and the highest where they fall.
+-- The stop of a ray, its first square that is not empty: the lowest such square if its numbers rise, and the highest if they fall.
 use Rattle.std.proofs.Common.{◌≡◌, ℕ, ◌^◌, ◌<◌, ◌⊎◌, inl, inr, ⊎_elim, max, Bool, true, false, not, ◌&&◌, ◌||◌, ◌==◌, List, [], ◌∷◌, ltb-true, eqb-true, eq-eqb, refl, sym, ap, ◌∙◌, arith}
 use Rattle.std.specs.Prelude.{bit_or, bit_and, nat_lt, if◌then◌else◌}
 use Rattle.std.specs.List.{list_all}

@@ -13,7 +13,7 @@ Has set square = bit_at set square ≡ 1
 abbrev pub has : ℕ → ℕ → Bool
 has set square = bit_at set square == 1
 
--- the set has exactly the squares of which this holds
+-- the set has exactly the squares with this property
 abbrev pub IsSetOf : ℕ → (ℕ → Type 0) → Type 0
 IsSetOf set P = (square : ℕ) → square < 64 → Has set square ↔ P square
 
@@ -21,7 +21,7 @@ IsSetOf set P = (square : ℕ) → square < 64 → Has set square ↔ P square
 abbrev pub IsStepped : ℤ → ℤ → ℕ → ℕ → Type 0
 IsStepped files ranks set to = (from : ℕ) × (from < 64) × Has set from × (stepped files ranks from ≡ Some to)
 
--- from the first square, in this direction, the second is reached through empty squares, the first square included that is not empty
+-- true if the second square is reached from the first in this direction through empty squares; it may itself be occupied
 abbrev pub reaches : ℤ → ℤ → (ℕ → Bool) → ℕ → ℕ → Bool
 reaches files ranks occupied from to = contains (seen occupied (ray_from files ranks from)) to
 
@@ -31,12 +31,12 @@ IsSlid files ranks set empty to =
     (from : ℕ) × (from < 64) × Has set from
     × (reaches files ranks (λ square. not (has empty square)) from to ≡ true)
 
--- squares of the board, each before those that follow it
+-- true if all squares are on the board, and each is before all that follow it in the list
 abbrev pub is_in_order : (ℕ → ℕ → Bool) → List ℕ → Bool
 is_in_order before [] = true
 is_in_order before (square ∷ rest) = nat_lt square 64 && (list_all (before square) rest && is_in_order before rest)
 
--- their numbers rise, or they fall
+-- the orders of rising and of falling numbers
 abbrev pub is_below : ℕ → ℕ → Bool
 is_below a b = nat_lt a b
 

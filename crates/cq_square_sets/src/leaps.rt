@@ -1,4 +1,4 @@
-//! The steps of kings and knights, and those aslant of pawns.
+//! The steps of kings and knights, and the diagonal steps of pawns.
 ghost use Rattle.std.specs.Prelude.{◌+◌, ◌&&◌, ◌==◌};
 ghost use Rattle.cq_geometry.specs.Squares.{rank_of};
 ghost use Rattle.cq_geometry.specs.Steps.{files_apart, is_king_step, is_knight_step};
@@ -7,7 +7,7 @@ ghost use Rattle.cq_square_sets.specs.Bitboards.{IsBitboard};
 use crate::slides::{NOT_A_FILE, NOT_H_FILE};
 use cq_geometry::Square;
 
-/// The squares a king's step away.
+/// The squares one king's step away.
 #[inline]
 pub fn king_attacks(from: Square) -> u64
     ensures { IsBitboard result (is_king_step from) }
@@ -15,7 +15,7 @@ pub fn king_attacks(from: Square) -> u64
     KING_ATTACKS[usize::from(from.number())]
 }
 
-/// The squares a knight's step away.
+/// The squares one knight's step away.
 #[inline]
 pub fn knight_attacks(from: Square) -> u64
     ensures { IsBitboard result (is_knight_step from) }
@@ -23,7 +23,7 @@ pub fn knight_attacks(from: Square) -> u64
     KNIGHT_ATTACKS[usize::from(from.number())]
 }
 
-/// The squares one rank up on the files beside a square's.
+/// The squares one rank up on the adjoining files.
 #[inline]
 pub fn white_pawn_attacks(from: Square) -> u64
     ensures { IsBitboard result (λ to. (rank_of to == rank_of from + 1) && (files_apart from to == 1)) }
@@ -32,7 +32,7 @@ pub fn white_pawn_attacks(from: Square) -> u64
     (square & NOT_H_FILE) << 9 | (square & NOT_A_FILE) << 7
 }
 
-/// The squares one rank down on the files beside a square's.
+/// The squares one rank down on the adjoining files.
 #[inline]
 pub fn black_pawn_attacks(from: Square) -> u64
     ensures { IsBitboard result (λ to. (rank_of from == rank_of to + 1) && (files_apart from to == 1)) }

@@ -1,7 +1,7 @@
-//! Bitboards: a set of squares as a word of 64 bits, in which bit k is the square k, and how such a set slides and steps.
+//! Bitboards, which are sets of squares as words of 64 bits, and their slides and steps. Bit k is the square k.
 //!
-//! `specs/Bitboards` says of which squares a word is the set, `specs/Sets` what a set reaches as it slides, and `specs/Planes` which list
-//! of 64 four words keep together.
+//! `specs/Bitboards` defines the set of a word, and `specs/Sets` the squares that a sliding set reaches. `specs/Planes` defines the list of
+//! 64 items that four words keep together.
 #![tactic(auto)]
 
 pub mod leaps;

@@ -24,7 +24,7 @@ pub fn bishop_lines(from: Square) -> u64
     BISHOP_LINES[usize::from(from.number())]
 }
 
-/// The squares along a square's file and rank, up to and with the first on each side that is not empty.
+/// The squares along a square's file and rank, up to and including the first on each side that is not empty.
 #[inline]
 pub fn rook_attacks(from: Square, empty: u64) -> u64
     ensures { (occupied : ℕ → Bool) → IsBitboard empty (λ k. not (occupied k)) →
@@ -37,7 +37,7 @@ pub fn rook_attacks(from: Square, empty: u64) -> u64
         | seen_rising(RIGHT[at], empty)
 }
 
-/// The squares along a square's diagonals, up to and with the first on each side that is not empty.
+/// The squares along a square's diagonals, up to and including the first on each side that is not empty.
 #[inline]
 pub fn bishop_attacks(from: Square, empty: u64) -> u64
     ensures { (occupied : ℕ → Bool) → IsBitboard empty (λ k. not (occupied k)) →
@@ -50,7 +50,8 @@ pub fn bishop_attacks(from: Square, empty: u64) -> u64
         | seen_falling(SOUTHWEST[at], empty)
 }
 
-// The squares of a ray whose numbers rise, up to and with the first that is not empty. No square is past h8.
+// The squares of a ray with rising numbers, up to and including the first that is not empty. H8 bounds the search, since no square is past
+// it.
 #[inline]
 fn seen_rising(ray: u64, empty: u64) -> u64
     ensures { (along : List ℕ) (occupied : ℕ → Bool) → rises along ≡ true → IsBitboard ray (contains along) →
@@ -60,7 +61,8 @@ fn seen_rising(ray: u64, empty: u64) -> u64
     ray & (u64::MAX >> (63 - stop.number()))
 }
 
-// The squares of a ray whose numbers fall, up to and with the first that is not empty. No square is past a1.
+// The squares of a ray with falling numbers, up to and including the first that is not empty. A1 bounds the search, since no square is past
+// it.
 #[inline]
 fn seen_falling(ray: u64, empty: u64) -> u64
     ensures { (along : List ℕ) (occupied : ℕ → Bool) → falls along ≡ true → IsBitboard ray (contains along) →

@@ -1,4 +1,4 @@
-//! Sets of one square, squares in common, and the lowest square of a set.
+//! Sets of one square, the intersection of two sets, and the lowest and highest squares of a set.
 ghost use Rattle.std.specs.Prelude.{◌≡◌, ◌<◌, ◌&&◌, ℕ, Bool};
 ghost use Rattle.std.specs.Int.{bit_at, trailing_zeros, w64};
 ghost use Rattle.std.specs.List.{list_any};
@@ -7,7 +7,7 @@ ghost use Rattle.cq_square_sets.specs.Bitboards.{IsBitboard, is_goal};
 
 use cq_geometry::Square;
 
-/// The set of a square alone, or of none where there is no square.
+/// The set of one square, or the empty set for None.
 #[inline]
 pub fn set_of(square: Option<Square>) -> u64
     ensures { IsBitboard result (is_goal square) }
@@ -18,7 +18,7 @@ pub fn set_of(square: Option<Square>) -> u64
     }
 }
 
-/// Whether two sets have a square in common.
+/// Returns true if two sets have a square in common.
 #[inline]
 pub fn meets(a: u64, b: u64) -> bool
     ensures { (t u : ℕ → Bool) → IsBitboard a t → IsBitboard b u → result ≡ list_any (λ k. t k && u k) squares }

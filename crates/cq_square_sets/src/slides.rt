@@ -1,17 +1,17 @@
-//! Sets of squares that move and slide as one.
+//! Steps and slides of whole sets of squares.
 ghost use Rattle.std.specs.Prelude.{◌≡◌, ◌≤◌, ◌≤ℤ◌, pos, negsuc};
 ghost use Rattle.cq_geometry.specs.Steps.{IsDirection};
 ghost use Rattle.cq_square_sets.specs.Sets.{IsSetOf, IsStepped, IsSlid};
 
-/// A set of squares: bit k is the square k, a1 is 0, b1 is 1 and h8 is 63.
+/// A set of squares. Bit k is the square k: a1 is 0, b1 is 1 and h8 is 63.
 pub type BitSet64 = u64;
 
 pub(crate) const NOT_A_FILE: u64 = 0xfefe_fefe_fefe_fefe;
 
 pub(crate) const NOT_H_FILE: u64 = 0x7f7f_7f7f_7f7f_7f7f;
 
-/// The squares that are reached from a square of `from` in a direction through squares of `empty`, the first square included that
-/// is not empty. The direction is `DF` files to the right and `DR` ranks up, each from -1 to 1 and not both 0.
+/// The squares reached from a square of `from` in a direction through squares of `empty`. The first square that is not empty is included.
+/// The direction is `DF` files to the right and `DR` ranks up, each from -1 to 1 and not both 0.
 pub fn slide<const DF: i8, const DR: i8>(from: BitSet64, empty: BitSet64) -> BitSet64
     requires { IsDirection DF DR }
     ensures { IsSetOf result (IsSlid DF DR from empty) }
@@ -26,7 +26,7 @@ pub fn slide<const DF: i8, const DR: i8>(from: BitSet64, empty: BitSet64) -> Bit
     reached
 }
 
-/// The squares one step further, where they are on the board.
+/// The squares one step further that are on the board.
 pub(crate) fn moved_by(set: BitSet64, files: i8, ranks: i8) -> BitSet64
     requires { IsDirection files ranks }
     ensures { IsSetOf result (IsStepped files ranks set) }

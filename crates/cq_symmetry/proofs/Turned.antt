@@ -1,4 +1,4 @@
--- What the symmetries turn, by their numbers.
+-- The squares and directions that the symmetries change, by their numbers.
 use Rattle.std.proofs.Common.{◌≡◌, ℕ, Bool, true, false, refl, sym}
 use Rattle.cq_geometry.specs.Squares as board
 use Rattle.cq_symmetry.specs.Images as spec

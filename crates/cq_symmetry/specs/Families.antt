@@ -16,7 +16,7 @@ shifted east north = record { symmetry = 1; exchange = false; east = east; north
 abbrev pub exchanged : PlainMapping
 exchanged = record { symmetry = 3; exchange = true; east = pos 0; north = pos 0 }
 
--- how far a shift may go: from -7 to 7
+-- the lengths of shifts, from -7 to 7
 abbrev pub shift_lengths : List ℤ
 shift_lengths = negsuc 6 ∷ negsuc 5 ∷ negsuc 4 ∷ negsuc 3 ∷ negsuc 2 ∷ negsuc 1 ∷ negsuc 0
     ∷ pos 0 ∷ pos 1 ∷ pos 2 ∷ pos 3 ∷ pos 4 ∷ pos 5 ∷ pos 6 ∷ pos 7 ∷ []

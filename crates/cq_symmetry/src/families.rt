@@ -40,7 +40,7 @@ pub fn size(family: Family) -> u32
     }
 }
 
-/// The member of a family with the number `k`, counted from 0 in the order in which the query language lists them.
+/// The member of a family with the number `k`. Members count from 0, in the order in which the query language lists them.
 #[tactic(auto, using(crate::proofs::Members::member_sets))]
 pub fn member(family: Family, k: u32) -> Mapping
     requires { k < length (members family) }
@@ -57,7 +57,7 @@ pub fn member(family: Family, k: u32) -> Mapping
     }
 }
 
-// The symmetries that turn the board by a quarter, by none of it first.
+// The four rotations, by their symmetries, the identity first.
 const ROTATIONS: [u8; 4] = [1, 7, 4, 6];
 
 // A symmetry alone.

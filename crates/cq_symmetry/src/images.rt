@@ -9,7 +9,8 @@ use crate::mappings::Mapping;
 use crate::parts::SquarePart;
 use cq_geometry::{Compass, Square, file, rank, square_at};
 
-/// Expands to what the eight symmetries make of a file and a rank, in the order of their numbers, given both and both turned round.
+/// Expands to the images of a file and a rank under the eight symmetries, in the order of their numbers. Its arguments are both, and both
+/// reversed.
 macro_rules! turns {
     ($file:expr, $rank:expr, $back_file:expr, $back_rank:expr) => {
         [
@@ -25,10 +26,10 @@ macro_rules! turns {
     };
 }
 
-/// The image of a part under a mapping, or None where every square of it leaves the board.
+/// The image of a part under a mapping, or None if every square of it leaves the board.
 ///
-/// A shift moves no part sideways that was written as whole ranks, and none up or down that was written as whole files. The
-/// symmetries 5 to 8 make files of ranks, and ranks of files.
+/// A shift moves no part sideways that was written as whole ranks, and none up or down that was written as whole files. The symmetries 5 to
+/// 8 make files of ranks, and ranks of files.
 #[tactic(auto, unfolding(crate::specs::Images::image))]
 pub fn image(m: Mapping, part: SquarePart) -> Option<SquarePart>
     ensures { result ≡ spec.image m part }
@@ -43,7 +44,7 @@ pub fn image(m: Mapping, part: SquarePart) -> Option<SquarePart>
     turned_part(m, part, squares)
 }
 
-// The part's image, given its squares.
+// The image of a part, given the image's squares.
 fn turned_part(m: Mapping, part: SquarePart, squares: u64) -> Option<SquarePart>
     ensures { result ≡ spec.part_or_none (record {
       squares = squares;
@@ -66,7 +67,8 @@ fn turned_part(m: Mapping, part: SquarePart, squares: u64) -> Option<SquarePart>
     })
 }
 
-// The square to which a mapping takes a square of a part, given where its symmetry takes it; bit k of the answer is square k.
+// The set of the one square to which a mapping takes a square of a part, given the image under its symmetry. Bit k of the result is the
+// square k.
 fn image_of_one(m: &Mapping, part: &SquarePart, square: Square, place: (u8, u8)) -> u64
     requires file { place.0 < 8 }
     requires rank { place.1 < 8 }
@@ -82,14 +84,14 @@ fn image_of_one(m: &Mapping, part: &SquarePart, square: Square, place: (u8, u8))
     }
 }
 
-// Whether a square is one of those of a mask.
+// Returns true if a square is in a set.
 fn is_in(squares: u64, square: Square) -> bool
     ensures { result ≡ spec.is_in squares square }
 {
     squares >> square.number() & 1 == 1
 }
 
-// The square of a file and a rank shifted with a part, where it is on the board.
+// The square of a file and a rank, shifted with its part, if it is on the board.
 fn shifted(m: &Mapping, part: &SquarePart, place: (u8, u8)) -> Option<Square>
     requires file { place.0 < 8 }
     requires rank { place.1 < 8 }
@@ -102,7 +104,7 @@ fn shifted(m: &Mapping, part: &SquarePart, place: (u8, u8)) -> Option<Square>
     Some(square_at(file, rank))
 }
 
-// A shift by so many, but for a part that stands still.
+// The length of a shift, 0 for a part that it leaves in place.
 fn unless(stays: bool, by: i8) -> i8
     requires { IsOnBoardStep by }
     ensures value { result ≡ spec.unless stays by }
@@ -111,7 +113,7 @@ fn unless(stays: bool, by: i8) -> i8
     if stays { 0 } else { by }
 }
 
-// The file or rank `by` further, or None where that is off the board.
+// The file or rank `by` further, or None if it is off the board.
 fn moved(coordinate: u8, by: i8) -> Option<u8>
     requires low { coordinate < 8 }
     requires step { IsOnBoardStep by }
@@ -144,7 +146,7 @@ pub fn image_compass(m: Mapping, c: Compass) -> Compass
     compass_of(turned_step(&m, c)).unwrap_or(c)
 }
 
-// What the symmetry of a mapping makes of a direction's step.
+// The image of a direction's step under the symmetry of a mapping.
 fn turned_step(m: &Mapping, c: Compass) -> (i8, i8)
     ensures { result ≡ spec.turn neg_ℤ m.now.symmetry (files_of c) (ranks_of c) }
 {
@@ -164,14 +166,14 @@ fn compass_of(step: (i8, i8)) -> Option<Compass>
     None
 }
 
-// Whether the step of a direction goes so many files and ranks.
+// Returns true if the step of a direction goes so many files and ranks.
 fn goes(direction: Compass, step: (i8, i8)) -> bool
     ensures { result ≡ spec.goes (step.0, step.1) direction }
 {
     direction.files() == step.0 && direction.ranks() == step.1
 }
 
-/// Whether the symmetry of a mapping takes light squares to dark ones, and dark squares to light ones. No shift counts for this.
+/// Returns true if the symmetry of a mapping exchanges light and dark squares. Shifts don't count.
 #[tactic(auto, using(crate::proofs::Turned::lights))]
 pub fn changes_light(m: Mapping) -> bool
     ensures { result ≡ spec.changes_light m }

@@ -1,4 +1,4 @@
-//! Symmetries of the board, shifts and the exchange of colours, and the families that a query names them by.
+//! Symmetries of the board, shifts and the exchange of colours, and their families, which a query names by one word.
 #![tactic(auto)]
 
 mod families;

@@ -1,20 +1,21 @@
-//! One mapping of the board and the men.
+//! Mappings of the board and the men.
 
 use std::marker::Model;
 
 /// A symmetry of the board, or a shift, with an optional exchange of colours.
 ///
-/// The symmetry is 1 to 8, east and north are from -7 to 7, and where one of them is not 0 the symmetry is 1 and
-/// there is no exchange. Symmetry by symmetry, the square of file f and rank r (both from 0) goes to
-/// 1 (f, r), 2 (7-f, r), 3 (f, 7-r), 4 (7-f, 7-r), 5 (r, f), 6 (7-r, f), 7 (r, 7-f), 8 (7-r, 7-f).
+/// The symmetry is 1 to 8, and east and north are from -7 to 7. If one of them is not 0, the symmetry is 1 and there is no exchange.
+///
+/// The symmetries 1 to 8 take the square of file f and rank r, both from 0, to these squares, in this order:
+/// `(f, r), (7-f, r), (f, 7-r), (7-f, 7-r), (r, f), (7-r, f), (r, 7-f), (7-r, 7-f)`.
 #[derive(Clone, Copy, Debug, PartialEq, Eq)]
 pub struct Mapping {
     pub symmetry: u8,
-    /// White men become black ones and black men white ones.
+    /// White men become black, and black men white.
     pub exchange: bool,
-    /// Files to the right.
+    /// The number of files to the right.
     pub east: i8,
-    /// Ranks up.
+    /// The number of ranks up.
     pub north: i8,
 }
 

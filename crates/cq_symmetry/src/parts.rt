@@ -1,6 +1,6 @@
-//! The squares that a query writes as one part.
+//! Parts, the sets of squares that a query writes in one place.
 
-/// Some squares of the board, as they are written in one place of a query.
+/// A set of squares that a query writes in one place.
 #[derive(Clone, Copy, Debug, PartialEq, Eq)]
 pub struct SquarePart {
     /// Bit k is square k: a1 is bit 0, b1 bit 1 and h8 bit 63.

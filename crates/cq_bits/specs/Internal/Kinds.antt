@@ -1,4 +1,4 @@
--- What may stand on a square.
+-- The kinds of men on a square, the empty square among them.
 use Rattle.std.specs.Prelude.{Bool, true, false}
 use Rattle.cq_position.specs.declared.men.Man.{Man}
 use Rattle.cq_position.specs.declared.men.Man.TheVariants.{Empty}

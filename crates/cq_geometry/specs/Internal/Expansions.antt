@@ -1,11 +1,11 @@
--- The same squares step by step, as the private functions give them.
+-- The same squares step by step, as the private functions compute them.
 use Rattle.std.specs.Prelude.{ℕ, ◌-◌, ℤ, pos, negsuc, Option, Some, None, List, [], ◌∷◌, filter_map}
 use Rattle.std.specs.List.{range_with_len}
 use Rattle.cq_geometry.specs.declared.compass.Compass.{Compass}
 use Rattle.cq_geometry.specs.Steps.{stepped, steps_away, ray_from}
 use Rattle.cq_geometry.specs.Directions.{files_of, ranks_of}
 
--- the eight steps of a king from a square, the lowest goal first, where they are on the board
+-- the eight steps of a king from a square, the lowest goal first, each if it is on the board
 abbrev pub king_goals : ℕ → List (Option ℕ)
 king_goals square =
     stepped (negsuc 0) (negsuc 0) square
@@ -45,7 +45,7 @@ abbrev pub steps_below : ℕ → Compass → ℕ → List ℕ
 steps_below square direction end =
     filter_map (steps_away (files_of direction) (ranks_of direction) square) (range_with_len 1 (end - 1))
 
--- the same, where there is a direction
+-- the same if there is a direction
 abbrev pub steps_between : ℕ → Option Compass → ℕ → List ℕ
 steps_between square None end = []
 steps_between square (Some direction) end = steps_below square direction end

@@ -1,4 +1,4 @@
--- What is known of the side that moves before its moves are looked at.
+-- Facts about the side to move that its moves share.
 use Rattle.std.specs.Prelude.{◌≡◌, ℕ, ◌<◌, Bool, true, false, ◌&&◌, not, slice_set, if◌then◌else◌, ◌==◌, [], ◌∷◌}
 use Rattle.std.specs.Int.{bit_at}
 use Rattle.cq_position.specs.declared.men.Man.TheVariants.{Empty}
@@ -17,12 +17,12 @@ use Rattle.cq_moves.specs.LegalMoves.{move_of, legal_between}
 use Rattle.cq_moves.specs.declared.mover.Mover.{Mover}
 use Rattle.cq_moves.specs.declared.mover.Origin.{Origin}
 
--- no man of the side to move stands there, and no king
+-- true if the square has no man of the side to move and no king
 abbrev pub is_free : Board → ℕ → Bool
 is_free p b = not (is_of_side p.side (man_at p.men b)) && not (stands p.men b (king_of (opponent p.side)))
 
--- a position, where its king stands, the squares that hold no man of the side and no king, and
--- a set of squares beside which each may be left without leaving the king attacked
+-- A position, the square of its king, and the squares without a man of the side to move and without a king. A man that leaves a square
+-- outside the set `shields` does not leave its king attacked.
 pub record IsMover (p : Board) (mover : Mover) : Type 0 where
   pub kept : IsPosition p
   pub king : IsKingSquare p.men p.side mover.king
@@ -30,21 +30,21 @@ pub record IsMover (p : Board) (mover : Mover) : Type 0 where
   pub shields : (square : ℕ) → square < 64 → bit_at mover.shields square ≡ 0
       → is_attacked (slice_set p.men square Empty) (opponent p.side) mover.king ≡ false
 
--- each move of the man on a square leaves its king safe, captures on the en passant square aside
+-- each move of the man on a square leaves its king safe, except for captures on the en passant square
 pub record IsUnexposed (p : Board) (from : ℕ) : Type 0 where
   pub safe : (m : Move) → m.from ≡ from → is_pseudo_legal p m ≡ true → is_en_passant_capture p m ≡ false
       → is_safe p m ≡ true
 
--- the man on a square, the squares that it attacks, and a flag that is false only where each of its moves leaves its king safe
+-- the man on a square, the squares that it attacks, and a flag that is false only if each of its moves leaves its king safe
 pub record IsOrigin (p : Board) (origin : Origin) : Type 0 where
   pub man : origin.man ≡ man_at p.men origin.from
   pub attacked : IsBitboard origin.attacked (attacks p.men origin.from)
   pub exposed : origin.exposed ≡ false → IsUnexposed p origin.from
 
--- each move of the man on a square to where it goes is legal with no promotion, and with no other
+-- each move of the man on a square to one of its goals is legal without a promotion, and with none
 pub record IsPlain (p : Board) (from : ℕ) : Type 0 where
   pub only : (to : ℕ) → to < 64 → reaches p from to ≡ true → legal_between p from to ≡ move_of from to NoPromotion ∷ []
 
--- where the king stands after a move: it may be the man that moves
+-- the king's square after a move, which can be a move of the king
 abbrev pub king_after : ℕ → Move → ℕ
 king_after king m = if m.from == king then m.to else king

@@ -10,7 +10,7 @@ pub const SPACE: u8 = b' ';
 /// The byte between two ranks.
 pub const SLASH: u8 = b'/';
 
-/// The byte in the place of the rights to castle, or of the en passant square, where there is none.
+/// The byte for no right to castle, and for no en passant square.
 pub const DASH: u8 = b'-';
 
 /// The letter of a side: `w` or `b` (section 16.1.3.2).
@@ -23,7 +23,7 @@ pub fn side_letter(side: Side) -> u8
     }
 }
 
-/// The letter of a side's right to castle, on the king's side `K` or `k` and on the queen's `Q` or `q` (section 16.1.3.3).
+/// The letter of a side's right to castle: `K` or `k` on the king's side, and `Q` or `q` on the queen's (section 16.1.3.3).
 pub fn right_letter(side: Side, kingside: bool) -> u8
     ensures { result ≡ fen_bytes.right_letter side kingside }
 {

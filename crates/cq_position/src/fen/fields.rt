@@ -23,7 +23,7 @@ pub struct Fields<'a> {
     pub number: &'a [u8],
 }
 
-/// The fields of a text, where there are six, or four, which are read as with the clock `0` and the number `1`; None for any other count.
+/// The fields of a text with six or four fields, or None for any other count. Four are read as with the clock `0` and the number `1`.
 pub fn split_fields(text: &[u8]) -> Option<Fields<'_>>
     ensures { MatchOption result (field_texts (fields text.now) ≡ None) (λ f. field_texts (fields text.now) ≡ Some (texts_of f)) }
 {
@@ -55,7 +55,7 @@ pub fn split_fields(text: &[u8]) -> Option<Fields<'_>>
     })
 }
 
-// The first field, and what stands after it.
+// The first field, and the text after it.
 #[tactic(auto, using(crate::proofs::Splitting::spaces_alone, crate::proofs::Splitting::first_of_fields, std::proofs::lemmas::List::take_rest))]
 fn first_field(text: &[u8]) -> Option<(&[u8], &[u8])>
     ensures { MatchOption result (fields text.now ≡ []) (λ cut. fields text.now ≡ cut.0.now ∷ fields cut.1.now) }
@@ -66,14 +66,14 @@ fn first_field(text: &[u8]) -> Option<(&[u8], &[u8])>
     Some((&text[..end], &text[end..]))
 }
 
-// The place of the first byte that is no space.
+// The index of the first byte that is no space.
 fn place_beside_spaces(text: &[u8]) -> Option<usize>
     ensures { result ≡ position (λ b. not (b == space)) text.now }
 {
     text.iter().position(|b| *b != SPACE)
 }
 
-/// The first place of a byte in a text, from 0; None where the text lacks it.
+/// The first index of a byte in a text, from 0, or None if the text lacks it.
 pub fn place_of(text: &[u8], byte: u8) -> Option<usize>
     ensures { result ≡ position (λ b. b == byte) text.now }
 {

@@ -9,9 +9,11 @@ use crate::fen::bytes::SLASH;
 use crate::fen::fields::place_of;
 use crate::men::{Man, man_of_letter};
 
-/// The men of the squares a1, b1, .. h8 from the text of eight ranks, from the eighth down with a slash between two (PGN standard,
-/// section 16.1.3.1); None where there are more or fewer ranks, a byte is neither a digit from 1 to 8 nor a man's letter, or a rank has
-/// not eight squares.
+/// The men of the squares a1, b1, .. h8 from the text of eight ranks (PGN standard, section 16.1.3.1). The ranks go from the eighth down,
+/// with a slash between two.
+///
+/// Returns None for another number of ranks, and for a rank without exactly eight squares. Also returns None for a byte that is neither a
+/// digit from 1 to 8 nor a man's letter.
 pub fn read_placement(text: &[u8]) -> Option<[Man; 64]>
     ensures { SomeIfTrue result (is_placement text.now) (placed_men text.now) }
 {
@@ -30,7 +32,7 @@ pub fn read_placement(text: &[u8]) -> Option<[Man; 64]>
     }
 }
 
-// The text of the first rank, and what stands after its slash, if there is one.
+// The text of the first rank, and the text after its slash if there is one.
 #[tactic(auto, using(crate::proofs::Splitting::one_part, crate::proofs::Splitting::first_of_parts, std::proofs::lemmas::List::take_rest))]
 fn cut_rank(text: &[u8]) -> (&[u8], Option<&[u8]>)
     ensures { parts slash text.now ≡ result.0.now ∷ ranks_left (option_copied result.1) }
@@ -58,7 +60,7 @@ fn read_rank(text: &[u8]) -> Option<[Man; 8]>
     if file == 8 { Some(row) } else { None }
 }
 
-// What the squares hold that a byte stands for, and how many they are.
+// The man that a byte means, or the empty square, and the number of such squares.
 fn run_of(byte: u8) -> Option<(Man, usize)>
     ensures { MatchOption result (is_rank_byte byte ≡ false) (λ run. IsRunOf byte run.0 run.1) }
 {

@@ -14,7 +14,7 @@ use crate::men::{Man, Side, king_of, rook_of};
 use crate::position::Rights;
 use cq_geometry::{Square, rank, square_at};
 
-/// The side to move, which `w` or `b` names (PGN standard, section 16.1.3.2); None for any other text.
+/// The side to move from its letter, `w` or `b` (PGN standard, section 16.1.3.2), or None for any other text.
 pub fn read_side(text: &[u8]) -> Option<Side>
     ensures { SomeIfTrue result (is_side text.now) (side_named text.now) }
 {
@@ -27,7 +27,7 @@ pub fn read_side(text: &[u8]) -> Option<Side>
     }
 }
 
-/// Whether the text is a dash, or one or more letters of `KQkq` (PGN standard, section 16.1.3.3).
+/// Returns true if the text is a dash, or one or more letters of `KQkq` (PGN standard, section 16.1.3.3).
 pub fn is_castling_field(text: &[u8]) -> bool
     ensures { result ≡ fen.is_castling_field text.now }
 {
@@ -59,7 +59,7 @@ fn is_castling_letter(byte: u8) -> bool
         || byte == right_letter(Side::Black, false)
 }
 
-/// The rights to castle that the text's letters name, those whose king and rook stand at home.
+/// The rights to castle that the text's letters name, if king and rook are at home.
 pub fn rights_kept(men: &[Man; 64], text: &[u8]) -> Rights
     ensures value { result ≡ fen.rights_kept men.now text.now }
     ensures stand { board.rights_stand men.now result ≡ true }
@@ -72,7 +72,7 @@ pub fn rights_kept(men: &[Man; 64], text: &[u8]) -> Rights
     }
 }
 
-// Whether the text names a right whose king and rook stand at home.
+// Returns true if the text names a right whose king and rook are at home.
 fn right_counts(men: &[Man; 64], text: &[u8], side: Side, kingside: bool) -> bool
     ensures { result ≡ fen.right_counts men.now text.now side kingside }
 {
@@ -85,7 +85,7 @@ fn has_letter(text: &[u8], letter: u8) -> bool
     text.iter().any(|b| *b == letter)
 }
 
-// Whether king and rook stand at home.
+// Returns true if king and rook are at home.
 fn are_home(men: &[Man; 64], side: Side, kingside: bool) -> bool
     ensures { result ≡ board.are_home men.now side kingside }
 {
@@ -93,14 +93,14 @@ fn are_home(men: &[Man; 64], side: Side, kingside: bool) -> bool
         && holds(men, rook_home(side, kingside), rook_of(side))
 }
 
-// Whether a square holds the man.
+// Returns true if a square has the man.
 fn holds(men: &[Man; 64], square: Square, man: Man) -> bool
     ensures { result ≡ board.stands men.now square man }
 {
     stands_at(men, usize::from(square.number()), man)
 }
 
-// The same of a square's number.
+// Returns true if the square with this number has the man.
 fn stands_at(men: &[Man; 64], at: usize, man: Man) -> bool
     requires { at < 64 }
     ensures { result ≡ board.stands men.now at man }
@@ -117,7 +117,7 @@ fn is_byte_alone(text: &[u8], byte: u8) -> bool
     }
 }
 
-/// Whether the text is a dash or names a square of rank 3 or 6 (PGN standard, section 16.1.3.4).
+/// Returns true if the text is a dash or names a square of rank 3 or 6 (PGN standard, section 16.1.3.4).
 pub fn is_passant_field(text: &[u8]) -> bool
     ensures { result ≡ fen.is_passant_field text.now }
 {
@@ -133,7 +133,7 @@ fn names_passant_square(text: &[u8]) -> bool
     }
 }
 
-/// The en passant square that the text names, where a pawn of the opponent can just have passed it; None else, and for a dash.
+/// The en passant square that the text names, if a pawn of the opponent can just have passed it. Returns None otherwise, and for a dash.
 pub fn passant_kept(men: &[Man; 64], side: Side, text: &[u8]) -> Option<Square>
     requires { fen.is_passant_field text.now ≡ true }
     ensures value { result ≡ fen.passant_kept men.now side text.now }
@@ -150,7 +150,7 @@ pub fn passant_kept(men: &[Man; 64], side: Side, text: &[u8]) -> Option<Square>
     }
 }
 
-// Whether the opponent's pawn can just have passed the square.
+// Returns true if the opponent's pawn can just have passed the square.
 fn was_passed(men: &[Man; 64], side: Side, square: Square) -> bool
     ensures { result ≡ board.was_passed men.now side square }
 {
@@ -161,7 +161,7 @@ fn was_passed(men: &[Man; 64], side: Side, square: Square) -> bool
     }
 }
 
-// Whether a pawn stands on one square, and nothing on the two behind it.
+// Returns true if a pawn is on one square, and the square that it passed and its home square are empty.
 fn has_passed(men: &[Man; 64], pawn: Man, at: usize, passed: usize, home: usize) -> bool
     requires at { at < 64 }
     requires passed { passed < 64 }
@@ -174,7 +174,8 @@ fn has_passed(men: &[Man; 64], pawn: Man, at: usize, passed: usize, home: usize)
         && stands_at(men, home, Man::Empty)
 }
 
-/// The number that 1 to 9 digits write, from 0 to 999,999,999 (PGN standard, sections 16.1.3.5 and 16.1.3.6); None for any other text.
+/// The number that 1 to 9 digits write, from 0 to 999,999,999 (PGN standard, sections 16.1.3.5 and 16.1.3.6). Returns None for any other
+/// text.
 pub fn read_number(text: &[u8]) -> Option<u32>
     ensures { SomeIfTrue result (is_number text.now) (value_of_digits text.now) }
 {
@@ -188,7 +189,7 @@ pub fn read_number(text: &[u8]) -> Option<u32>
     Some(value)
 }
 
-// The number that a digit stands for.
+// The value of a digit.
 fn digit_of(byte: u8) -> Option<u32>
     ensures { SomeIfTrue result (fen.is_digit byte) (byte - digit_zero) }
 {

@@ -14,8 +14,12 @@ use cq_common::{Bytes, NoMemory};
 use cq_geometry::{Square, file, rank};
 use std::alloc::Global;
 
-/// The FEN text of a position: six fields, the halfmove clock 0, the rights in the order `KQkq`, and the en passant square that the
-/// position keeps. It is read as the same position where the number has at most the nine digits that a FEN may have.
+/// The FEN text of a position. It has six fields, the halfmove clock 0, the rights in the order `KQkq`, and the en passant square of the
+/// position. It is read as the same position if the number has at most nine digits, as a FEN allows.
+///
+/// # Errors
+///
+/// Returns `NoMemory` if memory runs out.
 #[tactic(auto, using(crate::proofs::RoundTrip::reads_back))]
 pub fn fen_text(alloc: Global, position: &Position) -> Result<Bytes, NoMemory>
     ensures text { IfOk result (λ text. text ≡ fen_text.fen_of position.now) }
@@ -105,7 +109,7 @@ fn push_next_rank(text: &mut Bytes, row: &[Man]) -> Result<(), NoMemory>
     push_rank(text, row)
 }
 
-// A man after so many empty squares; answers the empty squares not yet written.
+// Writes a man after so many empty squares. Returns the number of empty squares not yet written.
 fn push_man(text: &mut Bytes, empty: u8, man: Man) -> Result<u8, NoMemory>
     requires { empty ≤ 8 }
     ensures text { OnOk result (text.new ≡ text.old ++ fen_text.letter_text empty (letter_of_man man)) }
@@ -119,7 +123,7 @@ fn push_man(text: &mut Bytes, empty: u8, man: Man) -> Result<u8, NoMemory>
     Ok(0)
 }
 
-// The digit of a run of empty squares, if there are some.
+// Writes the digit of a run of empty squares, if there are any.
 fn push_run(text: &mut Bytes, empty: u8) -> Result<(), NoMemory>
     requires { empty ≤ 8 }
     ensures { OnOk result (text.new ≡ text.old ++ fen_text.run_text empty) }
@@ -150,7 +154,7 @@ fn push_rights(text: &mut Bytes, rights: Rights) -> Result<(), NoMemory>
     }
 }
 
-// The letter of a right that is left.
+// Writes the letter of a right if the side has it.
 fn push_letter_if(text: &mut Bytes, right: bool, letter: u8) -> Result<(), NoMemory>
     ensures { OnOk result (text.new ≡ text.old ++ (if right then letter ∷ [] else [])) }
 {

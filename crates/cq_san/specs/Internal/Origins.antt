@@ -1,4 +1,4 @@
--- The squares from which a move comes that agrees with the parts of a text.
+-- The origins of moves that agree with the parts of a text.
 use Rattle.std.specs.Prelude.{ℕ, List, Bool, ◌&&◌, not}
 use Rattle.std.specs.List.{filter}
 use Rattle.cq_geometry.specs.Squares.{squares}
@@ -12,11 +12,11 @@ use Rattle.cq_moves.specs.LegalMoves.{move_of}
 use Rattle.cq_san.specs.declared.parts.PieceMove.{PieceMove}
 use Rattle.cq_san.specs.Fits.{agrees_in_parts}
 
--- the move from a square to the goal that the parts tell
+-- the move from a square to the goal of the parts
 abbrev pub move_from : PieceMove → ℕ → Move
 move_from parts square = move_of square parts.goal parts.promotion
 
--- such a move agrees with the parts, and is legal
+-- true if such a move agrees with the parts and is legal
 abbrev pub is_origin : Board → PieceMove → ℕ → Bool
 is_origin p parts square =
     agrees_in_parts p parts (move_from parts square) && not (is_castling p (move_from parts square))
@@ -25,6 +25,6 @@ is_origin p parts square =
 unfoldable pub origins : Board → PieceMove → List ℕ
 origins p parts = filter (is_origin p parts) squares
 
--- the move by which a side castles
+-- the castling move of a side
 abbrev pub castling_move : Side → Bool → Move
 castling_move side kingside = move_of (king_home side) (castling_goal side kingside) NoPromotion

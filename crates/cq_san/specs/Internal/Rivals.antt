@@ -1,4 +1,4 @@
--- How rivals are found by the squares from which they come.
+-- Rivals by their origins.
 use Rattle.std.specs.Prelude.{ℕ, ◌==◌, Bool, ◌&&◌, not, None}
 use Rattle.cq_geometry.specs.Squares.{file_of, rank_of}
 use Rattle.cq_position.specs.declared.moves.Move.{Move}
@@ -6,7 +6,7 @@ use Rattle.cq_position.specs.Board.{Board, man_at}
 use Rattle.cq_san.specs.declared.parts.PieceMove.{PieceMove}
 use Rattle.cq_san.specs.Writing.{is_rival, piece_of_man}
 
--- a rival from the same file, and one from the same rank
+-- true of a rival from the same file, and of one from the same rank
 abbrev pub on_file : Board → Move → Move → Bool
 on_file p m n = is_rival p m n && (file_of m.from == file_of n.from)
 
@@ -17,7 +17,7 @@ on_rank p m n = is_rival p m n && (rank_of m.from == rank_of n.from)
 abbrev pub without_origin : Board → Move → PieceMove
 without_origin p m = record { piece = piece_of_man (man_at p.men m.from); file = None; rank = None; goal = m.to; promotion = m.promotion }
 
--- another square, one on the same file, and one on the same rank
+-- true of another square, of another square on the same file, and of another square on the same rank
 abbrev pub is_elsewhere : ℕ → ℕ → Bool
 is_elsewhere from other = not (other == from)
 

@@ -5,7 +5,7 @@ use Rattle.cq_geometry.specs.Steps.{ray_from}
 use Rattle.cq_geometry.proofs.Rays.{ray_board, ray_some, ray_none, ray_short}
 use Rattle.cq_geometry.proofs.lines.ray.Goals as goal
 
--- where a ray goes on there is room for one square more
+-- there is room for one square more if the ray goes on
 room : (found rest all : List ℕ) (next : ℕ) (more : List ℕ) → found ++ rest ≡ all → rest ≡ next ∷ more → length all ≤ 7 → length found < 7
 room found rest all next more e f h = grind (arith, common_steps)
 

@@ -2,7 +2,7 @@ use Rattle.std.proofs.Common.{◌≡◌, ◌+◌, ◌≤◌, ◌-◌, length, mi
 use Rattle.std.specs.Io.KnownBytes.{Consumes}
 use Rattle.cq_outside.proofs.read_write.read_up_to.Given as goal
 
--- what was read so far, and that no read failed
+-- the bytes read so far, and that no read failed
 abbrev pub invariant-loop-bytes : goal.invariant-loop-bytes
 invariant-loop-bytes g l =
     let source = g.S.Source in
