@@ -35,7 +35,7 @@ pub markers : tokens_of 0 true (codes "1-0x 1/2-1/2 --- *") ≡ token 0 4 Symbol
 unfolding lexemes_from reading symbol null_move single
 markers = refl
 
--- an escape line stands in the first column alone
+-- an escape line is in the first column alone
 pub escape_lines : tokens_of 0 true (codes "%x y" ++ 10 ∷ codes "a %b" ++ 10 ∷ codes "%c") ≡ token 5 1 Symbol ∷ token 7 1 BadByte ∷ token 8 1 Symbol ∷ []
 unfolding lexemes_from reading escape_line symbol single
 escape_lines = refl
