@@ -17,7 +17,7 @@ pub white_space : cut (codes "  " ++ 13 ∷ 10 ∷ []) ≡ []
 unfolding lexemes_from cut_from
 white_space = refl
 
--- a byte order mark is no part of a game, and the byte after it stands in the first column
+-- a byte order mark is no part of a game, and the byte after it is in the first column
 pub mark_alone : cut byte_order_mark ≡ []
 unfolding lexemes_from cut_from
 mark_alone = refl
