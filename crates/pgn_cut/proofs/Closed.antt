@@ -21,7 +21,8 @@ use Rattle.pgn_cut.specs.Cut.{is_result, marks, is_marker, depth, opens, has_mov
 use Rattle.pgn_cut.specs.Spans.{FinishesAt}
 use Rattle.pgn_cut.specs.declared.span.Span.{Span}
 
--- the games that some lexemes close, where `game` has those before them of the open game, and the lexemes of the game that is open after them
+-- The games that some lexemes close, and the lexemes of the game that is open after them. `game` has the lexemes before
+-- them of the open game.
 closed_by : (game ls : List Lexeme) → List Span
 closed_by game [] = []
 closed_by game (l ∷ ls) =

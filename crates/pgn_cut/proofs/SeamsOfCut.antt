@@ -42,8 +42,8 @@ pub record BeforePair (to : ℕ) (post : List Lexeme) : Type 0 where
 abbrev pub Ends : (place to : ℕ) → List Lexeme → List Lexeme → Type 0
 Ends place to pre post = WithMarker to pre ⊎ (BeforePair to post ⊎ (to ≡ place))
 
--- The lexemes of a cut are split after a game: those before the seam close the games up to that one, and those after it are cut into the
--- games after it.
+-- The lexemes of a cut are split after a game. Those before the seam close the games up to that one, and those after it
+-- are cut into the games after it.
 pub record Split (from place : ℕ) (game rest : List Lexeme) (before : List Span) (g : Span) (after : List Span) : Type 0 where
   pub pre : List Lexeme
   pub post : List Lexeme

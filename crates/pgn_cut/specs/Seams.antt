@@ -11,8 +11,8 @@ use Rattle.pgn_cut.specs.declared.span.Span.{Span}
 abbrev pub moved_token : ℕ → Token → Token
 moved_token n t = record { at = t.at + n; len = t.len; kind = t.kind }
 
--- A game of an archive is one of another, n bytes further on: its bytes have the same places, and its tokens are the
--- same. The column of its first byte may differ.
+-- A game of an archive is one of another, n bytes further on, with the same tokens there. The column of its first byte
+-- may differ.
 pub record IsMovedGame (n : ℕ) (here there : List ℕ) (game moved : Span) : Type 0 where
   pub starts : moved.start ≡ game.start + n
   pub ends : moved.end ≡ game.end + n

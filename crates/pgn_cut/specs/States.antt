@@ -136,7 +136,7 @@ pub record Stays (s : State) (b : ℕ) : Type 0 where
   pub some : s ≡ Between → ⊥
   pub no_mark : is_in_mark s ≡ false
 
--- what is open ends before these bytes: there are none, or the first doesn't belong to it
+-- an open lexeme ends before these bytes: there are none, or the first doesn't belong to it
 abbrev pub EndsBefore : State → List ℕ → Type 0
 EndsBefore s [] = Unit {0}
 EndsBefore s (b ∷ bs) = takes s b ≡ false

@@ -50,8 +50,8 @@ pub record IsBetween (c : Cutter) (place : ℕ) (column : Bool) : Type 0 where
   pub place_ : c.place ≡ place
   pub column_ : c.column ≡ column
 
--- What is open ends here: a game may be closed. The cut continues with the bytes that follow, if they are no part
--- of what was open.
+-- An open lexeme ends here: a game may be closed. The cut continues with the bytes that follow, if they are no part of
+-- the lexeme or mark that was open.
 pub record IsEnded (c : Cutter) (games : Option Span) (was : State) (fed : List ℕ) : Type 0 where
   pub kept : List Lexeme
   pub game : c.game ≡ progress_of kept

@@ -261,7 +261,7 @@ last_unsettled b bs at first dark reaches grows_ =
       unsettled = (dark, omega arith, grows_);
     }
 
--- no lexeme of the rest crosses the ends of the first one, by its place
+-- a front that begins with a lexeme settles it, or leaves it open as its last one
 first_settles : (b : ℕ) (bs : List ℕ) (at : ℕ) (first : Bool) → is_white b ≡ false → SettlesFrom bs ((reading first b bs).len - 1) (at + 1) (ends_line b) → SettlesFrom (b ∷ bs) 0 at first
 first_settles b bs at first dark rest =
     let within = reading_within first b bs in
