@@ -1,4 +1,4 @@
--- What is read is told.
+-- The tokens that are read have their meaning.
 use Rattle.std.proofs.Common.{◌≡◌, ℕ, ◌+◌, ◌<◌, List, [], ◌∷◌, ◌++◌, length, Some, Ok, Bool, true, false, cond, refl, sym, ap, ◌∙◌, subst, arith, append_assoc}
 use Rattle.std.specs.Prelude.{count_by, ◌&&◌}
 use Rattle.std.specs.List.{list_all}
@@ -24,7 +24,7 @@ pub text_longer : (b : OpenLines) (m : Line) → open_lines_text (longer b m) �
 text_longer (outermost l) m = text_then l m
 text_longer (within b o l) m = ap (λ x. open_lines_text b ++ o ∷ x) (text_then l m) ∙ sym (append_assoc (open_lines_text b) (o ∷ text l) (text m))
 
--- what has begun leads to the lines that are open
+-- the open lines as the reader has them
 abbrev pub Stack : Board → OpenLines → Frame → List Frame → Type 0
 Stack start (outermost l) f [] = (t : LineTail) × ParsesLine 0 (beginning start) l t × (t.end ≡ place f)
 Stack start (outermost l) f (g ∷ k) = ⊥
@@ -33,7 +33,7 @@ Stack start (within b o l) f (g ∷ k) =
     Stack start b g k × (p : Board) × (g.before ≡ Some p) × (length k < 100) × (sense o ≡ opens)
     × (t : LineTail) × ParsesLine (length k + 1) (beginning p) l t × (t.end ≡ place f)
 
--- what a state in the movetext shows of the tokens
+-- the tokens of a state in the movetext
 pub record Shown (ts : List Word) (h : Head) (f : Frame) (k : List Frame) : Type 0 where
   pub pairs : List Pair
   pub has_heading : HasHeading pairs h.tags h.start
@@ -74,7 +74,7 @@ and_true false = refl
 pub same_moves : (h : Head) → h.moves ≡ h.moves + 0
 same_moves h = omega arith
 
--- what stands in the movetext after some tokens more
+-- the tokens of a state in the movetext after some more tokens
 pub shown_on : (ts more : List Word) (h j : Head) (f g : Frame) (k c : List Frame) (state_of : Shown ts h f k) (b : OpenLines)
     → open_lines_text b ≡ open_lines_text state_of.begun ++ more → Stack h.start b g c → j.tags ≡ h.tags → j.start ≡ h.start
     → j.moves ≡ h.moves + count_by is_move more → j.heading ≡ (h.heading && list_all is_comment more) → Shown (ts ++ more) j g c

@@ -1,4 +1,4 @@
--- Outcomes of bytes that stand elsewhere, and of the first bytes of a game.
+-- Outcomes of bytes at another place, and of the first bytes of a game.
 use Rattle.std.proofs.Common.{◌≡◌, ◌⊎◌, ◌↔◌, ℕ, ◌+◌, ◌<◌, ◌≤◌, inl, inr, List, length, take, map, Option, Some, None, Result, Ok, Err, Bool, refl, sym, ap, ap₂, ◌∙◌, subst, arith}
 use Rattle.std.specs.Prelude.{slice_get}
 use Rattle.std.specs.Option.{option_map}

@@ -1,4 +1,4 @@
--- What a line tells is what is read of its tokens.
+-- The meaning of a line is the reading of its tokens.
 use Rattle.std.proofs.Common.{◌≡◌, ℕ, ◌+◌, ◌<◌, List, [], ◌∷◌, ◌++◌, length, Option, Some, None, Bool, true, false, refl, sym, ap, ap₂, ◌∙◌, subst, arith, append_assoc, append-nil}
 use Rattle.std.proofs.Common.{cond}
 use Rattle.std.proofs.lemmas.List.Sums.{sum_by-append}
@@ -297,7 +297,7 @@ variation_grown h i j o c inner rest opening closing a b = record {
   heading = b.heading ∙ sym (and-false h.heading) ∙ ap (λ s. h.heading && (is_remark s && list_all is_comment (inner ++ c ∷ rest))) (sym opening);
 }
 
--- what a line tells is what is read of its tokens, whatever lines are open around it
+-- the meaning of a line is the reading of its tokens, whatever lines are open around it
 pub told_is_read : (l : Line) (h : Head) (f : Frame) (k : List Frame) (d : ℕ) (t : LineTail) → d ≡ length k → ParsesLine d (place f) l t → Reads h f k (text l) t
 told_is_read nothing h f k d t deep told = record {
   head = h;
