@@ -1,4 +1,4 @@
--- The words of the movetext tell the tokens of its line.
+-- The words of the movetext mean the tokens of its line.
 use Rattle.std.proofs.Common.{◌≡◌, ℕ, ◌<◌, Bool, true, false, List, [], ◌∷◌, ◌++◌, length, refl, sym, ap, ◌∙◌, subst, arith, append_assoc, append-nil, length-append}
 use Rattle.std.specs.Prelude.{map, codes, decimal, if◌then◌else◌}
 use Rattle.std.specs.List.{AllByRecursion, flat_map}
