@@ -168,7 +168,7 @@ variation_short p x low true is =
 variation_short p x low false is =
     subst (λ b. weight (variation_words p (if b then played (ply_drawn p (next x)) none none else none)) ≤ 18) (sym is) (omega arith)
 
--- a line of so many plies
+-- a line of n plies
 line_short : (n : ℕ) (p : Board) (x : ℕ) (due : Bool) → p.number + n < 100 → weight (line_words p due (line n p x).moves) ≤ 34 * n
 unfolding line line_words ply_drawn
 line_short zero p x due low = omega arith

@@ -24,7 +24,7 @@ use Rattle.pgn_batches.proofs.Given.{all_batches, full_each, given, given_begins
 use Rattle.pgn_batches.proofs.Reached.{Moved, Needed, Place, Reached, Turned, moved, moved_to, needed_on, no_reads, place_of, turned}
 use Rattle.pgn_batches.proofs.Streams.{count_within}
 
--- so many games were taken: those of the batches given
+-- the number of games visited: those of the batches given
 pub record Rounds (place : Place) (Taken : KeptGames → Type 0) (count : ℕ) : Type 0 where
   pub front : List ℕ
   pub m : ℕ

@@ -44,7 +44,7 @@ choice_splits : (place : ℕ) (rest : List Lexeme) (t : Bool) (a b closed_a clos
 choice_splits place rest true a b ca cb oa ob is_a is_b = is_a
 choice_splits place rest false a b ca cb oa ob is_a is_b = is_b
 
--- a cut goes on after the games that its first lexemes close
+-- a cut continues after the games that its first lexemes close
 cut_splits : (place : ℕ) (game ls rest : List Lexeme) → cut_from place game (ls ++ rest) ≡ closed_by game ls ++ cut_from place (open_by game ls) rest
 unfolding cut_from closed_by open_by
 cut_splits place game [] rest = refl
@@ -222,7 +222,7 @@ all_push : {A : Type 0} (P : A → Type 0) (xs : List A) (y : A) → AllByRecurs
 all_push P [] y all last = (last, tt)
 all_push P (x ∷ xs) y all last = (all.0, all_push P xs y all.1 last)
 
--- a symbol goes on with x
+-- x continues a symbol
 symbol_grows : (first : Bool) (text : List ℕ) → IsLexeme first (Token Symbol) text → IsLexeme first (Token Symbol) (text ++ 120 ∷ [])
 symbol_grows first text is = (is.0, is.1 ++ 120 ∷ [], ap (λ t. t ++ 120 ∷ []) is.2, is.3, all_push (λ c. continues_symbol c ≡ true) is.1 120 is.4 refl)
 

@@ -40,7 +40,7 @@ from_less : (a b : ℕ) (ls : List Lexeme) → a ≤ b → InOrder b ls → InOr
 from_less a b [] le order = tt
 from_less a b (l ∷ ls) le order = let h = order.0 in (omega arith, order.1, order.2)
 
--- a game of some lexemes goes on with lexemes from a place on
+-- a game of some lexemes continues with lexemes from a place on
 open_first : (place from : ℕ) (g : Lexeme) (gs rest : List Lexeme) → InOrder from rest → AllByRecursion (λ l. end l ≤ place) rest → Opens g.at from (cut_from place (g ∷ gs) rest)
 unfolding cut_from Begins Opens
 open_first place from g gs [] order ends = of_both (Opens g.at from) (list_all (λ l. is_passed_over l.kind) (g ∷ gs)) [] (span_to place (g ∷ gs)) tt (refl, tt)

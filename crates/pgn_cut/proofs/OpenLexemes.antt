@@ -312,7 +312,7 @@ module _ (follow : LexemesFollow) (alone : StandsAlone) (before : StaysBefore) w
         ∙ ap (λ col. (record { at = at; first = first; text = b ∷ bs; kind = read }) ∷ lexemes (at + n) col rest) (column_in first b bs rest);
   }
 
-  -- by the grammar, where the bytes before which it ends don't go on with it
+  -- by the grammar, if the bytes before which it ends don't continue it
   by_grammar : (first : Bool) (bytes : List ℕ) (asked kind : LexemeKind) (marker : Bool) (Before : List ℕ → Type 0) → IsLexeme first kind bytes → 0 < length bytes → (kind ≡ Token BadByte → ⊥)
       → AreAlike asked kind → marker ≡ marks kind bytes → ((rest : List ℕ) → Before rest → IsEndedBy kind rest) → IsOneLexeme first bytes asked marker Before
   by_grammar first [] asked kind marker Before is some no_ alike marked ends = absurd (omega (arith, some))

@@ -24,7 +24,7 @@ use Rattle.pgn_cut.proofs.Runs.{run_column}
 use Rattle.pgn_cut.proofs.Streams.{Closes, WhiteIsPassed}
 use Rattle.pgn_cut.proofs.WordRuns.{IsQuiet, start_stays, more_stays, quiet_all, quiet_cut, cut_on, white_read, words_between, passed_in}
 
--- An opening or a closing bracket, by what it says of an open tag pair.
+-- An opening or a closing bracket, by the open tag pair after it.
 
 record IsBracket (open_ : Bool) (l : Lexeme) : Type 0 where
   nests : (d : ℕ) → nest d l.kind ≡ d
@@ -222,7 +222,7 @@ take_one : (xs : List ℕ) (b : ℕ) → 0 < length xs → get_or xs 0 0 ≡ b �
 take_one [] b some is = absurd (omega (arith, some))
 take_one (x ∷ xs) b some is = ap (λ c. c ∷ []) is
 
--- the column after a part of some bytes is told by its last one
+-- the column after a part of some bytes depends on its last one
 column_after : (first : Bool) (bytes : List ℕ) (at n : ℕ) → 0 < n → at + n ≤ length bytes
     → first_at first (take n (drop at bytes)) (length (take n (drop at bytes))) ≡ (get_or bytes (at + n - 1) 0 == 10)
 column_after first bytes at n some fits =

@@ -35,7 +35,7 @@ abbrev pub StandsNext : Type 0
 StandsNext = (at : ℕ) (first : Bool) (kind : LexemeKind) (b : ℕ) (bs more : List ℕ) → IsReadWhole first kind b bs → IsEndedBy kind more
     → lexemes at first (b ∷ bs ++ more) ≡ record { at = at; first = first; text = b ∷ bs; kind = kind } ∷ lexemes (at + length (b ∷ bs)) (first_at first (b ∷ bs) (length (b ∷ bs))) more
 
--- white space ends every lexeme that doesn't go on over it
+-- white space ends every lexeme that doesn't continue over it
 abbrev pub WhiteEnds : Type 0
 WhiteEnds = (kind : LexemeKind) (b : ℕ) → is_white b ≡ true → runs_on kind ≡ false → goes_on_kind kind b ≡ false
 

@@ -180,7 +180,7 @@ ends_between c fed t between =
           ∙ ap₂ (λ g l. g ++ cut_from (length fed + length rest) t.kept (lexemes c.at c.first (l ++ rest))) (sym (append-nil (closed fed))) none;
     }
 
--- the byte after what ended, and after what goes on
+-- the byte after an ended lexeme, and after one that continues
 pub ready_ended : (c : Cutter) (closed_ : Option Span) (s : State) (fed : List ℕ) (b : ℕ) → IsEnded c closed_ s fed → takes s b ≡ false → IsReady c fed b (closed fed ++ option_to_list closed_)
 ready_ended c closed_ s fed b e other =
     let at_is = e.between.at in

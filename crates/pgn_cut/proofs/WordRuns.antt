@@ -213,7 +213,7 @@ module _ (ends : LexemesEnd) (alone : StandAlone) (white : WhiteIsPassed) where
       (λ dark. alone_byte at first b bs dark (quiet_byte first b (sym (ap₂ (λ w a. w || a || list_any (λ c. b == c) (codes "._+#=:")) dark other) ∙ plain)) r)
       (cases_Bool (is_white b))
 
-  -- the symbol goes on
+  -- the symbol continues
   further : (at : ℕ) (first : Bool) (o : List ℕ) (b : ℕ) (bs : List ℕ) → Reads at first (o ++ b ∷ []) bs → Reads at first o (b ∷ bs)
   further at first o b bs r =
       let size = length-append o (b ∷ []) in

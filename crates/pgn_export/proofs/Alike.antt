@@ -61,7 +61,7 @@ tells_alike depth v w a b u t (inl same) tells = subst (λ x. ParsesWord depth a
 tells_alike depth v w a b u t (inr r) tells =
     subst (λ s. ParsesWord depth a s b u t) (sym r.one_is) (remark_same depth a b r.one r.other u t r.same (subst (λ s. ParsesWord depth a s b u t) r.other_is tells))
 
--- so tokens that are like those of a line are those of a line that tells the same
+-- so tokens that are like those of a line are those of a line with the same meaning
 pub record LikeLine (depth : ℕ) (a : LinePlace) (us : List Word) (t : LineTail) : Type 0 where
   pub line : Line
   pub is : us ≡ text line

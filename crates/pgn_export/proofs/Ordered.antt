@@ -205,7 +205,7 @@ written_as_they_are g normal =
     ∙ seven_written s.one s.two s.three s.four s.five s.six s.seven (drop 7 g.tags) normal.order.others normal.order.sorted
     (subst (λ tags. (value : List ℕ) → tag_value (codes "FEN") tags ≡ Some value → tag_value (codes "SetUp") tags ≡ Some (codes "1")) s.is normal.set_up))
 
--- and pairs with distinct names are the tags that they tell
+-- and pairs with distinct names are their own tags
 pub absent : (name : List ℕ) (tags : List Tag) → ((i : ℕ) → i < length tags → (tag_at tags i).0 ≢ name) → is_some (tag_value name tags) ≡ false
 absent name [] differ = refl
 absent name (t ∷ ts) differ = by_name (bytes_eq name t.0) refl (absent name ts (λ i h. differ (suc i) (omega (arith, h))))

@@ -28,7 +28,7 @@ word_if (Token kind) text = (record { kind = kind; text = text }) ∷ []
 abbrev pub word_in : Lexeme → List Word
 word_in l = word_if l.kind l.text
 
--- the tokens of a text; `first` says whether it begins in the first column
+-- the tokens of a text; `first` is true if it begins in the first column
 unfoldable pub told : Bool → List ℕ → List Word
 told first bytes = flat_map word_in (lexemes 0 first bytes)
 

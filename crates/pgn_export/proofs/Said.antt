@@ -149,7 +149,7 @@ marker_sense BlackWon = refl
 marker_sense Draw = refl
 marker_sense Undecided = refl
 
--- words in lines, with an empty line after them, are read as tokens like those that they tell
+-- words in lines, with an empty line after them, are read as tokens like those that they mean
 pub record AreRead (first : Bool) (ws : List (List ℕ)) (vs : List Word) : Type 0 where
   pub words : List Word
   pub is : told first (lines ws ++ 10 ∷ []) ≡ words

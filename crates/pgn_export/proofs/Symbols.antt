@@ -31,7 +31,7 @@ use Rattle.cq_san.proofs.Room.{on_board, parts_on_board}
 use Rattle.pgn_lexer.specs.Bytes.{continues_symbol}
 use Rattle.pgn_reader.specs.Words.{result_of_text, sense_of_symbol, sense_of_marker, plays, means_nothing}
 
--- each byte goes on with a symbol, and the first, if there is one, begins one
+-- each byte continues a symbol, and the first, if there is one, begins one
 abbrev Goes : List ℕ → Type 0
 Goes text = AllByRecursion (λ c. continues_symbol c ≡ true) text
 

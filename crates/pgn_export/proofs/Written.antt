@@ -228,7 +228,7 @@ levels_later : (m : Played) (next others : Continuations) → levels_beside othe
 unfolding levels_beside
 levels_later m next others = omega arith
 
--- the line that is written tells what is played
+-- the meaning of the written line is the moves played
 mutual
   unfolding line_of variations_of AreKept Follows end_of
 

@@ -60,7 +60,7 @@ by_first false b p bs first more =
     let one : suc p ≡ 1 + p = omega arith in
     subst (λ n. body_len false (b ∷ bs) ≡ n + body_len false (drop n (b ∷ bs))) one here
 
--- a body goes on over all the bytes before the first special one
+-- a body continues over all the bytes before the first special one
 pub plain_front : (rest : List ℕ) → body_len false rest ≡ position_or_len is_special rest + body_len false (drop (position_or_len is_special rest) rest)
 unfolding body_len
 plain_front [] = refl

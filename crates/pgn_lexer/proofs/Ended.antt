@@ -23,7 +23,7 @@ use Rattle.pgn_lexer.proofs.Longest.{is_longest}
 use Rattle.pgn_lexer.proofs.Settled.{lexeme_front, unfinished_front, grows}
 use Rattle.pgn_lexer.proofs.Walk.{over_lexeme}
 
--- white space goes on with no symbol and no number
+-- white space continues no symbol and no number
 white_never : (t : ℕ → Bool) (b : ℕ) → ((c : ℕ) → c < 33 → (is_white c && t c) ≡ false) → is_white b ≡ true → t b ≡ false
 white_never t b never white =
     let small : b < 33 = grind (arith, nat_tests) in

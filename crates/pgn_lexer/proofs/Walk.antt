@@ -18,7 +18,7 @@ first_at-drop first bytes p (suc k) =
     let e : p + suc k ≡ suc (p + k) = omega arith in
     ap ends_line (get_or-drop p bytes k 0) ∙ ap (first_at first bytes) (sym e)
 
--- after the first byte the column is told by that
+-- after the first byte the column depends on that byte
 pub first_at-cons : (first : Bool) (b : ℕ) (bs : List ℕ) (n : ℕ) → first_at first (b ∷ bs) (suc n) ≡ first_at (ends_line b) bs n
 first_at-cons first b bs zero = refl
 first_at-cons first b bs (suc n) = refl

@@ -41,7 +41,7 @@ pub fn continues_symbol(b: u8) -> bool
     CONTINUES_SYMBOL[b as usize]
 }
 
-// A token of so many bytes.
+// A token of `len` bytes.
 fn token(kind: TokenKind, len: usize) -> Reading
     ensures { result ≡ token kind len }
 {

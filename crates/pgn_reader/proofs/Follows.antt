@@ -91,7 +91,7 @@ none_follows : (p : Board) → Follows p none
 unfolding Follows
 none_follows p = tt
 
--- a token, before what is told after it
+-- a token, before the meaning of the tokens after it
 followed_word : (depth : ℕ) (a b : LinePlace) (s : Sense) (u t : LineTail) → IsSound a → ParsesWord depth a s b u t → (IsSound b → Followed b u) → Followed a t
 followed_word depth a b (plays m) u t sound (move, means, to, is) after =
     let led : Led a.reached move = meant_leads a.reached m move sound.reached means in

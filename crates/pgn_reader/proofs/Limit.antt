@@ -28,7 +28,7 @@ use Rattle.pgn_reader.proofs.Read.{feed_is}
 use Rattle.pgn_reader.proofs.Verdicts.{Passes, step_passes}
 use Rattle.pgn_reader.proofs.Whole.{IsEnd}
 
--- the movetext was reached, with so many moves at least
+-- the movetext was reached, with at least this number of moves
 pub AtLeast : ℕ → State → Type 0
 AtLeast n (at h f k) = (h.heading ≡ false) × (n ≤ h.moves)
 AtLeast n (ended h f r) = n ≤ h.moves
@@ -179,7 +179,7 @@ word_never : (w : Word) → sense w ≡ out_of_place TooManyPositions → ⊥
 unfolding sense
 word_never w e = no_sense w.kind w.text e
 
--- the limit is passed at a move, after so many
+-- the limit is exceeded at a move, after the largest number of moves
 record PassesLimit (moves : ℕ) (a : LinePlace) (s : Sense) : Type 0 where
   text : List ℕ
   move : Move

@@ -15,7 +15,7 @@ use Rattle.pgn_reader.specs.Internal.Machine.{Head}
 use Rattle.pgn_reader.proofs.Read.{counted_word}
 use Rattle.pgn_reader.proofs.Then.{then, text_then, end_same, Longer, tells_then}
 
--- the innermost line of what has begun goes on
+-- the innermost of the open lines continues
 abbrev pub longer : OpenLines → Line → OpenLines
 longer (outermost l) m = outermost (then l m)
 longer (within b o l) m = within b o (then l m)
@@ -43,7 +43,7 @@ pub record Shown (ts : List Word) (h : Head) (f : Frame) (k : List Frame) : Type
   pub moves : h.moves ≡ count_by is_move (open_lines_text begun)
   pub heading : h.heading ≡ list_all is_comment (open_lines_text begun)
 
--- the line goes on from one place to another
+-- the line continues from one place to another
 pub stack_on : (start : Board) (b : OpenLines) (f g : Frame) (k : List Frame) (m : Line) (u : LineTail) → Stack start b f k
     → ((d : ℕ) → d ≡ length k → ParsesLine d (place f) m u) → u.end ≡ place g → Stack start (longer b m) g k
 stack_on start (outermost l) f g [] m u (t, tells, end) more to =

@@ -123,7 +123,7 @@ next_joined now next t word rest is grown =
 pub all_joined : (now all t : List ℕ) → words t ≡ [] → now ++ left t ≡ all → now ≡ all
 all_joined now all t none is = sym (append-nil now) ∙ ap (λ x. now ++ x) (sym (none_left t none)) ∙ is
 
--- a text that begins with another goes on doing so
+-- a text that begins with another still does so when it grows
 pub begins_on : (front text more : List ℕ) → Begins front text → Begins text more → Begins front more
 begins_on front text more a b = (a.0 ++ b.0, b.1 ∙ ap (λ x. x ++ b.0) a.1 ∙ append_assoc front a.0 b.0)
 
