@@ -45,8 +45,8 @@ pub record IsViewOf (look : LexemeView) (l : Lexeme) : Type 0 where
   pub alike : AreAlike look.kind l.kind
   pub marker : look.marker ≡ is_marker l
 
--- A step over a lexeme is a step of the cut. For any lexemes that the state before represents, the state after
--- represents some lexemes too. The games of what follows are the same, except the one that was closed.
+-- A step over a lexeme is a step of the cut. If the state before represents the lexemes `game`, the state after
+-- represents the lexemes `kept`. The games of what follows are the same, except the one that was closed.
 pub record IsStepOfCut (now : OpenGame) (closed : Option Span) (l : Lexeme) (game : List Lexeme) : Type 0 where
   pub kept : List Lexeme
   pub stands : now ≡ progress_of kept

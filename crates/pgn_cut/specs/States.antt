@@ -158,7 +158,7 @@ pub record IsOneLexeme (first : Bool) (bytes : List ℕ) (kind : LexemeKind) (ma
       ≡ record { at = at; first = first; text = bytes; kind = read }
       ∷ lexemes (at + length bytes) (first_at first bytes (length bytes)) rest
 
--- An open lexeme ends before certain bytes, by a kind that a cut takes for this one. It also ends at the archive's end,
--- and more bytes may continue it.
+-- An open lexeme ends before certain bytes, by a kind that a cut takes for this one. At the archive's end it is
+-- unsettled: it ends there, but more bytes might continue it.
 abbrev pub EndsAs : (first : Bool) (bytes : List ℕ) (kind : LexemeKind) (marker : Bool) (Before : List ℕ → Type 0) → Type 0
 EndsAs first bytes kind marker Before = IsOneLexeme first bytes kind marker Before × IsUnsettled first bytes

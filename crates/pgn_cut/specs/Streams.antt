@@ -60,7 +60,7 @@ pub record IsEnded (c : Cutter) (games : Option Span) (was : State) (fed : List 
   pub cuts : (rest : List ℕ) → EndsBefore was rest → cut (fed ++ rest)
       ≡ (closed fed ++ option_to_list games) ++ cut_from (length fed + length rest) kept (lexemes c.at c.first rest)
 
--- The next byte belongs to what is open, and the bytes before it and itself close these games.
+-- The next byte belongs to what is open. With that byte these games are closed.
 pub record IsReady (c : Cutter) (fed : List ℕ) (b : ℕ) (games : List Span) : Type 0 where
   pub kept : List Lexeme
   pub bytes : List ℕ

@@ -44,7 +44,7 @@ pub struct Cutter {
 
 impl Shared for Cutter {}
 
-// A byte of a byte order mark that is incomplete.
+// A bad byte: a byte of an incomplete byte order mark.
 fn bad_byte(at: u64) -> LexemeView
     requires { at < 2 ^ 62 }
     ensures { result ≡ record { at = at; end = at + 1; first = at == 0; kind = Token BadByte; marker = false } }

@@ -21,7 +21,7 @@ pub fn markers_end_games()
 }
 
 /// The games after a seam are read as before. The archive splits after a game, and the rest is cut with one space
-/// before it. Each game there is the same, or has the same fault, as many bytes further on.
+/// before it. Each game there is the same, or has the same fault, moved with the game.
 pub fn split_games_are_read_alike()
     ensures { (archive : List ℕ) (before : List ASpan) (game : ASpan) (after : List ASpan) → cut archive ≡ before ++ game ∷ after →
         AreReadAlike (game.end - 1) (spaced_rest archive game.end) archive (cut (spaced_rest archive game.end)) after }

@@ -26,7 +26,7 @@ pub fn lexemes_stand_apart()
         AllByRecursion (StandsIn start first bytes) (lexemes start first bytes) }
 {}
 
-/// The lexemes of a part of a text are those of the text within that part, where no lexeme crosses the part's ends.
+/// The lexemes of a part of a text are those of the text within that part, if no lexeme crosses the part's ends.
 pub fn lexemes_are_local()
     ensures { (start : ℕ) (first : Bool) (bytes : List ℕ) (from to : ℕ) →
         IsUncrossed (start + from) (lexemes start first bytes) → IsUncrossed (start + to) (lexemes start first bytes) →

@@ -59,7 +59,7 @@ pub record HasHeading (pairs : List Pair) (tags : Tags) (start : Board) : Type 0
   pub are_tags : tags ≡ tags_of pairs
   pub starts : start_of tags ≡ Ok start
 
--- within a tag pair, of which some tokens come there
+-- within a tag pair, of which `part` has the tokens so far
 pub record InPair (ts : List Word) (tags : Tags) (part : List Word) : Type 0 where
   pub pairs : List Pair
   pub start : Board

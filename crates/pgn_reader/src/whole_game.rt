@@ -56,9 +56,9 @@ fn into_game(alloc: Global, reader: Reader) -> Result<Game, NoMemory>
 
 /// Returns the game that the bytes spell (PGN standard, sections 8.1 and 8.2).
 ///
-/// `start` is the place of the first byte in the archive, from which the fault's byte counts. `first` is true if that
-/// byte is in the first column. Bytes that spell a game spell no other. Its nodes are in preorder: a move, the moves
-/// played after it, and then the variations that replace it.
+/// `start` is the place of the first byte in the archive, from which the place of a fault counts. `first` is true
+/// if that byte is in the first column. Bytes that spell a game spell no other. The nodes of the game are in preorder:
+/// a move, the moves played after it, and then the variations that replace it.
 ///
 /// # Errors
 ///
