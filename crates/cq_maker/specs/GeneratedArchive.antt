@@ -24,7 +24,7 @@ won_by Black = BlackWon
 unfoldable pub ending : Board → GameResult
 ending p = if is_over p then (if in_check p.men p.side then won_by (opponent p.side) else Draw) else Undecided
 
--- a number of plies from 20 to 79 is drawn, and then a line of at most that number, from the initial array
+-- a number of plies from 20 to 79 is drawn, and then a line of at most that many plies, from the initial array
 unfoldable pub generated_line : ℕ → Line
 generated_line x = line (20 + drawn x 60) start_board (next x)
 

@@ -12,8 +12,7 @@ size_of games = sum_by (λ g. length g.bytes) games
 abbrev pub most_games : ℕ
 most_games = 1024
 
--- `games` games, of which `bytes` bytes are kept, fill a batch: its number of games is reached, or the largest size of
--- one game
+-- `games` games, of which `bytes` bytes are kept, fill a batch: 1,024 games, or as many bytes as one game may have
 unfoldable pub full_at : (games bytes : ℕ) → Bool
 full_at games bytes = nat_le most_games games || nat_le longest bytes
 

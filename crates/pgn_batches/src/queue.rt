@@ -15,8 +15,7 @@ use std::mem;
 /// The number of games that fill a batch.
 const MOST_GAMES: usize = 1024;
 
-/// True if `games` games of `bytes` bytes together fill a batch: its number of games is reached, or the largest size of
-/// one game.
+/// True if `games` games of `bytes` bytes together fill a batch: 1,024 games, or as many bytes as one game may have.
 #[tactic(auto, unfolding(crate::specs::Batching::full_at))]
 fn is_full(games: usize, bytes: u64) -> bool
     ensures { result ≡ full_at games bytes }

@@ -13,7 +13,7 @@ use std::alloc::Global;
 
 /// A visitor of the batches of an archive, one after the other, which writes to two sinks.
 pub trait BatchVisitor<O, E> {
-    /// The reason to stop before the last batch.
+    /// The reason to stop at a batch.
     type Stop;
 
     /// From the first moment to the second, these games were visited, from an archive's first one on.
@@ -37,7 +37,7 @@ pub trait BatchVisitor<O, E> {
 pub enum VisitEnd<X> {
     /// All batches were visited; the archive has this number of games.
     All(u64),
-    /// The visitor stopped before the last batch, for this reason.
+    /// The visitor stopped at a batch, for this reason.
     Early(X),
 }
 
