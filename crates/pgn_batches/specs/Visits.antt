@@ -42,9 +42,9 @@ pub record ReadsAll (limit : ℕ) (left left_after : Option (List ℕ)) (archive
   pub within : length archive ≤ limit
   pub at_end : IsAtEnd left_after
 
--- Some bytes were read. These games and those of the next batch are the first ones of the full batches of the bytes, or
--- of the whole archive if it was read to its end. No read was made for other games. These games include all full
--- batches of the bytes, less as many bytes at their end as one read can give.
+-- Some bytes were read. These games and those of the next batch are the first ones of the full batches of the bytes. If
+-- the archive was read to its end, they may also be the first ones of all its games. No read was made for other games.
+-- These games include all full batches of the bytes, less as many bytes at their end as one read can give.
 pub record Gives (limit : ℕ) (left left_after : Option (List ℕ)) (games batch : KeptGames) : Type 0 where
   pub front : List ℕ
   pub reads : Reads limit left left_after front

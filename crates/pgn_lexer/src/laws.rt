@@ -65,7 +65,7 @@ pub fn tokens_stand_apart()
         All (IsTokenOf start bytes) (tokens_of start first bytes) }
 {}
 
-/// White space gives no lexeme: those of a text are those of what follows its white space.
+/// White space gives no lexeme: the lexemes of a text are those of the rest after its white space.
 pub fn white_space_is_passed()
     ensures none { (at : ℕ) (first : Bool) → lexemes at first [] ≡ [] }
     ensures one { (at : ℕ) (first : Bool) (b : ℕ) (bs : List ℕ) → is_white b ≡ true →
