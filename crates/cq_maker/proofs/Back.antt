@@ -1,4 +1,4 @@
--- Each game of a made archive is read back from its text.
+-- Each game of a generated archive is read back from its text.
 use Rattle.std.proofs.Common.{◌≡◌, ℕ, zero, suc, ◌+◌, ◌<◌, ◌≤◌, Bool, true, false, [], ◌∷◌, ◌++◌, None, Ok, refl, sym, subst, arith, add-one}
 use Rattle.std.specs.Prelude.{codes, decimal, if◌then◌else◌}
 use Rattle.std.specs.List.{All, AllByRecursion}

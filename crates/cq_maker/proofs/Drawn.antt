@@ -1,4 +1,4 @@
--- What is drawn: legal moves, so that those of a game follow one another.
+-- Drawn moves are legal, so that those of a game follow one another.
 use Rattle.std.proofs.Common.{◌≡◌, ℕ, zero, suc, ◌+◌, ◌/◌, ◌^◌, ◌<◌, ◌≤◌, Bool, true, false, List, length, get_or, Some, inl, refl, sym, ap, ap₂, ◌∙◌, subst, arith, add-one}
 use Rattle.std.proofs.lemmas.Bool.{ne_eqb}
 use Rattle.std.proofs.lemmas.List.{get_or_default}
@@ -90,7 +90,7 @@ line_small (suc n) p x = by_end (line_small n (after p (move_drawn p x)) (after_
         let small = variation_small p (next x) (has_variation (next x)) refl in
         subst (λ l. size l.moves ≤ suc n + suc n) (sym (line_step (suc n) n p x over (sym (add-one n)))) (omega (arith, rest, small))
 
--- what a call draws
+-- the move that a call draws
 pub is_drawn : (p : Board) (x : ℕ) (moves : List Move) (i : ℕ) (m : Move) → 0 < length moves → moves ≡ legal_list p → i ≡ drawn x (length moves) → m ≡ get_or moves i m → m ≡ move_drawn p x
 unfolding move_drawn
 is_drawn p x moves i m some_ same at is =
@@ -110,7 +110,7 @@ pub ply_position : (parent : ℕ) (p : Board) (x : ℕ) (n : Node) → n ≡ nod
 unfolding ply_drawn
 ply_position parent p x n is = ap (λ k. k.position) is
 
--- whether a variation is drawn
+-- a variation is drawn if the number is 0
 pub does_vary : (x i : ℕ) → i ≡ drawn x 16 → i ≡ 0 → has_variation x ≡ true
 unfolding has_variation
 does_vary x i at is = ap (λ d. d == 0) (sym at ∙ is)

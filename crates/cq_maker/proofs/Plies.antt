@@ -1,4 +1,4 @@
--- How the rows of a line are drawn one after another.
+-- The rows of a line, drawn one after another.
 use Rattle.std.proofs.Common.{◌≡◌, ℕ, ◌+◌, ◌-◌, ◌<◌, ◌≤◌, Bool, true, false, List, [], ◌∷◌, ◌++◌, reverse, refl, sym, ap, ap₂, ◌∙◌, arith, append_assoc, append-nil}
 use Rattle.std.specs.Prelude.{if◌then◌else◌}
 use Rattle.std.proofs.lemmas.List.{map-append, reverse-append}
@@ -50,7 +50,7 @@ rows_pushed old new r nodes is same = ap nodes_of_rows is ∙ map-append node_of
 pub nothing_pushed : (rows : List DrawnMove) (nodes : List Node) → nodes ≡ [] → nodes_of_rows rows ≡ nodes_of_rows rows ++ nodes
 nothing_pushed rows nodes is = sym (ap (λ l. nodes_of_rows rows ++ l) is ∙ append-nil (nodes_of_rows rows))
 
--- the variations that stand after the rest of a line
+-- the variations after the rest of a line
 beside_is : (parent k : ℕ) (p : Board) (x : ℕ) (old new : List DrawnMove) → nodes_of_rows new ≡ nodes_of_rows old ++ nodes_from parent 0 (variation_drawn p x)
     → nodes_of_rows (reverse new) ≡ nodes_from parent k (variation_drawn p x) ++ nodes_of_rows (reverse old)
 beside_is parent k p x old new is =

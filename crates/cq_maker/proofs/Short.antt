@@ -1,4 +1,4 @@
--- How many bytes a made archive has at most.
+-- The largest number of bytes of a generated archive.
 use Rattle.std.proofs.Common.{◌≡◌, ℕ, zero, suc, ◌+◌, ◌*◌, ◌<◌, ◌≤◌, Bool, true, false, List, [], ◌∷◌, ◌++◌, length, Option, Some, None, refl, sym, ap, subst, arith, add-one}
 use Rattle.std.specs.Prelude.{◌==◌, ◌||◌, nat_le, if◌then◌else◌, codes, decimal}
 use Rattle.std.specs.List.{AllByRecursion, flat_map}
@@ -168,7 +168,7 @@ variation_short p x low true is =
 variation_short p x low false is =
     subst (λ b. weight (variation_words p (if b then played (ply_drawn p (next x)) none none else none)) ≤ 18) (sym is) (omega arith)
 
--- a line of so many plies
+-- a line of n plies
 line_short : (n : ℕ) (p : Board) (x : ℕ) (due : Bool) → p.number + n < 100 → weight (line_words p due (line n p x).moves) ≤ 34 * n
 unfolding line line_words ply_drawn
 line_short zero p x due low = omega arith
@@ -191,7 +191,7 @@ line_short (suc n) p x due low =
         let e = weight_append (variation_words p beside) (line_words q (is_due (bare m q) beside) more.moves) in
         subst (λ l. weight (line_words p due l.moves) ≤ 34 * suc n) (sym (line_step (suc n) n p x over (sym (add-one n)))) (omega (arith, a, b, c, d, e))
 
--- the bytes of tag lines at most, as each byte of a value may stand after a backslash
+-- the largest number of bytes of tag lines, as each byte of a value may have a backslash before it
 abbrev tag_weight : List (List ℕ × List ℕ) → ℕ
 tag_weight [] = 0
 tag_weight (t ∷ ts) = 6 + length t.0 + (length t.1 + length t.1) + tag_weight ts

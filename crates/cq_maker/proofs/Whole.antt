@@ -1,4 +1,4 @@
--- Made games are read back from their texts.
+-- Generated games are read back from their texts.
 use Rattle.std.proofs.Common.{◌≡◌, ◌≢◌, ℕ, zero, suc, ◌+◌, ◌^◌, ◌≤◌, Bool, true, false, List, [], ◌∷◌, ◌++◌, length, None, Some, refl, sym, ap, ◌∙◌, subst, arith, true≢false, add-one}
 use Rattle.std.specs.Prelude.{◌&&◌, ◌==◌, not, codes, decimal, if◌then◌else◌}
 use Rattle.std.specs.List.{AllByRecursion, list_all, flat_map}
@@ -91,7 +91,7 @@ all_writable number r few = (
   ),
 )
 
--- variations stand on one level
+-- variations are on one level
 variation_levels : (p : Board) (x : ℕ) → (b : Bool) → has_variation x ≡ b → levels_beside (variation_drawn p x) ≤ 1
 unfolding variation_drawn levels
 variation_levels p x true is = subst (λ b. levels_beside (if b then played (ply_drawn p (next x)) none none else none) ≤ 1) (sym is) (omega arith)

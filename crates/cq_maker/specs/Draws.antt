@@ -1,4 +1,5 @@
--- The numbers that are drawn, by a linear congruential generator of 64 bits with the constants of Knuth's MMIX, from its upper bits.
+-- The numbers that are drawn, by a linear congruential generator of 64 bits with the constants of Knuth's MMIX, from
+-- its upper bits.
 use Rattle.std.specs.Prelude.{ℕ, ◌+◌, ◌*◌, ◌/◌, ◌%◌, ◌^◌}
 
 -- the state after x

@@ -1,4 +1,4 @@
--- The archive that is made from a seed.
+-- The archive that is generated from a seed.
 use Rattle.std.specs.Prelude.{ℕ, zero, suc, ◌+◌, List, [], ◌∷◌, codes, decimal, None, if◌then◌else◌}
 use Rattle.std.specs.List.{flat_map}
 use Rattle.cq_position.specs.declared.games.GameResult.{GameResult}
@@ -24,7 +24,7 @@ won_by Black = BlackWon
 unfoldable pub ending : Board → GameResult
 ending p = if is_over p then (if in_check p.men p.side then won_by (opponent p.side) else Draw) else Undecided
 
--- a number of plies from 20 to 79 is drawn, and then they are, from the initial array
+-- a number of plies from 20 to 79 is drawn, and then a line of at most that many plies, from the initial array
 unfoldable pub generated_line : ℕ → Line
 generated_line x = line (20 + drawn x 60) start_board (next x)
 
@@ -32,7 +32,7 @@ generated_line x = line (20 + drawn x 60) start_board (next x)
 abbrev pub generated_tags : ℕ → List (List ℕ × List ℕ)
 generated_tags number = (codes "Event", codes "Selfrun") ∷ (codes "Round", decimal number) ∷ []
 
--- the game of a number and a line
+-- the game with a number and a line
 unfoldable pub generated_game : ℕ → Line → Game
 generated_game number l = record {
   tags = generated_tags number;
@@ -44,7 +44,7 @@ generated_game number l = record {
 abbrev pub as_read : Game → Game
 as_read g = record g { tags = written_tags g }
 
--- so many games, numbered from a number on; the draws of each go on from those of the game before it
+-- `games` games, numbered from a number on; the draws of each continue those of the game before it
 unfoldable pub generated_games : (number games x : ℕ) → List Game
 generated_games number zero x = []
 generated_games number (suc games) x = generated_game number (generated_line x) ∷ generated_games (number + 1) games (generated_line x).state

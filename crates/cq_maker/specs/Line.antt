@@ -16,23 +16,23 @@ is_over p = length (legal_list p) == 0
 unfoldable pub move_drawn : Board → ℕ → Move
 move_drawn p x = slice_index_or (legal_list p) (drawn x (length (legal_list p))) null_move
 
--- that move, as it is played in a game: without glyphs and comments
+-- the drawn move, as it is played in a game: without glyphs and comments
 unfoldable pub ply_drawn : Board → ℕ → Played
 ply_drawn p x = record { move = move_drawn p x; position = after p (move_drawn p x); nags = []; comments = [] }
 
--- whether the move that is played gets a variation: where a number that is drawn below 16 is 0
+-- true if the move that is played has a variation: if a number drawn below 16 is 0
 unfoldable pub has_variation : ℕ → Bool
 has_variation x = drawn x 16 == 0
 
--- that variation: one move, drawn from the same legal moves, which may be the move that is played
+-- the drawn variation: one move, drawn from the same legal moves, which may be the move that is played
 unfoldable pub variation_drawn : Board → ℕ → Continuations
 variation_drawn p x = if has_variation x then played (ply_drawn p (next x)) none none else none
 
--- the state of the draws after that
+-- the state of the draws after the decision on a variation, and after the variation if there is one
 unfoldable pub after_variation : ℕ → ℕ
 after_variation x = if has_variation x then next (next x) else next x
 
--- what is drawn for a game: its moves, the position after the last one that is played, and the state of the draws then
+-- the drawn part of a game: its moves, the position after the last one that is played, and the state of the draws then
 pub record Line : Type 0 where
   pub moves : Continuations
   pub last : Board
@@ -42,7 +42,7 @@ pub record Line : Type 0 where
 abbrev pub extended : Played → Continuations → Line → Line
 extended m variation l = record l { moves = played m l.moves variation }
 
--- What is drawn from a position on: at most so many moves, and none after mate or stalemate.
+-- The moves drawn from a position on: at most `most` moves, and none after mate or stalemate.
 unfoldable pub line : ℕ → Board → ℕ → Line
 line zero p x = record { moves = none; last = p; state = x }
 line (suc most) p x =

@@ -1,4 +1,4 @@
-//! Made archives.
+//! Generated archives.
 ghost use Rattle.std.specs.Prelude.{◌≡◌, ◌≤◌, IfOk};
 ghost use Rattle.cq_maker.specs.GeneratedArchive as made;
 
@@ -8,10 +8,14 @@ use cq_common::{Bytes, NoMemory};
 use pgn_export::export;
 use std::alloc::Global;
 
-/// The archive of so many games, at most 100,000, that a seed gives: the same one each time.
+/// Returns the archive of `games` games, at most 100,000, that is generated from a seed: the same one each time.
 ///
-/// The moves of each game are drawn from the legal ones, from the initial array on, 20 to 79 plies, or fewer where mate or stalemate
-/// comes first; some have a variation of one move. The result is that of the last position.
+/// The moves of each game are drawn from the legal ones, from the initial array on. A game has 20 to 79 plies, or fewer
+/// if mate or stalemate comes first; some moves have a variation of one move. The result is that of the last position.
+///
+/// # Errors
+///
+/// Fails only if out of memory.
 pub fn make_archive(alloc: Global, seed: u32, games: u32) -> Result<Bytes, NoMemory>
     requires { games ≤ 100000 }
     ensures { IfOk result (λ archive. archive ≡ made.generated_archive seed games) }

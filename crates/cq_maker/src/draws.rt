@@ -7,7 +7,7 @@ use std::marker::Model;
 /// The factor of Knuth's MMIX.
 const MULTIPLIER: u64 = 6_364_136_223_846_793_005;
 
-/// What is added after the factor.
+/// The increment of Knuth's MMIX.
 const INCREMENT: u64 = 1_442_695_040_888_963_407;
 
 /// The state of a linear congruential generator of 64 bits, which contracts see as a number.
@@ -25,7 +25,7 @@ impl Model for Draws {
 }
 
 impl Draws {
-    /// The draws from a seed.
+    /// Returns the draws from a seed.
     pub fn new(seed: u32) -> Draws
         ensures { result ≡ seed }
     {
@@ -34,7 +34,7 @@ impl Draws {
         }
     }
 
-    /// Draws a number below a bound.
+    /// Draws and returns a number below a bound.
     #[tactic(auto, unfolding(crate::specs::Draws::next, crate::specs::Draws::drawn))]
     pub fn below(&mut self, bound: u32) -> u32
         requires { 0 < bound }

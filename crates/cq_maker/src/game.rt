@@ -1,4 +1,4 @@
-//! Made games.
+//! Generated games.
 ghost use Rattle.std.specs.Prelude.{◌≡◌, ◌++◌, IfOk, OnOk};
 ghost use Rattle.cq_position.specs.Games.{IsTree};
 ghost use Rattle.cq_maker.specs.GeneratedArchive as made;
@@ -17,10 +17,10 @@ use std::alloc::Global;
 /// The fewest plies of a game that no mate or stalemate ends.
 const FEWEST_PLIES: u32 = 20;
 
-/// How many numbers of plies are drawn from.
+/// The number of values from which the number of plies is drawn.
 const PLY_RANGE: u32 = 60;
 
-/// The game of a number, by the next draws.
+/// Returns the game with a number, by the next draws.
 pub(crate) fn make_game(alloc: Global, draws: &mut Draws, number: u32) -> Result<Game, NoMemory>
     ensures game { IfOk result (λ g. g ≡ made.generated_game number (made.generated_line draws.old)) }
     ensures state { OnOk result (draws.new ≡ (made.generated_line draws.old).state) }
@@ -34,7 +34,7 @@ pub(crate) fn make_game(alloc: Global, draws: &mut Draws, number: u32) -> Result
     Ok(game)
 }
 
-// The tags of the game of a number.
+// The tags of the game with a number.
 fn tags_of(alloc: Global, number: u32) -> Result<Tags, NoMemory>
     ensures { IfOk result (λ tags. tags ≡ made.generated_tags number) }
 {

@@ -1,11 +1,11 @@
-//! Laws of made archives, for proofs in other crates.
+//! Laws of generated archives, for proofs in other crates.
 ghost use Rattle.std.specs.Prelude.{ℕ, ◌*◌, ◌≤◌, length};
 ghost use Rattle.std.specs.List.{AllByRecursion};
 ghost use Rattle.pgn_export.specs.Export.{export_text};
 ghost use Rattle.pgn_export.specs.NormalGames.{IsNormal, IsReadAs};
 ghost use Rattle.cq_maker.specs.GeneratedArchive as made;
 
-/// Each game of an archive of at most 100,000 has at most 4,096 bytes.
+/// Each game of an archive of at most 100,000 games has at most 4,096 bytes.
 #[tactic(auto, using(crate::proofs::Short::each_short))]
 pub fn games_are_short()
     ensures { (seed games : ℕ) → games ≤ 100000
@@ -18,7 +18,8 @@ pub fn archives_are_short()
     ensures { (seed games : ℕ) → games ≤ 100000 → length (made.generated_archive seed games) ≤ 4096 * games }
 {}
 
-/// Each game of an archive of at most 100,000, with all tags that are written, is normal, and is read back from the game's text.
+/// Each game of an archive of at most 100,000 games, with all tags that are written, is normal. It is read back from
+/// the game's text.
 #[tactic(auto, using(crate::proofs::Back::archive_back))]
 pub fn games_are_read_back()
     ensures { (seed games : ℕ) → games ≤ 100000

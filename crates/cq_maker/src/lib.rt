@@ -1,6 +1,7 @@
-//! Archives of games that are made from a seed.
+//! Archives of games that are generated from a seed.
 //!
-//! `specs/Draws` says which numbers are drawn, `specs/Line` which moves they give, and `specs/GeneratedArchive` which archive these are.
+//! `specs/Draws` defines the numbers that are drawn, `specs/Line` the moves by these numbers, and
+//! `specs/GeneratedArchive` the archive of these moves.
 #![tactic(auto)]
 
 mod archive;

@@ -15,7 +15,7 @@ use cq_moves::{legal_moves, play};
 use cq_position::{Move, Position};
 use std::alloc::Global;
 
-/// One move in so many has a variation.
+/// One in this number of moves has a variation.
 const MOVES_PER_VARIATION: u32 = 16;
 
 /// The rows of a game after its root, and the last position of its main line.
@@ -23,13 +23,13 @@ const MOVES_PER_VARIATION: u32 = 16;
 pub struct Line {
     /// The main line.
     pub main: Vec<DrawnMove>,
-    /// The variations, in the order of their nodes: the latest first, as each stands after the rest of the main line.
+    /// The variations, in the order of their nodes: the latest first, as each comes after the rest of the main line.
     pub beside: Vec<DrawnMove>,
     /// The position after the last move of the main line.
     pub last: Position,
 }
 
-/// Draws at most so many moves from the initial array.
+/// Draws at most `most` moves from the initial array.
 pub(crate) fn draw_line(alloc: Global, draws: &mut Draws, most: u32) -> Result<Line, NoMemory>
     ensures nodes { IfOk result (λ l. nodes_of_rows l.main.items ++ nodes_of_rows l.beside.items
         ≡ nodes_from 0 1 (drawn.line most start_board draws.old).moves) }
@@ -73,7 +73,8 @@ fn draw_row(
     }
 }
 
-// Draws whether a position, which is that of node `parent`, has a variation, and adds it.
+// Draws a number that decides on a variation at a position, which is that of node `parent`, and adds the variation if
+// there is one.
 fn draw_variation(
     draws: &mut Draws,
     parent: u32,

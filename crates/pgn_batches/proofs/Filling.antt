@@ -1,4 +1,4 @@
--- Reading until a full batch is there.
+-- Reads until a batch is full.
 use Rattle.std.proofs.Common.{◌≡◌, ◌⊎◌, inl, inr, ℕ, ◌+◌, ◌-◌, ◌<◌, ◌≤◌, List, [], ◌∷◌, ◌++◌, length, take, drop, Option, Some, None, refl, sym, subst, ap, ◌∙◌, arith, Bool, true, false, Result, Ok, Err, OnOk}
 use Rattle.std.specs.Io.KnownBytes.{Consumes, IsAtEnd, Keeps}
 use Rattle.std.proofs.lemmas.List.{append-nil, append_assoc, length-append, take-append-le, take-append-drop}
@@ -187,7 +187,7 @@ low_by : (was mid now : Batches) (front : List ℕ) → IsSame mid now → mid.l
 low_by was mid now front same limit taken (inl over) = inl over
 low_by was mid now front same limit taken (inr low) = inr (omega (arith, limit, taken, low))
 
--- what some reads did, and then this
+-- some reads, and a property of the bytes and batches after them
 pub moves_of : (was mid now : Batches) (left left_after : Option (List ℕ)) (Given : List ℕ → ℕ → Type 0) → HasFilled was mid left left_after → IsSame mid now
     → ((front : List ℕ) (m : ℕ) → Stands mid front m → Given front m) → Moves was now left left_after Given
 moves_of was mid now left left_after Given so same gives = record {

@@ -1,4 +1,4 @@
--- How far an archive was read, and its batches were given.
+-- The progress of a reading of an archive in batches.
 use Rattle.std.proofs.Common.{◌≡◌, ◌⊎◌, ℕ, ◌+◌, ◌-◌, ◌≤◌, ◌<◌, Bool, true, false, List, [], ◌∷◌, ◌++◌, length, append-nil, take, Option, Some, ap, sym, ◌∙◌, arith, subst, inl, inr}
 use Rattle.std.specs.Prelude.{slice_get}
 use Rattle.std.proofs.lemmas.Bool.{cases_Bool}
@@ -17,7 +17,7 @@ use Rattle.pgn_batches.specs.NextBatch.{Moves, GivesBatch}
 use Rattle.pgn_batches.proofs.Filling.{consumes_none, consumes_on}
 use Rattle.pgn_batches.proofs.Given.{flat_next, full_first, full_low, full_rises, given, given_full, given_stays, within_first}
 
--- how far an archive is read: the limit on its bytes, the batches, and the bytes left as the reading began and as it is
+-- the progress of a reading: the limit on its bytes, the batches, and the bytes left at its beginning and after it
 pub record Place : Type 0 where
   pub limit : ℕ
   pub b : Batches

@@ -53,7 +53,7 @@ ended whole_ front news are =
 All_back : (P : Span → Type 0) (xs ys : List Span) → All P (xs ++ ys) → All P ys
 All_back P xs ys all = subst (All P) (drop-append_seam xs ys) (All-drop P (length xs) (xs ++ ys) all)
 
--- what holds of all games of a cut holds of some of them
+-- a property of all games of a cut holds of some of them
 middle : (P : Span → Type 0) (all before news last : List Span) → all ≡ before ++ (news ++ last) → All P all → All P news
 middle P all before news last is holds = All_front P news last (All_back P before (news ++ last) (subst (All P) is holds))
 
@@ -71,7 +71,7 @@ few_closed order front archive news last is few =
     let f = few_of order archive (closed front) news last is in
     let k = length-map (closed front) (kept front) in omega (arith, f, k, few)
 
--- ---- games that stand in the window and the piece
+-- ---- games in the window and the piece
 
 pub inside : Within → (w : Window) (front piece : List ℕ) (news last : List Span) (at : ℕ) → HasOpen w front → at ≡ length front
     → cut (front ++ piece) ≡ closed front ++ (news ++ last) → All (IsInside w at (length piece)) news
@@ -145,13 +145,13 @@ opened grow was now o front piece at here old open_ moves = λ more i d below.
     begins was now o at (length piece) (length (front ++ piece)) s moves (l ∙ ap (λ (k : ℕ). k + length piece) (sym here))
     (subst (λ (k : ℕ). BeginsInWindow was k s) (sym here) olds) news
 
--- ---- what stands
+-- ---- the state
 
 -- the queue was given the games of these spans
 abbrev pub AreQueued : Batches → Batches → List ℕ → List Span → Type 0
 AreQueued b now archive news = (games : KeptGames) (m : ℕ) → Fills b.queue games m → Fills now.queue (games ++ map (kept archive) news) m
 
--- what is kept once a piece was taken, with the games of these spans
+-- the state after a piece was taken, with the games of these spans
 pub record TookPiece (b now : Batches) (front piece : List ℕ) (news : List Span) : Type 0 where
   pub cutter : CutterStands now.cutter (front ++ piece)
   pub taken : now.taken ≡ b.taken + length piece

@@ -1,4 +1,4 @@
--- The rounds of a taker, and how they end.
+-- The rounds of a visit, and their ends.
 use Rattle.std.proofs.Common.{◌≡◌, ◌⊎◌, ℕ, zero, suc, ◌+◌, ◌-◌, ◌≤◌, ◌<◌, ◌^◌, Bool, true, false, List, [], ◌∷◌, ◌++◌, length, length-append, append-nil, take, drop, Option, Some, refl, ap, sym, ◌∙◌, arith, subst, inl, inr}
 use Rattle.std.specs.Prelude.{slice_get, Err, if◌then◌else◌}
 use Rattle.std.proofs.lemmas.Bool.{cases_Bool}
@@ -24,7 +24,7 @@ use Rattle.pgn_batches.proofs.Given.{all_batches, full_each, given, given_begins
 use Rattle.pgn_batches.proofs.Reached.{Moved, Needed, Place, Reached, Turned, moved, moved_to, needed_on, no_reads, place_of, turned}
 use Rattle.pgn_batches.proofs.Streams.{count_within}
 
--- so many games were taken: those of the batches given
+-- the number of games visited: those of the batches given
 pub record Rounds (place : Place) (Taken : KeptGames → Type 0) (count : ℕ) : Type 0 where
   pub front : List ℕ
   pub m : ℕ
@@ -229,7 +229,7 @@ goes_on place Taken New count batch turn taken =
       taken = subst New (sym turn.turned.games) taken;
     }
 
--- what a refused call for the next batch comes to
+-- the result of a failed call for the next batch
 pub refused : Laws → {X : Type 0} (place : Place) (now : Batches) (after : Option (List ℕ)) (Taken : KeptGames → Type 0) (Stopped : KeptGames → KeptGames → X → Type 0) (count : ℕ)
     (refusal : Refusal BatchFault) → Rounds place Taken count → IsNextResult place.b now place.now after (Err refusal)
     → IsVisitResult place.limit place.left after Taken Stopped (Err refusal)

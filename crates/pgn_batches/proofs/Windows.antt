@@ -1,4 +1,4 @@
--- What a window and the piece after it have of a game is what is kept of it.
+-- The part of a game in a window and the piece after it is its kept part.
 use Rattle.std.proofs.Common.{◌≡◌, ◌⊎◌, inl, inr, ℕ, ◌+◌, ◌-◌, ◌<◌, ◌≤◌, ◌^◌, zero, suc, List, [], ◌∷◌, ◌++◌, length, map, take, drop, get_or, min, refl, sym, subst, ap, ap₂, ◌∙◌, All, arith, Bool, true, false}
 use Rattle.std.specs.Prelude.{slice_range, nat_le}
 use Rattle.std.proofs.lemmas.List.{length-append, drop-append-le, take-take, length-map, length-take, length-drop, take_more, drop_all, append_assoc, map-append}
@@ -82,7 +82,7 @@ range_case false most s e xs is =
 
 -- ---- a game
 
--- what a list has of a game, as the code takes it; its first stands at `from`
+-- the part of a list that belongs to a game, as the code takes it; the list's first byte is at `from`
 abbrev part_of : List ℕ → ℕ → ℕ → ℕ → List ℕ
 part_of bytes from start end = slice_range bytes (min (length bytes) (start - from)) (min (length bytes) (end - from))
 
@@ -130,7 +130,7 @@ begun from at start last archive piece long inside (inl is) some few within =
     (from_window most_kept from at last archive piece long inside (omega (arith, is, some)) (omega (arith, is, few)))
 begun from at start last archive piece long inside (inr after) some few within = from_piece most_kept from at start last archive piece long inside after some within
 
--- what the code takes of a game is what is kept of it
+-- the part of a game that the code takes is its kept part
 pub cut_out : (w : Window) (at : ℕ) (piece archive : List ℕ) (s : Span) (last : ℕ) → IsWindowOf w archive → length archive ≡ at → IsInside w at (length piece) s → last ≡ min s.end (s.start + most_kept)
     → part_of w.bytes.items w.from s.start last ++ part_of piece at s.start last ≡ take most_kept (slice_range (archive ++ piece) s.start s.end)
 cut_out w at piece archive s last shows long inside is =
@@ -141,7 +141,7 @@ cut_out w at piece archive s last shows long inside is =
     (begun w.from at s.start last archive piece long (omega (arith, c, long)) inside.begins (grind (arith, is, a)) (grind (arith, is, a)) (omega (arith, a, b))
     ∙ ap (λ (k : ℕ). take (k - s.start) (drop s.start (archive ++ piece))) is ∙ range_case (nat_le most_kept (s.end - s.start)) most_kept s.start s.end (drop s.start (archive ++ piece)) refl)
 
--- what is kept of a game that stands in a list
+-- the kept part of a game in a list
 pub kept_out : (bytes : List ℕ) (s : Span) (last : ℕ) → s.start < s.end → s.end ≤ length bytes → last ≡ min s.end (s.start + most_kept)
     → part_of bytes 0 s.start last ≡ take most_kept (slice_range bytes s.start s.end)
 kept_out bytes s last some inside is =
@@ -208,7 +208,7 @@ span_ends archive before s after ends =
     All-head (EndsBy (length archive)) s after
     (subst (All (EndsBy (length archive))) (drop-append_seam before (s ∷ after)) (All-drop (EndsBy (length archive)) (length before) (before ++ s ∷ after) ends))
 
--- one of some games that stand in an archive
+-- one of some games of an archive
 pub inside_of : (archive : List ℕ) (before ss after : List Span) (i : ℕ) (d : Span) → i < length ss → All (EndsBy (length archive)) (before ++ (ss ++ after))
     → EndsBy (length archive) (get_or ss i d)
 inside_of archive before [] after i d inside ends = absurd (omega (arith, inside))

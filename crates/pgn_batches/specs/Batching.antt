@@ -1,25 +1,25 @@
--- How a list of games is cut into batches.
+-- The split of a list of games into batches.
 use Rattle.std.specs.Prelude.{ℕ, Bool, ◌||◌, List, [], ◌∷◌, ◌++◌, length, sum_by, nat_le, if◌then◌else◌}
 use Rattle.std.specs.List.{flat_map}
 use Rattle.pgn_batches.specs.Limits.{longest}
 use Rattle.pgn_batches.specs.KeptGames.{KeptGames}
 
--- how many bytes are kept of some games
+-- the number of bytes kept of some games
 abbrev pub size_of : KeptGames → ℕ
 size_of games = sum_by (λ g. length g.bytes) games
 
--- how many games fill a batch
+-- the number of games that fill a batch
 abbrev pub most_games : ℕ
 most_games = 1024
 
--- so many games, of which so many bytes are kept, fill a batch: that many games, or as many bytes as one game may have
+-- `games` games, of which `bytes` bytes are kept, fill a batch: 1,024 games, or as many bytes as one game may have
 unfoldable pub full_at : (games bytes : ℕ) → Bool
 full_at games bytes = nat_le most_games games || nat_le longest bytes
 
 abbrev pub is_full : KeptGames → Bool
 is_full games = full_at (length games) (size_of games)
 
--- the full batches of some games and those before them of the batch that is not full
+-- the full batches of some games and the games before them of the batch that is not full
 unfoldable pub full_from : (before games : KeptGames) → List KeptGames
 full_from before [] = []
 full_from before (g ∷ gs) =

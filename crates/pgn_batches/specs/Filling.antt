@@ -1,4 +1,4 @@
--- What a call for the next batch does.
+-- The steps of a call for the next batch.
 use Rattle.std.specs.Prelude.{◌≡◌, ◌⊎◌, ℕ, ◌+◌, ◌-◌, ◌<◌, ◌≤◌, true, false, List, [], ◌++◌, length, take, Option, Result, Ok, Err}
 use Rattle.std.specs.Io.KnownBytes.{Consumes, IsAtEnd}
 use Rattle.cq_common.specs.declared.faults.Refusal.{Refusal}
@@ -8,7 +8,7 @@ use Rattle.pgn_batches.specs.Batching.{batches, full_batches}
 use Rattle.pgn_batches.specs.Streams.{Stands}
 use Rattle.pgn_batches.specs.Whole.{closed_games}
 
--- how many bytes a read takes at most
+-- the largest number of bytes of a read
 abbrev pub most_read : ℕ
 most_read = 65536
 
@@ -33,12 +33,12 @@ pub record HasRead (was now : Batches) (left left_after : Option (List ℕ)) : T
   pub count : now.taken ≡ was.taken + length piece
   pub low : now.ended ≡ true → now.taken ≤ now.limit
 
--- where bytes were taken, the batches given were all that the bytes before the last read fill
+-- if bytes were taken, the batches given were all that the bytes before the last read fill
 abbrev pub IsNeeded : List ℕ → List ℕ → ℕ → Type 0
 IsNeeded front bytes m = 0 < length bytes
     → length (full_batches (closed_games (take (length (front ++ bytes) - most_read) (front ++ bytes)))) ≤ m
 
--- some reads were made, each where no full batch was there
+-- some reads were made, each when no batch was full
 pub record HasFilled (was now : Batches) (left left_after : Option (List ℕ)) : Type 0 where
   pub bytes : List ℕ
   pub takes : Consumes left left_after bytes
@@ -48,7 +48,7 @@ pub record HasFilled (was now : Batches) (left left_after : Option (List ℕ)) :
   pub low : now.ended ≡ true → (was.ended ≡ true) ⊎ (now.taken ≤ now.limit)
   pub stands : (front : List ℕ) (m : ℕ) → Stands was front m → Stands now (front ++ bytes) m × IsNeeded front bytes m
 
--- a read after which no memory was found
+-- a read after which the call ran out of memory
 pub record HasReadLost (was now : Batches) (left left_after : Option (List ℕ)) : Type 0 where
   pub piece : List ℕ
   pub takes : Consumes left left_after piece
@@ -66,7 +66,7 @@ pub record HasLost (was now : Batches) (left left_after : Option (List ℕ)) : T
   pub before : was.ended ≡ false
   pub stands : (front : List ℕ) (m : ℕ) → Stands was front m → (length (front ++ bytes) ≤ was.limit + 1) × IsNeeded front bytes m
 
--- a call that was refused by the source, or out of memory
+-- a call that failed by its source, or out of memory
 abbrev pub OnFault : {A F : Type 0} → Result A (Refusal F) → Type 0 → Type 0
 OnFault (Ok _) X = Unit {0}
 OnFault (Err (Fault _)) X = X

@@ -1,4 +1,4 @@
--- What a batch keeps of the games of an archive.
+-- The games of an archive as a batch keeps them.
 use Rattle.std.specs.Prelude.{ℕ, ◌+◌, List, take}
 use Rattle.pgn_cut.specs.GameTokens.{game_bytes}
 use Rattle.pgn_cut.specs.declared.span.Span.{Span}
@@ -8,7 +8,7 @@ use Rattle.pgn_batches.specs.declared.kept_game.KeptGame.{KeptGame}
 abbrev pub KeptGames : Type 0
 KeptGames = List KeptGame
 
--- how many bytes of a game are kept at most: one more than it may have
+-- the largest number of bytes kept of a game: one more than it may have
 unfoldable pub most_kept : ℕ
 most_kept = longest + 1
 

@@ -1,4 +1,4 @@
--- What taking the batches of an archive rests on: the laws of cuts and of batches.
+-- The laws that a visit of the batches of an archive requires: those of cuts and of batches.
 use Rattle.std.specs.Prelude.{◌≡◌, ℕ, List, ◌++◌, length}
 use Rattle.pgn_cut.specs.Cut.{cut, closed}
 use Rattle.pgn_cut.specs.Spans.{AreSpansInOrder, FinishesAt}

@@ -1,4 +1,4 @@
--- How many bytes a game may have.
+-- The largest size of a game in bytes.
 use Rattle.std.specs.Prelude.{ℕ, ◌^◌}
 
 abbrev pub longest : ℕ

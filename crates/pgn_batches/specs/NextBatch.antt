@@ -1,4 +1,4 @@
--- What a call for the next batch promises.
+-- The promise of a call for the next batch.
 use Rattle.std.specs.Prelude.{◌≡◌, ◌⊎◌, ℕ, ◌+◌, ◌<◌, ◌≤◌, true, false, List, [], ◌++◌, length, Option, Some, None, Result, Ok, Err}
 use Rattle.std.specs.Io.KnownBytes.{Consumes, IsAtEnd}
 use Rattle.cq_outside.specs.Faults.{Rose}
@@ -14,7 +14,7 @@ use Rattle.pgn_batches.specs.Streams.{Stands}
 use Rattle.pgn_batches.specs.Filling.{IsNeeded}
 use Rattle.pgn_batches.specs.Whole.{closed_games, cut_games}
 
--- some bytes were taken, and then this holds of the bytes and of how many batches were given before
+-- some bytes were taken, and `Given` holds of the bytes and of the number of batches that were given before
 pub record Moves (was now : Batches) (left left_after : Option (List ℕ)) (Given : List ℕ → ℕ → Type 0) : Type 0 where
   pub bytes : List ℕ
   pub takes : Consumes left left_after bytes
@@ -27,7 +27,7 @@ pub record Moves (was now : Batches) (left left_after : Option (List ℕ)) (Give
   pub needed : (front : List ℕ) (m : ℕ) → Stands was front m → IsNeeded front bytes m
   pub given : (front : List ℕ) (m : ℕ) → Stands was front m → Given (front ++ bytes) m
 
--- the batch with number `m`: a full one of the closed games, or one of all games where the end was read
+-- the batch with number `m`: a full one of the closed games, or one of all games if the end was read
 pub record GivesBatch (now : Batches) (batch : Batch) (front : List ℕ) (m : ℕ) : Type 0 where
   pub is : IsNextBatch (closed_games front) m batch ⊎ (IsBatchAt (cut_games front) m batch × (now.ended ≡ true))
   pub stands : Stands now front (m + 1)
@@ -51,7 +51,7 @@ IsNextResult was now left left_after (Err (Fault ReadFault)) = Moves was now lef
 IsNextResult was now left left_after (Err (Fault ArchiveTooLong)) = Moves was now left left_after (HasGivenFull was (λ n. was.limit < n))
 IsNextResult was now left left_after (Err IsNoMemory) = Moves was now left left_after (λ front m. Unit {0})
 
--- the count of the source's faults around a call: it rose where a read failed, and stands still otherwise
+-- the count of the source's faults around a call: it rose if a read failed, and is the same otherwise
 abbrev pub HasBatchCause : ℕ → ℕ → Result (Option Batch) (Refusal BatchFault) → Type 0
 HasBatchCause before now (Ok _) = now ≡ before
 HasBatchCause before now (Err (Fault ReadFault)) = (before ≤ now) × Rose before now

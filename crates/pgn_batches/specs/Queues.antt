@@ -1,4 +1,4 @@
--- What a queue of batches holds.
+-- The contents of a queue of batches.
 use Rattle.std.specs.Prelude.{◌≡◌, ℕ, ◌+◌, List, [], ◌∷◌, ◌++◌, length, slice_get, take, Option, None, Some}
 use Rattle.pgn_batches.specs.declared.batch.Batch.{Batch}
 use Rattle.pgn_batches.specs.declared.state.Queue.{Queue}
@@ -10,7 +10,7 @@ pub record HasGames (number : ℕ) (games : KeptGames) (batch : Batch) : Type 0 
   pub games_ : batch.games.items ≡ games
   pub index : batch.index ≡ number
 
--- batches that follow one another
+-- consecutive batches
 abbrev pub AreBatches : ℕ → List KeptGames → List Batch → Type 0
 AreBatches number [] [] = Unit {0}
 AreBatches number [] (q ∷ qs) = ⊥
@@ -44,7 +44,7 @@ pub record IsBatchAt (games : KeptGames) (m : ℕ) (batch : Batch) : Type 0 wher
   pub is : slice_get (batches games) m ≡ Some batch.games.items
   pub index : batch.index ≡ length (flat (take m (batches games)))
 
--- what is left is given as the last batch, or nothing is left
+-- the games that are left are given as the last batch, or none are left
 abbrev pub GivesLast : KeptGames → ℕ → Option Batch → Queue → Type 0
 GivesLast games m None q = IsDone q games m
 GivesLast games m (Some batch) q = IsBatchAt games m batch × IsDone q games (m + 1)

@@ -1,4 +1,4 @@
--- What `Batches` keeps of the bytes that it took.
+-- The state of `Batches`, by the bytes that it took.
 use Rattle.std.specs.Prelude.{◌≡◌, ◌⊎◌, ℕ, ◌+◌, ◌≤◌, true, false, List, length}
 use Rattle.pgn_cut.specs.Streams.{Stands as CutterStands}
 use Rattle.pgn_batches.specs.declared.state.Batches.{Batches}

@@ -1,4 +1,4 @@
--- Taking the batches of an archive, one after the other.
+-- Visits of the batches of an archive, one after the other.
 use Rattle.std.specs.Prelude.{◌≡◌, ◌⊎◌, ℕ, ◌+◌, ◌-◌, ◌<◌, ◌≤◌, List, [], ◌++◌, length, take, Option, Some, None, Result, Ok, Err}
 use Rattle.std.specs.Io.KnownBytes.{Consumes, IsAtEnd}
 use Rattle.cq_outside.specs.Faults.{Rose}
@@ -12,7 +12,7 @@ use Rattle.pgn_batches.specs.Filling.{most_read}
 use Rattle.pgn_batches.specs.KeptGames.{KeptGames}
 use Rattle.pgn_batches.specs.Whole.{cut_games, whole}
 
--- a taker and its two sinks at one moment
+-- a visitor and its two sinks at one moment
 pub record Moment (T O E : Type 0) : Type 0 where
   pub taker : T
   pub out : O
@@ -21,7 +21,7 @@ pub record Moment (T O E : Type 0) : Type 0 where
 abbrev pub moment : {T O E : Type 0} → T → O → E → Moment T O E
 moment taker out err = record { taker = taker; out = out; err = err }
 
--- the games of the next batch were taken, or at them it was stopped
+-- the games of the next batch were visited, or the visitor stopped at them
 abbrev pub HasVisited : {X : Type 0} → (KeptGames → Type 0) → (KeptGames → KeptGames → X → Type 0) → (games batch : KeptGames)
     → Option X → Type 0
 HasVisited Taken Stopped games batch None = Taken (games ++ batch)
@@ -42,9 +42,9 @@ pub record ReadsAll (limit : ℕ) (left left_after : Option (List ℕ)) (archive
   pub within : length archive ≤ limit
   pub at_end : IsAtEnd left_after
 
--- Some bytes were read, and these games and those of the next batch are the first ones of their whole batches, or of the archive if they
--- are all of it. No read was made for other games: these include all whole batches of the bytes, less as many bytes at their end as one
--- read can give.
+-- Some bytes were read. These games and those of the next batch are the first ones of the full batches of the bytes. If
+-- the archive was read to its end, they may also be the first ones of all its games. No read was made for other games.
+-- These games include all full batches of the bytes, less as many bytes at their end as one read can give.
 pub record Gives (limit : ℕ) (left left_after : Option (List ℕ)) (games batch : KeptGames) : Type 0 where
   pub front : List ℕ
   pub reads : Reads limit left left_after front
@@ -52,7 +52,7 @@ pub record Gives (limit : ℕ) (left left_after : Option (List ℕ)) (games batc
       ⊎ (ReadsAll limit left left_after front × AreLeadingGames (games ++ batch) (cut_games front))
   pub needed : AreLeadingGames (whole (take (length front - most_read) front)) games
 
--- some bytes were read, so many, and the games of all their whole batches were taken
+-- `AreRead` holds of the number of bytes that were read, and the games of all their full batches were visited
 pub record TakesWhole (limit : ℕ) (left left_after : Option (List ℕ)) (AreRead : ℕ → Type 0)
     (Taken : KeptGames → Type 0) : Type 0 where
   pub front : List ℕ
@@ -60,14 +60,14 @@ pub record TakesWhole (limit : ℕ) (left left_after : Option (List ℕ)) (AreRe
   pub count : AreRead (length front)
   pub taken : Taken (whole front)
 
--- all games of an archive were taken, so many
+-- all games of an archive were visited, `count` of them
 pub record TakesAll (limit : ℕ) (left left_after : Option (List ℕ)) (count : ℕ) (Taken : KeptGames → Type 0) : Type 0 where
   pub archive : List ℕ
   pub reads : ReadsAll limit left left_after archive
   pub count_is : count ≡ length (cut_games archive)
   pub taken : Taken (cut_games archive)
 
--- what each answer says of the bytes that were left and the games that were taken
+-- the meaning of each result for the bytes that were left and the games that were visited
 abbrev pub IsVisitResult : {X : Type 0} → ℕ → Option (List ℕ) → Option (List ℕ) → (KeptGames → Type 0)
     → (KeptGames → KeptGames → X → Type 0) → Result (VisitEnd X) (Refusal BatchFault) → Type 0
 IsVisitResult limit left left_after Taken Stopped (Ok (All count)) = TakesAll limit left left_after count Taken
@@ -78,7 +78,7 @@ IsVisitResult limit left left_after Taken Stopped (Err (Fault ArchiveTooLong)) =
 IsVisitResult limit left left_after Taken Stopped (Err IsNoMemory) =
     (games : KeptGames) × Gives limit left left_after games [] × Taken games
 
--- the count of the source's faults: it rose where a read failed, and stands still otherwise
+-- the count of the source's faults: it rose if a read failed, and is the same otherwise
 abbrev pub HasVisitCause : {X : Type 0} → ℕ → ℕ → Result (VisitEnd X) (Refusal BatchFault) → Type 0
 HasVisitCause before now (Ok _) = now ≡ before
 HasVisitCause before now (Err (Fault ReadFault)) = Rose before now

@@ -16,6 +16,6 @@ closed_games front = map (kept front) (closed front)
 abbrev pub whole : List ℕ → KeptGames
 whole front = flat (full_batches (closed_games front))
 
--- where they stand
+-- the places of these games
 abbrev pub whole_spans : List ℕ → List Span
 whole_spans front = take (length (whole front)) (closed front)

@@ -1,4 +1,4 @@
--- What is kept of the bytes of the open game.
+-- The kept bytes of the open game.
 use Rattle.std.specs.Prelude.{◌≡◌, ◌⊎◌, ℕ, ◌+◌, ◌<◌, ◌≤◌, List, All, length, take, drop}
 use Rattle.pgn_cut.specs.OpenGames.{later_games}
 use Rattle.pgn_cut.specs.declared.span.Span.{Span}
@@ -18,7 +18,7 @@ BeginsInWindow w at s = (s.start ≡ w.from) ⊎ (at ≤ s.start)
 abbrev pub HasOpen : Window → List ℕ → Type 0
 HasOpen w front = (more : List ℕ) → All (BeginsInWindow w (length front)) (later_games front more)
 
--- a game that begins so ends in a piece of so many bytes after the window
+-- a game that begins with the window or after it ends in a piece of `size` bytes after the window
 pub record IsInside (w : Window) (at size : ℕ) (s : Span) : Type 0 where
   pub begins : BeginsInWindow w at s
   pub some : s.start < s.end

@@ -4,7 +4,7 @@ ghost use Rattle.std.specs.Prelude.{◌+◌, ◌<◌, ◌^◌, length, All};
 use crate::kept_game::KeptGame;
 use cq_common::Shared;
 
-/// Games that follow one another in an archive, and the number of the first of them there, from 0.
+/// Consecutive games of an archive, and the number of the first of them there, counted from 0.
 #[derive(Drop)]
 pub struct Batch {
     pub(crate) games: Vec<KeptGame>,

@@ -1,4 +1,4 @@
-//! Batches as their callers make and ask them.
+//! The constructor and the accessors of a batch.
 ghost use Rattle.std.specs.Prelude.{◌≡◌, ◌+◌, ◌++◌, ◌<◌, ◌≤◌, ◌^◌, List, Some, length, map, slice_get, IfOk};
 ghost use Rattle.pgn_cut.specs.Cut.{cut};
 ghost use Rattle.pgn_cut.specs.declared.span.Span.{Span as ASpan};
@@ -13,11 +13,15 @@ use pgn_cut::{Span, games_stand_apart};
 use std::alloc::Global;
 
 impl Batch {
-    /// The batch of games that follow one another in the archive `bytes`; the first has the number `index` there, counted from 0. Of a game
-    /// longer than 2^24 bytes the first 2^24 + 1 are kept. Refused for want of memory alone.
+    /// Returns the batch of consecutive games of the archive `bytes`; the first has the number `index` there, counted
+    /// from 0. Of a game longer than 2^24 bytes the first 2^24 + 1 are kept.
     ///
-    /// Conditions: the spans are of games that the archive is cut into, as they follow one another, fewer than 2^32; the archive has fewer
-    /// than 2^62 bytes, and numbers stay below 2^62.
+    /// Conditions: the spans are consecutive games of the cut of the archive, fewer than 2^32. The archive has fewer
+    /// than 2^62 bytes, and numbers are below 2^62.
+    ///
+    /// # Errors
+    ///
+    /// Fails only if out of memory.
     pub fn of(alloc: Global, bytes: &[u8], spans: &[Span], index: u64) -> Result<Batch, NoMemory>
         requires size { length bytes.now < 2 ^ 62 }
         requires spans { (before after : List ASpan) × (cut bytes.now ≡ before ++ (spans.now ++ after)) }
@@ -34,21 +38,21 @@ impl Batch {
         Ok(Batch { games, index })
     }
 
-    /// How many games there are.
+    /// Returns the number of games.
     pub fn len(&self) -> u32
         ensures { result ≡ length (games_of self.now) }
     {
         self.games.len() as u32
     }
 
-    /// The number of the first game in the archive, counted from 0.
+    /// Returns the number of the first game in the archive, counted from 0.
     pub fn index(&self) -> u64
         ensures { result ≡ number_of self.now }
     {
         self.index
     }
 
-    /// The game with this number in the batch, counted from 0.
+    /// Returns the game with this number in the batch, counted from 0.
     pub fn game(&self, number: u64) -> &KeptGame
         requires { number < length (games_of self.now) }
         ensures { slice_get (games_of self.now) number ≡ Some result.now }
@@ -57,7 +61,7 @@ impl Batch {
     }
 }
 
-// What is kept of a game of an archive.
+// The kept part of a game of an archive.
 #[tactic(auto, unfolding(crate::specs::KeptGames::most_kept))]
 fn kept_game(alloc: Global, bytes: &[u8], span: Span) -> Result<KeptGame, NoMemory>
     requires size { length bytes.now < 2 ^ 62 }

@@ -1,4 +1,4 @@
-//! Cutting the games of an archive out of its pieces.
+//! The cut of an archive in pieces into games.
 ghost use Rattle.std.specs.Prelude.{◌≡◌, ◌+◌, ◌++◌, [], ◌<◌, ◌≤◌, ◌^◌, ℕ, List, length, map, OnOk, OnErr, All, true, false};
 ghost use Rattle.pgn_batches.specs.KeptGames.{KeptGames, kept};
 ghost use Rattle.pgn_batches.specs.Queues.{Fills};
@@ -10,7 +10,7 @@ use cq_common::NoMemory;
 use pgn_cut::{Cutter, Span, closed_games_stay, games_stand_apart};
 use std::alloc::Global;
 
-/// Cuts games out of the window and the piece after it, which stands at the place `at`.
+/// Cuts games out of the window and the piece after it, which begins at the place `at`.
 fn keep_all(
     alloc: Global,
     window: &Window,
@@ -35,8 +35,8 @@ fn keep_all(
 }
 
 impl Batches {
-    /// Batches of which none was given, of a source that was not read. At most `limit` bytes are taken of it, and one more. The limit is
-    /// from 1 to 2^40, which is a condition.
+    /// Returns batches of which none was given, of a source that was not read. At most `limit` bytes of it are taken,
+    /// and one more. The limit must be from 1 to 2^40.
     pub fn new(alloc: Global, limit: u64) -> Batches
         requires { (1 ≤ limit) × (limit ≤ 2 ^ 40) }
         ensures stands { Stands result [] 0 }
@@ -85,7 +85,7 @@ impl Batches {
         self.window.go_on(at, piece, place)
     }
 
-    /// The archive has ended.
+    /// Ends the archive.
     pub(crate) fn end(&mut self) -> Result<(), NoMemory>
         requires stands { (front : List ℕ) × (m : ℕ) × Stands self.old front m }
         requires reads { self.old.ended ≡ false }

@@ -2,11 +2,11 @@
 
 use cq_common::{Bytes, Shared};
 
-/// How many bytes a game may have.
+/// The largest size of a game in bytes.
 pub(crate) const LONGEST: u64 = 1 << 24;
 
-/// A game of an archive: its bytes, of a game longer than 2^24 bytes the first 2^24 + 1, the place of its first byte, and
-/// whether that stands in the first column.
+/// A game of an archive: its bytes, the place of the first, and `first` (true if that byte is in the first column). Of
+/// a game longer than 2^24 bytes the first 2^24 + 1 are kept.
 #[derive(Drop)]
 pub struct KeptGame {
     pub bytes: Bytes,

@@ -7,8 +7,9 @@ ghost use Rattle.pgn_batches.specs.Whole.{closed_games, whole};
 
 use pgn_cut::{closed_games_stay, games_stand_apart};
 
-/// The full batches of some games are the first ones of more games, and with what is left over they are all of them. The games that
-/// a prefix of an archive closes are the first ones of those that a longer prefix closes, and those of its whole batches too.
+/// The full batches of some games are the first ones of more games, and together with the games that remain they are
+/// all of them. The games that a prefix of an archive closes are the first ones of those that a longer prefix closes.
+/// The same holds of those of its full batches.
 #[tactic(auto, using(crate::proofs::Batching::full_grow, crate::proofs::Batching::all_there))]
 pub fn batches_stay()
     ensures full { (games more : KeptGames) → (rest : List KeptGames) × (full_batches (games ++ more) ≡ full_batches games ++ rest) }
@@ -20,7 +21,7 @@ pub fn batches_stay()
     games_stand_apart();
 }
 
-/// What is given of an archive in batches, piece by piece, are its games as they are cut.
+/// The games of the batches of an archive, which is read piece by piece, are the games of its cut.
 pub fn archives_come_in_batches()
     ensures { Laws }
 {

@@ -1,4 +1,4 @@
-//! Batches that wait, and the games of the one that is not full yet.
+//! Full batches in a queue, and the games of the one that is not full yet.
 ghost use Rattle.std.specs.Prelude.{◌≡◌, ◌+◌, ◌++◌, ◌⊎◌, ◌∷◌, [], ◌<◌, ◌^◌, ℕ, length, OnOk, None, IfSome, true};
 ghost use Rattle.pgn_batches.specs.Batching.{full_at};
 ghost use Rattle.pgn_batches.specs.KeptGames.{KeptGames};
@@ -12,10 +12,10 @@ use std::alloc::Global;
 use std::collections::VecDeque;
 use std::mem;
 
-/// How many games fill a batch.
+/// The number of games that fill a batch.
 const MOST_GAMES: usize = 1024;
 
-/// Whether so many games of so many bytes together fill a batch: that many games, or as many bytes as one game may have.
+/// True if `games` games of `bytes` bytes together fill a batch: 1,024 games, or as many bytes as one game may have.
 #[tactic(auto, unfolding(crate::specs::Batching::full_at))]
 fn is_full(games: usize, bytes: u64) -> bool
     ensures { result ≡ full_at games bytes }
@@ -35,7 +35,7 @@ impl Queue {
         }
     }
 
-    /// One game more.
+    /// Adds a game.
     pub(crate) fn add(&mut self, alloc: Global, game: KeptGame) -> Result<(), NoMemory>
         requires fills { (games : KeptGames) × (m : ℕ) × Fills self.old games m × (length games < 2 ^ 61) }
         requires short { length game.bytes < 2 ^ 62 }
@@ -58,7 +58,7 @@ impl Queue {
         Ok(())
     }
 
-    /// The next full batch.
+    /// Returns the next full batch.
     pub(crate) fn take_full(&mut self) -> Option<Batch>
         ensures some { IfSome result (λ batch. (games : KeptGames) (m : ℕ) → Fills self.old games m
             → IsNextBatch games m batch × Fills self.new games (m + 1)) }
@@ -71,7 +71,7 @@ impl Queue {
         self.full.pop_front()
     }
 
-    /// Whether no full batch waits.
+    /// Returns true if the queue has no full batch.
     pub(crate) fn has_none(&self) -> bool
         ensures none { result ≡ true → self.now.full.items ≡ [] }
         ensures some { self.now.full.items ≡ [] → result ≡ true }
@@ -79,7 +79,7 @@ impl Queue {
         self.full.is_empty()
     }
 
-    /// The games that fill no batch, where there are some.
+    /// Returns the games that fill no batch, if there are some.
     pub(crate) fn take_last(&mut self, alloc: Global) -> Option<Batch>
         ensures { (games : KeptGames) (m : ℕ) → Fills self.old games m ⊎ IsDone self.old games m → self.old.full.items ≡ []
             → GivesLast games m result self.new }

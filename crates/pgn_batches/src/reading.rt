@@ -1,4 +1,4 @@
-//! Reading until a full batch is there.
+//! Reads until a batch is full.
 ghost use Rattle.std.specs.Prelude.{◌≡◌, ◌+◌, [], ◌<◌, ◌≤◌, ℕ, List, length, OnOk, IfOk, OnErr, true, false};
 ghost use Rattle.std.specs.Io.KnownBytes.{Consumes, IsAtEnd};
 ghost use Rattle.cq_outside.specs.Faults.{HasRefusalCause};
@@ -13,10 +13,10 @@ use cq_common::{Failed, NoMemory, Refusal};
 use cq_outside::{Source, read_piece};
 use std::alloc::Global;
 
-/// The longest buffer that one read is given, in bytes.
+/// The size in bytes of the longest buffer of one read.
 const PIECE: usize = 65_536;
 
-/// One read of at most so many bytes: those that it took, none only at the end.
+/// Reads at most `room` bytes and returns them; none are returned only at the end.
 fn next_piece<S: Source>(
     alloc: Global,
     source: &mut S,
@@ -81,7 +81,7 @@ impl Batches {
         self.feed(piece)
     }
 
-    /// Reads until a full batch is there, or the end, or one byte more than the limit was taken.
+    /// Reads until a batch is full, or to the end, or until one byte more than the limit was taken.
     fn fill<S: Source>(&mut self, source: &mut S) -> Result<(), Refusal<Failed>>
         requires stands { (front : List ℕ) × (m : ℕ) × Stands self.old front m }
         requires at_end { self.old.ended ≡ true → IsAtEnd (S.left source.old) }
@@ -105,18 +105,24 @@ impl Batches {
         Ok(())
     }
 
-    /// The next batch: games that follow those of the batches before, 1,024 of them, or fewer of which 2^24 bytes are kept, or at the end
-    /// of the archive all that are left. `None` means that the archive has ended and all its games were given.
+    /// Returns the next batch, of games that follow those of the batches before. It has 1,024 games, or fewer of which
+    /// 2^24 bytes are kept, or at the end of the archive all that are left. `None` means that the archive has ended and
+    /// all its games were given.
     ///
-    /// Nothing is read where a full batch waits, or once the end was read. Else pieces of at most 65,536 bytes are read until a batch is
-    /// full, the archive ends, or one byte more than the limit was taken. More is never taken.
+    /// Nothing is read if a full batch is in the queue, or once the end was read. Else pieces of at most 65,536 bytes
+    /// are read until a batch is full, the archive ends, or one byte more than the limit was taken. More is never
+    /// taken.
     ///
-    /// Refusals, after which no batch may be asked for:
-    /// - `ReadFault`: a read failed, and the count of the source's faults rose. All full batches of the bytes taken were given.
-    /// - `ArchiveTooLong`: more bytes than the limit were taken, and all full batches of them were given. No read failed.
-    /// - `NoMemory`: no memory was found, for a piece, for a game or for a batch. No read failed.
+    /// Conditions: no call failed before, and a source whose end was read is still at its end.
     ///
-    /// Conditions: no batch was refused before, and a source whose end was read is still at its end.
+    /// # Errors
+    ///
+    /// After an error no batch may be requested.
+    /// - `ReadFault`: a read failed, and the count of the source's faults rose. All full batches of the bytes taken
+    ///   were given.
+    /// - `ArchiveTooLong`: more bytes than the limit were taken, and all full batches of them were given. No read
+    ///   failed.
+    /// - `NoMemory`: out of memory, for a piece, for a game or for a batch. No read failed.
     pub fn next<S: Source>(&mut self, source: &mut S) -> Result<Option<Batch>, Refusal<BatchFault>>
         requires stands { (front : List ℕ) × (m : ℕ) × Stands self.old front m }
         requires at_end { self.old.ended ≡ true → IsAtEnd (S.left source.old) }

@@ -1,4 +1,4 @@
-//! What is kept of an archive while its batches are given.
+//! The state of an archive that is given in batches.
 ghost use Rattle.std.specs.Prelude.{◌+◌, ◌<◌, ◌≤◌, ◌^◌, length, All};
 
 use crate::batch::Batch;
@@ -16,7 +16,8 @@ pub(crate) struct Window {
     ghost few: { length bytes.items ≤ 2 ^ 24 + 1 },
 }
 
-/// The full batches that wait, the games after them, how many bytes of these are kept, and the number of the first of them.
+/// The full batches in the queue, the games after them, the number of bytes kept of these, and the number of the first
+/// of them.
 #[derive(Drop)]
 pub(crate) struct Queue {
     pub(crate) full: VecDeque<Batch>,
@@ -28,7 +29,7 @@ pub(crate) struct Queue {
     ghost numbers: { index + length open.items < 2 ^ 62 },
 }
 
-/// Why no batch was given.
+/// The cause of a failed call for a batch.
 #[derive(Clone, Copy, Debug)]
 pub enum BatchFault {
     /// A read failed.
@@ -37,8 +38,8 @@ pub enum BatchFault {
     ArchiveTooLong,
 }
 
-/// The games of a source that is read piece by piece. The bytes of games that are closed are kept in batches alone, and of the open
-/// game no more than are kept of any game.
+/// The games of a source that is read piece by piece. The bytes of closed games are kept in batches alone. Of the open
+/// game no more bytes are kept than of any game.
 #[derive(Drop)]
 pub struct Batches {
     pub(crate) alloc: Global,

@@ -1,4 +1,4 @@
-//! Taking the batches of an archive, one after the other.
+//! Visits of the batches of an archive, one after the other.
 ghost use Rattle.std.specs.Prelude.{◌≡◌, ◌++◌, ◌≤◌, ◌^◌, [], length};
 ghost use Rattle.pgn_batches.specs.Games.{games_of, number_of};
 ghost use Rattle.pgn_batches.specs.KeptGames.{KeptGames};
@@ -11,19 +11,19 @@ use cq_common::Refusal;
 use cq_outside::Source;
 use std::alloc::Global;
 
-/// Takes the batches of an archive, one after the other, and writes to two sinks.
+/// A visitor of the batches of an archive, one after the other, which writes to two sinks.
 pub trait BatchVisitor<O, E> {
-    /// Why no more batches are taken.
+    /// The reason to stop at a batch.
     type Stop;
 
-    /// From the first moment to the second, these games were taken, from an archive's first one on.
+    /// From the first moment to the second, these games were visited, from an archive's first one on.
     ghost has_taken: { Moment Self O E → Moment Self O E → KeptGames → Type 0 };
 
-    /// From the first moment to the second, games were taken, from an archive's first one on, and at those of the next batch it was
-    /// stopped.
+    /// From the first moment to the second, games were visited, from an archive's first one on. The visitor stopped at
+    /// the games of the next batch.
     ghost has_stopped: { Moment Self O E → Moment Self O E → KeptGames → KeptGames → Self.Stop → Type 0 };
 
-    /// Takes the next batch. Answers why no more are taken, or nothing.
+    /// Visits the next batch. Returns a reason to stop, or nothing.
     fn take(&mut self, batch: &Batch, out: &mut O, err: &mut E) -> Option<Self::Stop>
         requires { (was : Moment Self O E) × (games : KeptGames) × has_taken was (moment self.old out.old err.old) games
             × (number_of batch.now ≡ length games) }
@@ -33,25 +33,26 @@ pub trait BatchVisitor<O, E> {
             games (games_of batch.now) result };
 }
 
-/// How the batches of an archive were taken.
+/// The end of a visit of an archive.
 pub enum VisitEnd<X> {
-    /// All of them; the archive has so many games.
+    /// All batches were visited; the archive has this number of games.
     All(u64),
-    /// No more were taken than some first ones.
+    /// The visitor stopped at a batch, for this reason.
     Early(X),
 }
 
-/// Hands the batches of the archive that `source` has left to a taker, of which so many bytes are the limit, from 1 to 2^40, which is a
-/// condition. The next batch is read once the one before is taken, and nothing more is read for it than it needs.
+/// Visits the batches of the rest of the archive `source` with `taker`. The limit of bytes must be from 1 to 2^40. The
+/// next batch is read after the visit of the one before, and nothing more is read for it than it needs.
 ///
-/// Answers:
-/// - `All`: the archive was read to its end, and all its games are taken.
-/// - `Early`: the taker wants no more.
+/// Returns:
+/// - `All`: the archive was read to its end, and all its games were visited.
+/// - `Early`: the visitor stopped.
 ///
-/// Refusals:
-/// - `ReadFault`: a read failed. All full batches of the bytes read are taken.
-/// - `ArchiveTooLong`: one byte more than the limit was read. All full batches of the bytes read are taken.
-/// - `NoMemory`: no memory was found for the next batch.
+/// # Errors
+///
+/// - `ReadFault`: a read failed. All full batches of the bytes read were visited.
+/// - `ArchiveTooLong`: one byte more than the limit was read. All full batches of the bytes read were visited.
+/// - `NoMemory`: out of memory for the next batch.
 pub fn visit_batches<S: Source, O, E, T: BatchVisitor<O, E>>(
     alloc: Global,
     limit: u64,

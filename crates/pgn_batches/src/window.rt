@@ -9,7 +9,7 @@ use cq_common::{Bytes, NoMemory};
 use pgn_cut::Span;
 use std::alloc::Global;
 
-/// How many bytes of a game are kept at most.
+/// The largest number of bytes kept of a game.
 pub(crate) const MOST_KEPT: u64 = LONGEST + 1;
 
 impl Window {
@@ -23,7 +23,8 @@ impl Window {
         }
     }
 
-    /// What is kept of a game that begins with the window or in the piece after its bytes, which stands at the place `at`.
+    /// Returns the kept part of a game that begins with the window or in the piece after its bytes. The piece begins at
+    /// the place `at`.
     #[tactic(auto, unfolding(crate::specs::KeptGames::most_kept))]
     pub(crate) fn game(
         &self,
@@ -48,7 +49,8 @@ impl Window {
         })
     }
 
-    /// A piece at the place `at` follows, and the open game begins at `place`: there in the piece, or with the window.
+    /// Moves on over a piece at the place `at`. The open game begins at `place`: there in the piece, or with the
+    /// window.
     pub(crate) fn go_on(&mut self, at: u64, piece: &[u8], place: u64) -> Result<(), NoMemory>
         requires size { at + length piece.now < 2 ^ 62 }
         ensures shows { OnOk result ((archive : List ℕ) → IsWindowOf self.old archive → length archive ≡ at
@@ -65,7 +67,7 @@ impl Window {
         self.grow(&piece[passed..])
     }
 
-    /// More bytes of the open game.
+    /// Adds bytes of the open game.
     #[tactic(auto, unfolding(crate::specs::KeptGames::most_kept))]
     fn grow(&mut self, piece: &[u8]) -> Result<(), NoMemory>
         ensures shows { OnOk result ((archive : List ℕ) → IsWindowOf self.old archive → IsWindowOf self.new (archive ++ piece.now)) }
@@ -78,7 +80,7 @@ impl Window {
     }
 }
 
-/// Those of some bytes that stand from `start` on and before `end`; the first of all stands at `from`.
+/// Returns the bytes from the place `start` on and before `end`; the first of all is at the place `from`.
 pub(crate) fn part(bytes: &[u8], from: u64, start: u64, end: u64) -> &[u8]
     requires { start ≤ end }
     ensures { result.now ≡ slice_range bytes.now (min (length bytes.now) (start - from)) (min (length bytes.now) (end - from)) }

@@ -21,7 +21,8 @@ use Rattle.pgn_cut.specs.Cut.{is_result, marks, is_marker, depth, opens, has_mov
 use Rattle.pgn_cut.specs.Spans.{FinishesAt}
 use Rattle.pgn_cut.specs.declared.span.Span.{Span}
 
--- the games that some lexemes close, where `game` has those before them of the open game, and the lexemes of the game that is open after them
+-- The games that some lexemes close, and the lexemes of the game that is open after them. `game` has the lexemes before
+-- them of the open game.
 closed_by : (game ls : List Lexeme) → List Span
 closed_by game [] = []
 closed_by game (l ∷ ls) =
@@ -43,7 +44,7 @@ choice_splits : (place : ℕ) (rest : List Lexeme) (t : Bool) (a b closed_a clos
 choice_splits place rest true a b ca cb oa ob is_a is_b = is_a
 choice_splits place rest false a b ca cb oa ob is_a is_b = is_b
 
--- a cut goes on after the games that its first lexemes close
+-- a cut continues after the games that its first lexemes close
 cut_splits : (place : ℕ) (game ls rest : List Lexeme) → cut_from place game (ls ++ rest) ≡ closed_by game ls ++ cut_from place (open_by game ls) rest
 unfolding cut_from closed_by open_by
 cut_splits place game [] rest = refl
@@ -118,7 +119,7 @@ x_alone : (at : ℕ) (first : Bool) → lexemes at first (120 ∷ []) ≡ x_afte
 unfolding lexemes_from reading symbol x_after
 x_alone at first = refl
 
--- a game after which x stands ends one byte later
+-- a game before the letter x ends one byte later
 x_ends : (place at : ℕ) (first : Bool) (game : List Lexeme) → FinishesAt place (cut_from place game (lexemes at first (120 ∷ [])))
 unfolding x_after
 x_ends place at first game =
@@ -221,16 +222,16 @@ all_push : {A : Type 0} (P : A → Type 0) (xs : List A) (y : A) → AllByRecurs
 all_push P [] y all last = (last, tt)
 all_push P (x ∷ xs) y all last = (all.0, all_push P xs y all.1 last)
 
--- a symbol goes on with x
+-- x continues a symbol
 symbol_grows : (first : Bool) (text : List ℕ) → IsLexeme first (Token Symbol) text → IsLexeme first (Token Symbol) (text ++ 120 ∷ [])
 symbol_grows first text is = (is.0, is.1 ++ 120 ∷ [], ap (λ t. t ++ 120 ∷ []) is.2, is.3, all_push (λ c. continues_symbol c ≡ true) is.1 120 is.4 refl)
 
--- what the closed games of a front are to the cut of any longer archive, and to that of the front itself
+-- the closed games of a front, compared with the cut of any longer archive, and with that of the front itself
 record Closes (front : List ℕ) : Type 0 where
   stay : (more : List ℕ) → (rest : List Span) × (cut (front ++ more) ≡ closed front ++ rest)
   whole : (last : List Span) × (cut front ≡ closed front ++ last) × FinishesAt (length front) last
 
--- what the laws of lexemes say
+-- the laws of lexemes, as a type
 abbrev pub FrontsSettle : Type 0
 FrontsSettle = (start : ℕ) (first : Bool) (front : List ℕ) → Settles start first front
 
@@ -328,7 +329,7 @@ module _ (follow : LexemesFollow) (grow : ReadingsGrow) (longest : AreLongest) w
       (⊎_elim (λ longer. x_taken at first game b bs unsettled.0 longer) (λ stays. x_left at first game b bs unsettled.0 unsettled.1 unsettled.2 stays)
       (cases_lt (length (b ∷ bs)) (reading first b (bs ++ 120 ∷ [])).len))
 
-  -- what a front leaves open is at most one game, which ends with it
+  -- the open part of a front is at most one game, which ends with it
   open_finishes : (at : ℕ) (first : Bool) (game : List Lexeme) (bytes : List ℕ) → IsUnsettled first bytes
       → FinishesAt (at + length bytes) (cut_from (at + length bytes) game (lexemes at first bytes))
   unfolding lexemes_from

@@ -10,7 +10,7 @@ use Rattle.pgn_cut.specs.Cut.{is_passed_over, ends_before, ends_after, span_to, 
 use Rattle.pgn_cut.specs.GameTokens.{HasItsTokens, game_bytes}
 use Rattle.pgn_cut.specs.declared.span.Span.{Span}
 
--- what the laws of lexemes say
+-- the laws of lexemes, as a type
 abbrev pub StandApart : Type 0
 StandApart = (start : ℕ) (first : Bool) (bytes : List ℕ) → AllByRecursion (StandsIn start first bytes) (lexemes start first bytes)
 

@@ -44,7 +44,7 @@ feeding_turn was now next piece at taken before after more fed stands few f fits
     feeding_on was now next piece at taken before after more fed stands few f (let len = rest_len piece at in omega (arith, fits))
     (subst (λ l. HasGained now next (take taken l) after more) (rest_is piece at) gained)
 
--- a call that is refused
+-- a call that fails
 pub feeding_back : (was now : Cutter) (piece : List ℕ) (at : ℕ) (before after more : List Span) (len : ℕ) → IsFeeding was now piece at before after
     → more ≡ after → len ≡ length before → take len more ≡ before
 feeding_back was now piece at before after more len f same len_is =

@@ -32,7 +32,7 @@ two_not_start e = cc
 two_not_one : TwoOfMark ≡ OneOfMark → ⊥
 two_not_one e = cc
 
--- what a cutter in a mark was fed
+-- the bytes that a cutter in a mark was fed
 pub fed_none : (c : Cutter) (fed : List ℕ) → IsInMark c fed → c.state ≡ AtStart → fed ≡ []
 fed_none c fed m is = ⊎_elim (λ p. p.1) (λ q. ⊎_elim (λ p. absurd (one_not_start (sym p.0 ∙ is))) (λ p. absurd (two_not_start (sym p.0 ∙ is))) q) m.part
 
@@ -64,7 +64,7 @@ in_no_mark first InNull bytes is mark = true≢false (sym mark)
 pub no_mark : (c : Cutter) (fed : List ℕ) → IsInText c fed → is_in_mark c.state ≡ true → ⊥
 no_mark c fed t = in_no_mark c.first c.state t.bytes t.opened
 
--- no mark stands at the start of an archive
+-- no mark is at the start of an archive
 turned : (b c : ℕ) → (b == c) ≡ false → (c == b) ≡ false
 turned b c other = grind (arith, nat_tests)
 
@@ -123,7 +123,7 @@ pub bad_next : (at : ℕ) (first : Bool) (b : ℕ) (one : bad first b) (rest : L
 unfolding bad bad_lexeme
 bad_next at first b one rest line = one.next at rest tt ∙ ap (λ f. (record { at = at; first = first; text = b ∷ []; kind = one.read }) ∷ lexemes (at + 1) f rest) line
 
--- what `with` says of a game
+-- the promise of `with` for a game
 abbrev pub Gains : OpenGame → LexemeView → OpenGame → Type 0
 Gains was look now = (game : List Lexeme) (l : Lexeme) → IsViewOf look l → was ≡ progress_of game → now ≡ progress_of (game ++ l ∷ [])
 

@@ -19,7 +19,7 @@ use Rattle.pgn_cut.specs.declared.span.Span.{Span}
 use Rattle.pgn_cut.proofs.Joins.{StandApart, AreLocal, HasItsLexemes, joined, map_all, of_both, text_within}
 use Rattle.pgn_cut.proofs.Order.{StandInOrder}
 
--- what holds of two lists holds of both together, and of each
+-- a property of two lists holds of both together, and of each
 pub all_both : {A : Type 0} (P : A → Type 0) (xs ys : List A) → AllByRecursion P xs → AllByRecursion P ys → AllByRecursion P (xs ++ ys)
 all_both P [] ys all rest = rest
 all_both P (x ∷ xs) ys all rest = (all.0, all_both P xs ys all.1 rest)
@@ -41,7 +41,7 @@ pub keeps_none : {A : Type 0} (p : A → Bool) (xs : List A) → AllByRecursion 
 keeps_none p [] all = refl
 keeps_none p (x ∷ xs) all = ap (λ t. cond t (x ∷ filter p xs) (filter p xs)) all.0 ∙ keeps_none p xs all.1
 
--- a list that is split where one more stands at its end
+-- a split of a list with one more element at its end
 split_push : {A : Type 0} (xs : List A) (x : A) (before : List A) (y : A) (after : List A) → xs ++ x ∷ [] ≡ before ++ y ∷ after
     → ((after ≡ []) × (before ≡ xs) × (y ≡ x)) ⊎ ((less : List A) × (xs ≡ before ++ y ∷ less))
 split_push [] x [] y after e = inl (sym (ap (drop 1) e), refl, sym (ap (λ l. get_or l 0 x) e))
@@ -81,7 +81,7 @@ closed_uncut game l open_ no_before = λ before m after e. ⊎_elim
     (λ more. let known = open_.each before m more.0 more.1 in (known.0, λ ends. absurd (true≢false (sym ends ∙ known.1))))
     (split_push game l before m after e)
 
--- what opens a tag pair marks nothing
+-- a lexeme that opens a tag pair marks nothing
 pub opens_marks : (kind : LexemeKind) (text : List ℕ) → opens kind ≡ true → marks kind text ≡ false
 opens_marks EscapeLine text is = refl
 opens_marks (Token Open) text is = refl
@@ -229,7 +229,7 @@ games_uncut in_order apart are_local start first bytes is =
     subst (λ s. IsUncut (lexemes s first bytes)) is.starts
     (subst (λ f. IsUncut (lexemes is.game.start f bytes)) is.column (subst (λ b. IsUncut (lexemes is.game.start is.game.first b)) (sym is.has) here))
 
--- where a token stands among the lexemes that give it
+-- the place of a token among the lexemes that give it
 record Split (ls : List Lexeme) (before : List GameToken) (t : GameToken) (after : List GameToken) : Type 0 where
   xs : List Lexeme
   l : Lexeme
@@ -283,11 +283,11 @@ one_token l (Token kind) kind_is t e =
     let same : record { at = l.at; len = length l.text; kind = kind } ≡ t = ap (λ x. get_or x 0 t) e in
     (kind_is ∙ ap (λ (x : GameToken). Token x.kind) same, ap (λ (x : GameToken). x.at) same, ap (λ (x : GameToken). x.len) same)
 
--- what the law of the texts of lexemes says
+-- the law of the texts of lexemes, as a type
 abbrev pub AreSpelled : Type 0
 AreSpelled = (start : ℕ) (first : Bool) (bytes : List ℕ) → AllByRecursion (IsSpelled start bytes) (lexemes start first bytes)
 
--- so no token stands after a marker outside variations
+-- so no token comes after a marker outside variations
 pub tokens_ended : AreSpelled → (start : ℕ) (first : Bool) (bytes : List ℕ) → IsUncut (lexemes start first bytes) → IsEndedByMarker start bytes (tokens_of start first bytes)
 tokens_ended spelled start first bytes uncut = λ before t after e ends.
     let s = split_tokens (lexemes start first bytes) before t after e in

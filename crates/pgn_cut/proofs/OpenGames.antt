@@ -1,4 +1,4 @@
--- Where the open game begins, and that the games after it begin after what was fed.
+-- The beginning of the open game. The games after it begin after the bytes that were fed.
 use Rattle.std.proofs.Common.{◌≡◌, ℕ, suc, ◌+◌, ◌<◌, ◌≤◌, ◌⊎◌, inl, inr, ⊎_elim, Bool, true, false, cond, List, [], ◌∷◌, ◌++◌, length, take, drop, None, Some, refl, sym, ap, ◌∙◌, subst, arith}
 use Rattle.std.specs.Prelude.{◌&&◌, nat_eq, if◌then◌else◌}
 use Rattle.std.specs.List.{AllByRecursion, list_all, starts_with}
@@ -40,7 +40,7 @@ from_less : (a b : ℕ) (ls : List Lexeme) → a ≤ b → InOrder b ls → InOr
 from_less a b [] le order = tt
 from_less a b (l ∷ ls) le order = let h = order.0 in (omega arith, order.1, order.2)
 
--- a game of some lexemes goes on with lexemes from a place on
+-- a game of some lexemes continues with lexemes from a place on
 open_first : (place from : ℕ) (g : Lexeme) (gs rest : List Lexeme) → InOrder from rest → AllByRecursion (λ l. end l ≤ place) rest → Opens g.at from (cut_from place (g ∷ gs) rest)
 unfolding cut_from Begins Opens
 open_first place from g gs [] order ends = of_both (Opens g.at from) (list_all (λ l. is_passed_over l.kind) (g ∷ gs)) [] (span_to place (g ∷ gs)) tt (refl, tt)
@@ -53,12 +53,12 @@ open_first place from g gs (l ∷ ls) order ends =
     (refl, starts_from from place (cut_from place [] ls) (cut_in_order place from (end l) [] ls (omega arith) last order.2 ends.1))
     (open_first place from g (gs ++ l ∷ []) ls (from_less from (end l) ls (omega arith) order.2) ends.1))
 
--- where a game of some lexemes begins, or else with the next lexeme
+-- the beginning of a game of some lexemes, or else of the next lexeme
 start_or : List Lexeme → ℕ → ℕ
 start_or [] at = at
 start_or (g ∷ gs) at = g.at
 
--- the next lexeme begins no tag pair, and those after it stand from a place on
+-- the next lexeme begins no tag pair, and those after it begin from a place on
 open_next : (place from : ℕ) (game : List Lexeme) (l : Lexeme) (ls : List Lexeme) → opens l.kind ≡ false → from ≤ end l → end l ≤ place → InOrder (end l) ls → AllByRecursion (λ k. end k ≤ place) ls
     → Opens (start_or game l.at) from (cut_from place game (l ∷ ls))
 unfolding cut_from Begins Opens start_or
@@ -174,11 +174,11 @@ module _ (in_order : StandInOrder) (apart : StandApart) (follow : LexemesFollow)
       (subst (λ n. InOrder n rest) ends_at (in_order (at + r.len) (first_at first (b ∷ bs ++ more) r.len) (drop r.len (b ∷ bs ++ more))))
       (all_end (at + r.len) (first_at first (b ∷ bs ++ more) r.len) (drop r.len (b ∷ bs ++ more)) place (omega arith)))
 
-  -- where nothing is open but a game
+  -- nothing is open but a game
   open_game : (at : ℕ) (first : Bool) (more : List ℕ) (g : Lexeme) (gs : List Lexeme) (place : ℕ) → at + length more ≡ place → Opens g.at at (cut_from place (g ∷ gs) (lexemes at first more))
   open_game at first more g gs place is = open_first place at g gs (lexemes at first more) (in_order at first more) (all_end at first more place is)
 
-  -- where nothing is open at all
+  -- nothing is open at all
   pub open_none : (at : ℕ) (first : Bool) (more : List ℕ) (place : ℕ) → at + length more ≡ place → AllByRecursion (λ g. at ≤ g.start) (cut_from place [] (lexemes at first more))
   unfolding Begins
   open_none at first more place is = starts_from at place (cut_from place [] (lexemes at first more))
@@ -223,7 +223,7 @@ module _ (in_order : StandInOrder) (apart : StandApart) (follow : LexemesFollow)
                 (opens_at fed more c.at (cut_from (length fed + length more) [] (lexemes c.at c.first (t.bytes ++ more))) all)
             by (g ∷ gs) all = opens_at fed more g.at (cut_from (length fed + length more) (g ∷ gs) (lexemes c.at c.first (t.bytes ++ more))) all
 
-  -- where a mark stands, the games begin after it
+  -- after a mark, the games begin after it
   after_mark : (archive : List ℕ) → AllByRecursion (λ g. text_start archive ≤ g.start) (cut archive)
   after_mark archive = open_none (text_start archive) true (drop (text_start archive) archive) (length archive)
       (let len = length-drop (text_start archive) archive in let inside = text_within archive in omega arith)

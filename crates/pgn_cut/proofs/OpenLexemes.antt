@@ -1,4 +1,4 @@
--- What is read of an open lexeme and the bytes after it.
+-- The reading of an open lexeme and the bytes after it.
 use Rattle.std.proofs.Common.{◌≡◌, ◌≢◌, ℕ, suc, ◌+◌, ◌<◌, ◌⊎◌, Bool, true, false, cond, List, [], ◌∷◌, ◌++◌, length, get_or, take, drop, refl, sym, ap, ap₂, ◌∙◌, subst, inl, inr, ⊎_elim, arith, true≢false, eqb-true}
 use Rattle.std.specs.Prelude.{not, ◌&&◌, ◌||◌, ◌==◌, nat_lt, nat_eq, min, codes, Option, None, Some}
 use Rattle.std.specs.List.{AllByRecursion, prefix_len, starts_with}
@@ -140,7 +140,7 @@ goes_on first InNumber bytes b is other takes_ more = (is.0 ++ b ∷ [], ap (λ 
 goes_on first InSuffix bytes b is other takes_ more = absurd (true≢false more)
 goes_on first InNull bytes b is other takes_ more = absurd (true≢false more)
 
--- the laws of lexemes that the rest stands on
+-- the laws of lexemes that the rest requires
 abbrev pub StandsAlone : Type 0
 StandsAlone = (first : Bool) (kind : LexemeKind) (b : ℕ) (bs : List ℕ) → IsLexeme first kind (b ∷ bs) → (kind ≡ Token BadByte → ⊥) → IsReadWhole first kind b bs
 
@@ -160,7 +160,7 @@ bad_like_nag n = record { nests = λ d. refl; pairs = λ o. refl; movetext = ref
 null_like_nag : (n : ℕ) → AreAlike (Token Null) (Token (Nag n))
 null_like_nag n = record { nests = λ d. refl; pairs = λ o. refl; movetext = refl; passed_over = refl; opens_ = refl }
 
--- digits, and what stands after them
+-- digits, and the bytes after them
 digits_len : (digits rest : List ℕ) → AllByRecursion (λ d. is_ascii_digit d ≡ true) digits → EndsBefore InNumber rest → prefix_len is_ascii_digit (digits ++ rest) ≡ length digits
 digits_len [] [] all ended = refl
 digits_len [] (c ∷ cs) all ended = ap (λ t. cond t (1 + prefix_len is_ascii_digit cs) 0) ended
@@ -238,7 +238,7 @@ unfolding number_kind
 number_left [] = refl
 number_left (d ∷ ds) = refl
 
--- what a byte opens, by the tests in turn
+-- the state after the first byte of a lexeme, by the tests in turn
 of_test : {A : Type 0} (P : A → Type 0) (t : Bool) (x y : A) → (t ≡ true → P x) → (t ≡ false → P y) → P (cond t x y)
 of_test P true x y yes_ no_ = yes_ refl
 of_test P false x y yes_ no_ = no_ refl
@@ -312,7 +312,7 @@ module _ (follow : LexemesFollow) (alone : StandsAlone) (before : StaysBefore) w
         ∙ ap (λ col. (record { at = at; first = first; text = b ∷ bs; kind = read }) ∷ lexemes (at + n) col rest) (column_in first b bs rest);
   }
 
-  -- by the grammar, where the bytes before which it ends don't go on with it
+  -- by the grammar, if the bytes before which it ends don't continue it
   by_grammar : (first : Bool) (bytes : List ℕ) (asked kind : LexemeKind) (marker : Bool) (Before : List ℕ → Type 0) → IsLexeme first kind bytes → 0 < length bytes → (kind ≡ Token BadByte → ⊥)
       → AreAlike asked kind → marker ≡ marks kind bytes → ((rest : List ℕ) → Before rest → IsEndedBy kind rest) → IsOneLexeme first bytes asked marker Before
   by_grammar first [] asked kind marker Before is some no_ alike marked ends = absurd (omega (arith, some))
@@ -420,7 +420,7 @@ module _ (follow : LexemesFollow) (alone : StandsAlone) (before : StaysBefore) w
       (subst (λ (q : Reading). AreAlike q.kind (single b).kind) (sym here) (same_kind (single b).kind)) (single_marks b)
       (λ rest e. alone_read first b rest none ∙ single_is b)
 
-  -- what is open is unsettled
+  -- an open lexeme is unsettled
   pub unsettled : (first : Bool) (s : State) (bytes : List ℕ) → IsOpen first s bytes → IsUnsettled first bytes
   unsettled first AtStart bytes is = absurd is
   unsettled first OneOfMark bytes is = absurd is

@@ -1,4 +1,4 @@
--- The games of a cut stand in order, and don't overlap.
+-- The games of a cut are in order, and don't overlap.
 use Rattle.std.proofs.Common.{◌≡◌, ℕ, ◌<◌, ◌≤◌, Bool, true, List, [], ◌∷◌, ◌++◌, length, drop, refl, arith, length-drop}
 use Rattle.std.specs.Prelude.{All, if◌then◌else◌}
 use Rattle.std.specs.List.{AllByRecursion, list_all}
@@ -10,7 +10,7 @@ use Rattle.pgn_cut.specs.Spans.{EndsBy, AreSpansInOrder}
 use Rattle.pgn_cut.specs.declared.span.Span.{Span}
 use Rattle.pgn_cut.proofs.Joins.{StandApart, map_all, of_both, text_within}
 
--- what the law of the order of lexemes says
+-- the law of the order of lexemes, as a type
 abbrev pub StandInOrder : Type 0
 StandInOrder = (start : ℕ) (first : Bool) (bytes : List ℕ) → InOrder start (lexemes start first bytes)
 
@@ -24,7 +24,7 @@ unfolding Begins
 begins_more from before [] l begins past some = (omega arith, omega arith)
 begins_more from before (g ∷ gs) l begins past some = let lt = begins.1 in (begins.0, omega arith)
 
--- the span of such a game stands before what follows it
+-- the span of such a game comes before those that follow it
 span_first : (from before place to : ℕ) (game : List Lexeme) (rest : List Span) → Begins from before game → before ≤ place → place ≤ to
     → AreSpansInOrder place to rest → (game ≡ [] → AreSpansInOrder from to rest) → AreSpansInOrder from to (span_to place game ++ rest)
 unfolding Begins

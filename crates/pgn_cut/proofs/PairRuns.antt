@@ -1,4 +1,4 @@
--- Tag pairs: what is read of them, and what an open game keeps.
+-- Tag pairs: their reading, and the progress of an open game.
 use Rattle.std.proofs.Common.{◌≡◌, ℕ, ◌+◌, ◌-◌, ◌<◌, ◌≤◌, Bool, true, false, List, [], ◌∷◌, ◌++◌, length, get_or, take, drop, refl, sym, ap, ap₂, ◌∙◌, subst, ⊎_elim, arith, true≢false}
 use Rattle.std.specs.Prelude.{not, ◌&&◌, ◌||◌, ◌==◌}
 use Rattle.std.specs.List.{AllByRecursion}
@@ -24,7 +24,7 @@ use Rattle.pgn_cut.proofs.Runs.{run_column}
 use Rattle.pgn_cut.proofs.Streams.{Closes, WhiteIsPassed}
 use Rattle.pgn_cut.proofs.WordRuns.{IsQuiet, start_stays, more_stays, quiet_all, quiet_cut, cut_on, white_read, words_between, passed_in}
 
--- An opening or a closing bracket, by what it says of an open tag pair.
+-- An opening or a closing bracket, by the open tag pair after it.
 
 record IsBracket (open_ : Bool) (l : Lexeme) : Type 0 where
   nests : (d : ℕ) → nest d l.kind ≡ d
@@ -32,7 +32,7 @@ record IsBracket (open_ : Bool) (l : Lexeme) : Type 0 where
   movetext : is_movetext l.kind ≡ false
   marker : is_marker l ≡ false
 
--- what is kept, with a tag pair open or not
+-- the progress, with a tag pair open or not
 abbrev with_pair : Bool → OpenGame → OpenGame
 with_pair open_ was = record { start = was.start; depth = was.depth; in_pair = open_; has_movetext = was.has_movetext; has_more = was.has_more }
 
@@ -61,7 +61,7 @@ no_movetext kept was same none = sym (ap (λ w. w.has_movetext) same) ∙ none
 bracket_after : (open_ : Bool) (kept : List Lexeme) (l : Lexeme) → IsBracket open_ l → ends_after kept l ≡ false
 bracket_after open_ kept l is = ap (λ m. m && depth kept == 0) is.marker
 
--- what a tag pair is read as
+-- the reading of a tag pair
 record PairReads (at : ℕ) (first : Bool) (run : List ℕ) : Type 0 where
   opening : Lexeme
   inner : List Lexeme
@@ -213,7 +213,7 @@ module _ (closes : Closes) (c : Cutter) (run fed : List ℕ) (between : c.state 
       quiet)
       stands
 
--- Where the code cuts a tag pair off the front of some bytes.
+-- The code that cuts a tag pair off the front of some bytes.
 
 take_sum : (n m : ℕ) (xs : List ℕ) → take (n + m) xs ≡ take n xs ++ take m (drop n xs)
 take_sum n m xs = sym (take-append-drop n (take (n + m) xs)) ∙ ap₂ (λ l r. l ++ r) (take-take n (n + m) xs (omega arith)) (drop-take n m xs)
@@ -222,7 +222,7 @@ take_one : (xs : List ℕ) (b : ℕ) → 0 < length xs → get_or xs 0 0 ≡ b �
 take_one [] b some is = absurd (omega (arith, some))
 take_one (x ∷ xs) b some is = ap (λ c. c ∷ []) is
 
--- the column after a part of some bytes is told by its last one
+-- the column after a part of some bytes depends on its last one
 column_after : (first : Bool) (bytes : List ℕ) (at n : ℕ) → 0 < n → at + n ≤ length bytes
     → first_at first (take n (drop at bytes)) (length (take n (drop at bytes))) ≡ (get_or bytes (at + n - 1) 0 == 10)
 column_after first bytes at n some fits =

@@ -1,4 +1,4 @@
--- What is kept of a game, with one more lexeme.
+-- The progress of a game, with one more lexeme.
 use Rattle.std.proofs.Common.{◌≡◌, ℕ, Bool, true, false, cond, List, [], ◌∷◌, ◌++◌, Some, refl, sym, ap, ap₂, ◌∙◌}
 use Rattle.std.specs.Prelude.{not, ◌&&◌, ◌||◌, fold, if◌then◌else◌}
 use Rattle.std.specs.Option.{unwrap_or, option_to_list}

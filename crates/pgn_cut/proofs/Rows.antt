@@ -17,7 +17,7 @@ pub white_space : cut (codes "  " ++ 13 ∷ 10 ∷ []) ≡ []
 unfolding lexemes_from cut_from
 white_space = refl
 
--- a byte order mark is no part of a game, and the byte after it stands in the first column
+-- a byte order mark is no part of a game, and the byte after it is in the first column
 pub mark_alone : cut byte_order_mark ≡ []
 unfolding lexemes_from cut_from
 mark_alone = refl
@@ -53,7 +53,7 @@ pub marker_in_pair : cut (codes "[1-0 \"x\"]") ≡ span 0 4 true ∷ span 5 9 fa
 unfolding lexemes_from cut_from reading single symbol text body_len
 marker_in_pair = refl
 
--- a symbol that goes on is no marker
+-- a symbol that continues is no marker
 pub longer_symbol : cut (codes "1. e4 1-0x *") ≡ span 0 12 true ∷ []
 unfolding lexemes_from cut_from reading single symbol
 longer_symbol = refl
@@ -72,7 +72,7 @@ pub parentheses : cut (codes ")* (e4 * ") ≡ span 0 2 true ∷ span 3 9 false �
 unfolding lexemes_from cut_from reading single symbol
 parentheses = refl
 
--- a marker is closed once a byte follows that can't go on with it
+-- a marker is closed once a byte follows that can't continue it
 pub closed_early : closed (codes "* 1-0") ≡ span 0 1 true ∷ []
 unfolding lexemes_from cut_from reading single symbol
 closed_early = refl

@@ -1,4 +1,4 @@
--- Bytes that leave an open lexeme as it is, many at once, and the games of many bytes.
+-- Bytes that leave an open lexeme as it is, many in one step, and the games of many bytes.
 use Rattle.std.proofs.Common.{◌≡◌, ℕ, suc, ◌+◌, ◌-◌, ◌<◌, Bool, true, false, cond, List, [], ◌∷◌, ◌++◌, length, get_or, take, drop, refl, sym, ap, ap₂, ◌∙◌, subst, inr, ⊎_elim, arith, true≢false}
 use Rattle.std.specs.Option.{option_to_list}
 use Rattle.std.specs.Prelude.{Option, Result, Ok, Err, OnOk, not, ◌==◌, ◌||◌, ◌&&◌}
@@ -21,7 +21,7 @@ use Rattle.pgn_cut.proofs.OpenLexemes.{goes_on}
 use Rattle.pgn_cut.proofs.Marks.{in_mark}
 use Rattle.pgn_cut.proofs.Streams.{Closes, text_is}
 
--- what stands before the first byte that passes a test fails it
+-- the bytes before the first that passes a test fail it
 before_cond : (P : ℕ → Type 0) (t : Bool) (x n : ℕ) (xs : List ℕ) → (t ≡ false → P x) → AllByRecursion P (take n xs) → AllByRecursion P (take (cond (not t) (1 + n) 0) (x ∷ xs))
 before_cond P true x n xs fails all = tt
 before_cond P false x n xs fails all = subst (λ m. AllByRecursion P (take m (x ∷ xs))) (let e : suc n ≡ 1 + n = omega arith in e) (fails refl, all)
@@ -115,7 +115,7 @@ pub new_games : (was now : Cutter) (bytes fed : List ℕ) (before after : List S
 new_games was now bytes fed before after g stands =
     g.spans ∙ ap (λ l. before ++ l) (sym (drop-append_seam (closed fed) g.gained)) ∙ ap (λ l. before ++ drop (length (closed fed)) l) (sym (g.stands fed stands).1)
 
--- what a cutter counts
+-- the counts of a cutter
 pub sound_of : (c : Cutter) (fed : List ℕ) → Stands c fed → IsSound c
 sound_of c fed = ⊎_elim (λ m. m.sound) (λ t. t.sound)
 

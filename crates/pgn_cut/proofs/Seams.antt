@@ -32,7 +32,7 @@ use Rattle.pgn_cut.proofs.Order.{StandInOrder, Begins, cut_in_order, games_in_or
 use Rattle.pgn_cut.proofs.SeamsOfCut.{WithMarker, BeforePair, Ends, Split, splits, pair_begins, moved_span, cut_moves, SamePlaces, same_places, in_column, cut_firsts}
 use Rattle.pgn_cut.proofs.Streams.{WhiteIsPassed}
 
--- what the laws of lexemes say
+-- the laws of lexemes, as a type
 abbrev pub NothingHasNone : Type 0
 NothingHasNone = (at : ℕ) (first : Bool) → lexemes at first [] ≡ []
 
@@ -103,7 +103,7 @@ tokens_move n (l ∷ ls) =
     flat_map-cons token_of (moved n l) (map (moved n) ls) ∙ ap₂ (λ x y. x ++ y) (token_moves n l.at (length l.text) l.kind) (tokens_move n ls)
     ∙ sym (map-append (moved_token n) (token_of l) (tokens_among ls)) ∙ sym (ap (map (moved_token n)) (flat_map-cons token_of l ls))
 
--- Lexemes that are the same, but that the first may be a [ that stands in the first column
+-- Lexemes that are the same, except that the first may be a [ in the first column
 record PairFirst (ls ms : List Lexeme) : Type 0 where
   lexeme_ : Lexeme
   after : List Lexeme

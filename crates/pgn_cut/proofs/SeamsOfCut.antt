@@ -1,4 +1,4 @@
--- Where a cut is split after one of its games, so are its lexemes.
+-- A cut that is split after one of its games has its lexemes split there too.
 use Rattle.std.proofs.Common.{◌≡◌, ℕ, ◌+◌, ◌≤◌, ◌⊎◌, inl, inr, ⊎_elim, Bool, true, false, cond, List, [], ◌∷◌, ◌++◌, get_or, drop, map, refl, sym, ap, ap₂, ◌∙◌, subst, arith, true≢false}
 use Rattle.std.specs.Prelude.{◌&&◌, ◌||◌, ◌==◌, not, fold}
 use Rattle.std.specs.List.{AllByRecursion, list_all}
@@ -23,7 +23,7 @@ unfolding cut_from
 cut_step place game l ls t u is_t is_u =
     ap₂ (λ t u. cond t (span_to l.at game ++ cut_from place (l ∷ []) ls) (cond u (span_to (end l) (game ++ l ∷ []) ++ cut_from place [] ls) (cut_from place (game ++ l ∷ []) ls))) is_t is_u
 
--- how a game ends: with a marker, before a tag pair, or with the archive
+-- the end of a game: with a marker, before a tag pair, or with the archive
 pub record WithMarker (to : ℕ) (pre : List Lexeme) : Type 0 where
   pub lexeme : Lexeme
   pub before : List Lexeme
@@ -42,8 +42,8 @@ pub record BeforePair (to : ℕ) (post : List Lexeme) : Type 0 where
 abbrev pub Ends : (place to : ℕ) → List Lexeme → List Lexeme → Type 0
 Ends place to pre post = WithMarker to pre ⊎ (BeforePair to post ⊎ (to ≡ place))
 
--- The lexemes of a cut are split after a game: those before the seam close the games up to that one, and those after it are cut into the
--- games after it.
+-- The lexemes of a cut are split after a game. Those before the seam close the games up to that one, and those after it
+-- are cut into the games after it.
 pub record Split (from place : ℕ) (game rest : List Lexeme) (before : List Span) (g : Span) (after : List Span) : Type 0 where
   pub pre : List Lexeme
   pub post : List Lexeme
@@ -143,7 +143,7 @@ alone_of : (to : ℕ) (game : List Lexeme) → list_all (λ l. is_passed_over l.
 unfolding cut_from
 alone_of to game is = ap (λ t. cond t [] (span_to to game)) is
 
--- no game stands before a tag pair that begins one
+-- no game comes before a tag pair that begins one
 pub pair_begins : (place : ℕ) (l : Lexeme) (ls : List Lexeme) → opens l.kind ≡ true → cut_from place [] (l ∷ ls) ≡ cut_from place (l ∷ []) ls
 pair_begins place l ls is = cut_step place [] l ls false false (and_false (opens l.kind && l.first)) (ap (λ t. t && true) (opens_marks l.kind l.text is))
 
@@ -216,7 +216,7 @@ splits place from game (l ∷ ls) order le ends before g after e =
     (splits place (end l) (game ++ l ∷ []) ls order.2 ends.0 ends.1)
     (ends_before game l) (ends_after game l) refl refl before g after e
 
--- the cut of lexemes that stand elsewhere
+-- the cut of lexemes at another place
 abbrev pub moved_span : ℕ → Span → Span
 moved_span n s = record { start = s.start + n; end = s.end + n; first = s.first }
 

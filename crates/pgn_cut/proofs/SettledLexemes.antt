@@ -27,7 +27,7 @@ use Rattle.pgn_cut.proofs.OpenLexemes.{same_kind, ended_always}
 use Rattle.pgn_cut.proofs.Runs.{run_column}
 use Rattle.pgn_cut.proofs.Streams.{Closes, WhiteIsPassed, column_push, text_is}
 
--- the laws of lexemes that this stands on
+-- the laws of lexemes that this requires
 abbrev pub ReadingsGrow : Type 0
 ReadingsGrow = (first : Bool) (b : ℕ) (bs more : List ℕ) → Grows first b bs more
 
@@ -35,7 +35,7 @@ abbrev pub StandsNext : Type 0
 StandsNext = (at : ℕ) (first : Bool) (kind : LexemeKind) (b : ℕ) (bs more : List ℕ) → IsReadWhole first kind b bs → IsEndedBy kind more
     → lexemes at first (b ∷ bs ++ more) ≡ record { at = at; first = first; text = b ∷ bs; kind = kind } ∷ lexemes (at + length (b ∷ bs)) (first_at first (b ∷ bs) (length (b ∷ bs))) more
 
--- white space ends every lexeme that doesn't go on over it
+-- white space ends every lexeme that doesn't continue over it
 abbrev pub WhiteEnds : Type 0
 WhiteEnds = (kind : LexemeKind) (b : ℕ) → is_white b ≡ true → runs_on kind ≡ false → goes_on_kind kind b ≡ false
 
@@ -137,7 +137,7 @@ module _ (grow : ReadingsGrow) (next : StandsNext) (ends_white : WhiteEnds) (whi
       let size = ap length (first_byte bytes some) in
       found_here first bytes r f some dark is much (omega (arith, within)) kind len marker settled
 
--- what a cutter is behind a run that begins with a lexeme, and the game that it closed
+-- the cutter after a run that begins with a lexeme, and the game that it closed
 pub record HasMet (c : Cutter) (run : List ℕ) (f : SettledLexeme) (now : Cutter) (closed_ : Option Span) : Type 0 where
   pub rest : IsBetween now (c.place + length run) (get_or run (length run - 1) 0 == 10)
   pub deeper : now.game.depth ≤ c.game.depth + 1

@@ -1,4 +1,4 @@
--- What a cutter stands for, over one more byte.
+-- The state of a cutter, after one more byte.
 use Rattle.std.proofs.Common.{◌≡◌, ℕ, suc, ◌+◌, ◌≤◌, Bool, true, false, List, [], ◌∷◌, ◌++◌, length, Option, None, refl, sym, ap, ap₂, ◌∙◌, subst, arith}
 use Rattle.std.specs.Prelude.{◌==◌}
 use Rattle.std.specs.Option.{option_to_list}
@@ -16,7 +16,7 @@ use Rattle.pgn_cut.specs.declared.cutter.Cutter.{Cutter}
 use Rattle.pgn_cut.specs.declared.state.State.{State}
 use Rattle.pgn_cut.specs.declared.state.State.TheVariants.{Between}
 
--- the laws of open lexemes that this stands on
+-- the laws of open lexemes that this requires
 abbrev pub Closes : Type 0
 Closes = (front : List ℕ) (games : List Span) (at : ℕ) (first : Bool) (game : List Lexeme) (s : State) (bytes : List ℕ) → IsOpen first s bytes → at + length bytes ≡ length front
     → ((more : List ℕ) → cut (front ++ more) ≡ games ++ cut_from (length front + length more) game (lexemes at first (bytes ++ more))) → closed front ≡ games
@@ -27,7 +27,7 @@ WhiteIsPassed = (at : ℕ) (first : Bool) (b : ℕ) (bs : List ℕ) → is_white
 abbrev pub Whenever : List ℕ → Type 0
 Whenever rest = Unit {0}
 
--- a cutter stands at the end of a front, of which it keeps the last bytes
+-- a cutter is at the end of a front, of which it keeps the last bytes
 pub record IsAtEnd (c : Cutter) (front bytes : List ℕ) : Type 0 where
   pub column : c.column ≡ first_at c.first bytes (length bytes)
   pub here : c.at + length bytes ≡ length front
@@ -134,7 +134,7 @@ module _ (closes : Closes) (c : Cutter) (fed : List ℕ) (b : ℕ) (games : List
       ∙ sym (append_assoc games (option_to_list closed_) (cut_from n step.kept (lexemes (c.at + length bytes) (first_at c.first bytes (length bytes)) more)))
       ∙ ap₂ (λ a f. (games ++ option_to_list closed_) ++ cut_from n step.kept (lexemes a f more)) now_at now_first)
 
--- what is open ends
+-- an open lexeme ends
 pub ends_here : (c : Cutter) (fed : List ℕ) (t : IsInText c fed) (kind : LexemeKind) (marker : Bool)
     → IsOneLexeme c.first t.bytes kind marker (EndsBefore c.state) → (now : Cutter) (closed_ : Option Span)
     → IsBetween now c.place c.column → now.game.depth ≤ c.game.depth + 1
@@ -180,7 +180,7 @@ ends_between c fed t between =
           ∙ ap₂ (λ g l. g ++ cut_from (length fed + length rest) t.kept (lexemes c.at c.first (l ++ rest))) (sym (append-nil (closed fed))) none;
     }
 
--- the byte after what ended, and after what goes on
+-- the byte after an ended lexeme, and after one that continues
 pub ready_ended : (c : Cutter) (closed_ : Option Span) (s : State) (fed : List ℕ) (b : ℕ) → IsEnded c closed_ s fed → takes s b ≡ false → IsReady c fed b (closed fed ++ option_to_list closed_)
 ready_ended c closed_ s fed b e other =
     let at_is = e.between.at in

@@ -1,4 +1,4 @@
--- Words, and lexemes that no byte goes on with: what is read of them, and what an open game keeps.
+-- Words, and lexemes that no byte continues: their reading, and the progress of an open game.
 use Rattle.std.proofs.Common.{◌≡◌, ℕ, zero, suc, ◌+◌, ◌-◌, ◌<◌, ◌≤◌, Bool, true, false, cond, List, [], ◌∷◌, ◌++◌, length, get_or, take, Some, None, Option, refl, sym, ap, ap₂, ◌∙◌, subst, inr, ⊎_elim, arith, true≢false, eqb-true}
 use Rattle.std.specs.Prelude.{not, ◌&&◌, ◌||◌, ◌==◌, codes}
 use Rattle.std.specs.Option.{unwrap_or}
@@ -34,7 +34,7 @@ use Rattle.pgn_cut.proofs.Streams.{Closes, WhiteIsPassed, column_push, text_is}
 pub plain_table : (b : ℕ) → b < 256 → get_or IS_PLAIN b false ≡ is_plain b
 plain_table b less = agree_below_at (λ k. get_or IS_PLAIN k false) is_plain 256 b refl less
 
--- Where the code cuts words off the front of some bytes.
+-- The code that cuts words off the front of some bytes.
 
 front_cond : (t : Bool) (x n m : ℕ) (xs : List ℕ) → t ≡ is_plain x → suc m ≤ cond t (1 + n) 0
     → (m ≤ n → AllByRecursion (λ b. is_plain b ≡ true) (take m xs)) → AllByRecursion (λ b. is_plain b ≡ true) (take (suc m) (x ∷ xs))
@@ -113,7 +113,7 @@ quiet_cut place kept (l ∷ ls) rest all =
     ∙ quiet_cut place (kept ++ l ∷ []) ls rest all.1
     ∙ ap (λ g. cut_from place g rest) (append_assoc kept (l ∷ []) ls)
 
--- What is read of words.
+-- The reading of words.
 
 -- a plain byte that begins no symbol and is no white space
 record IsQuietByte (first : Bool) (b : ℕ) : Type 0 where
@@ -213,7 +213,7 @@ module _ (ends : LexemesEnd) (alone : StandAlone) (white : WhiteIsPassed) where
       (λ dark. alone_byte at first b bs dark (quiet_byte first b (sym (ap₂ (λ w a. w || a || list_any (λ c. b == c) (codes "._+#=:")) dark other) ∙ plain)) r)
       (cases_Bool (is_white b))
 
-  -- the symbol goes on
+  -- the symbol continues
   further : (at : ℕ) (first : Bool) (o : List ℕ) (b : ℕ) (bs : List ℕ) → Reads at first (o ++ b ∷ []) bs → Reads at first o (b ∷ bs)
   further at first o b bs r =
       let size = length-append o (b ∷ []) in

@@ -1,4 +1,4 @@
--- How an archive is cut into games, by the lexemes of the whole archive.
+-- The cut of an archive into games, by the lexemes of the whole archive.
 use Rattle.std.specs.Prelude.{ℕ, ◌+◌, ◌-◌, Bool, true, false, not, ◌&&◌, ◌||◌, ◌==◌, List, [], ◌∷◌, ◌++◌, length, take, drop, fold, nat_eq, codes, if◌then◌else◌}
 use Rattle.std.specs.List.{list_all, starts_with, common_prefix_len}
 use Rattle.std.specs.Str.{bytes_eq}
@@ -29,13 +29,13 @@ nest depth _ = depth
 abbrev pub depth : List Lexeme → ℕ
 depth game = fold (λ d l. nest d l.kind) 0 game
 
--- section 8.1: whether a tag pair is open after some lexemes
+-- section 8.1: true if a tag pair is open after some lexemes
 abbrev pub opens_pair : Bool → LexemeKind → Bool
 opens_pair open_ (Token Open) = true
 opens_pair open_ (Token Close) = false
 opens_pair open_ _ = open_
 
--- section 8.2: what movetext is made of, comments aside
+-- section 8.2: the parts of movetext, comments aside
 abbrev pub is_movetext : LexemeKind → Bool
 is_movetext (Token Symbol) = true
 is_movetext (Token Period) = true
@@ -47,7 +47,7 @@ is_movetext (Token Null) = true
 is_movetext (Token BadByte) = true
 is_movetext _ = false
 
--- whether some lexeme is movetext and stands outside a tag pair; `in_pair` says whether one is open before the first
+-- true if some lexeme is movetext and outside a tag pair; `in_pair` is true if one is open before the first
 abbrev pub movetext_in : (in_pair : Bool) → List Lexeme → Bool
 movetext_in in_pair [] = false
 movetext_in in_pair (l ∷ ls) = (is_movetext l.kind && not in_pair) || movetext_in (opens_pair in_pair l.kind) ls
@@ -66,7 +66,7 @@ abbrev pub opens : LexemeKind → Bool
 opens (Token Open) = true
 opens _ = false
 
--- A game of these lexemes ends before the next one: a [ in the first column where movetext was seen.
+-- A game of these lexemes ends before the next one: a [ in the first column after movetext.
 abbrev pub ends_before : List Lexeme → Lexeme → Bool
 ends_before game l = opens l.kind && l.first && has_movetext game
 
@@ -79,8 +79,8 @@ abbrev pub span_to : ℕ → List Lexeme → List Span
 span_to place [] = []
 span_to place (l ∷ ls) = record { start = l.at; end = place; first = l.first } ∷ []
 
--- The games of an archive that ends at a place: those of `rest`, where `game` has the lexemes before them of the game
--- that is open there.
+-- The games of an archive that ends at a place: those of `rest`, after the lexemes `game` of the game that is open
+-- there.
 unfoldable pub cut_from : (place : ℕ) → (game rest : List Lexeme) → List Span
 cut_from place game [] = if list_all (λ l. is_passed_over l.kind) game then [] else span_to place game
 cut_from place game (l ∷ ls) =
@@ -88,7 +88,7 @@ cut_from place game (l ∷ ls) =
     else (if ends_after game l then span_to (end l) (game ++ l ∷ []) ++ cut_from place [] ls
     else cut_from place (game ++ l ∷ []) ls)
 
--- a byte order mark of UTF-8 at the archive's start, EF BB BF, is passed over
+-- a byte order mark of UTF-8 at the archive's start, EF BB BF, is skipped
 abbrev pub first_of_mark : ℕ
 first_of_mark = 239
 
@@ -115,7 +115,7 @@ cut archive = cut_from (length archive) [] (archive_lexemes archive)
 abbrev pub same_span : Span → Span → Bool
 same_span a b = a.start == b.start && a.end == b.end && (if a.first then b.first else not b.first)
 
--- The games that are closed in every archive that begins so: those that stay when the letter x follows. A game that is
--- still open reaches one byte further with it, and so is none of them.
+-- The games that are closed in every archive with this prefix: those that stay when the letter x follows. A game that
+-- is still open reaches one byte further with it, and so is none of them.
 abbrev pub closed : List ℕ → List Span
 closed front = take (common_prefix_len same_span (cut front) (cut (front ++ codes "x"))) (cut front)

@@ -1,4 +1,4 @@
--- Some bytes that are one game of a cut, and where their lexemes end.
+-- Some bytes that are one game of a cut, and the end of their lexemes.
 use Rattle.std.specs.Prelude.{◌≡◌, ℕ, Bool, true, false, ◌==◌, ◌&&◌, List, [], ◌∷◌, ◌++◌, fold}
 use Rattle.std.specs.List.{Contains}
 use Rattle.pgn_lexer.specs.Lexemes.{Lexeme}
@@ -9,8 +9,8 @@ use Rattle.pgn_cut.specs.Cut.{marks, nest, ends_before, ends_after, cut}
 use Rattle.pgn_cut.specs.GameTokens.{game_bytes}
 use Rattle.pgn_cut.specs.declared.span.Span.{Span}
 
--- These bytes are one game of a cut: in some archive a game begins at the place `start`, in the first column or not, and
--- has these bytes.
+-- These bytes are one game of a cut: in some archive a game begins at the place `start`, in the first column or not,
+-- and has these bytes.
 pub record IsGameOfCut (start : ℕ) (first : Bool) (bytes : List ℕ) : Type 0 where
   pub archive : List ℕ
   pub game : Span
@@ -36,7 +36,7 @@ token_depth tokens = fold (λ d t. nest d (Token t.kind)) 0 tokens
 abbrev pub ends_game : ℕ → List ℕ → List GameToken → GameToken → Bool
 ends_game start bytes before t = marks (Token t.kind) (token_text start bytes t) && token_depth before == 0
 
--- no token stands after a marker outside variations
+-- no token comes after a marker outside variations
 abbrev pub IsEndedByMarker : ℕ → List ℕ → List GameToken → Type 0
 IsEndedByMarker start bytes tokens = (before : List GameToken) (t : GameToken) (after : List GameToken)
     → tokens ≡ before ++ t ∷ after → ends_game start bytes before t ≡ true → after ≡ []

@@ -7,12 +7,12 @@ use Rattle.pgn_cut.specs.Cut.{cut}
 use Rattle.pgn_cut.specs.GameTokens.{game_bytes}
 use Rattle.pgn_cut.specs.declared.span.Span.{Span}
 
--- the same token, so many bytes further on
+-- the same token, n bytes further on
 abbrev pub moved_token : ℕ → Token → Token
 moved_token n t = record { at = t.at + n; len = t.len; kind = t.kind }
 
--- A game of an archive is one of another, so many bytes further on: it has the same bytes' places and tokens. Whether its first byte
--- stands in the first column is left aside.
+-- A game of an archive is one of another, n bytes further on, with the same tokens there. The column of its first byte
+-- may differ.
 pub record IsMovedGame (n : ℕ) (here there : List ℕ) (game moved : Span) : Type 0 where
   pub starts : moved.start ≡ game.start + n
   pub ends : moved.end ≡ game.end + n
@@ -25,12 +25,12 @@ AreMovedGames n here there [] [] = Unit {0}
 AreMovedGames n here there (g ∷ games) (m ∷ moved) = IsMovedGame n here there g m × AreMovedGames n here there games moved
 AreMovedGames n here there _ _ = ⊥
 
--- what follows a seam, with a space for what stands before it
+-- the rest after a seam, with a space in place of the bytes before it
 abbrev pub spaced_rest : List ℕ → ℕ → List ℕ
 spaced_rest archive place = space ∷ drop place archive
 
--- A seam after a game: the bytes before the seam are cut into the games up to that one, and the others, with one space before them,
--- into the games after that one.
+-- A seam after a game. The bytes before the seam are cut into the games up to that one. The others, with one space
+-- before them, are cut into the games after that one.
 pub record IsSeam (archive : List ℕ) (before : List Span) (game : Span) (after : List Span) : Type 0 where
   pub front : cut (take game.end archive) ≡ before ++ game ∷ []
   pub rest : AreMovedGames (game.end - 1) (spaced_rest archive game.end) archive (cut (spaced_rest archive game.end)) after

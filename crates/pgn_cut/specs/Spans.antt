@@ -1,4 +1,4 @@
--- How the games of an archive stand in it.
+-- The places of the games of an archive.
 use Rattle.std.specs.Prelude.{◌≡◌, ℕ, ◌<◌, ◌≤◌, List, [], ◌∷◌}
 use Rattle.pgn_cut.specs.declared.span.Span.{Span}
 
@@ -6,7 +6,8 @@ use Rattle.pgn_cut.specs.declared.span.Span.{Span}
 abbrev pub EndsBy : ℕ → Span → Type 0
 EndsBy place s = (s.start < s.end) × (s.end ≤ place)
 
--- spans stand in order from a place on: each ends by another place, and begins where the one before it ends or after that
+-- spans are in order from a place on: each ends by another place, and begins at the end of the one before it or
+-- after that
 abbrev pub AreSpansInOrder : ℕ → ℕ → List Span → Type 0
 AreSpansInOrder from to [] = Unit {0}
 AreSpansInOrder from to (s ∷ ss) = (from ≤ s.start) × EndsBy to s × AreSpansInOrder s.end to ss

@@ -1,5 +1,5 @@
--- The state of a lexeme that is open at a place, because its end is still to come, as the private functions give it: which
--- bytes it has, which bytes go on with it, and what it is where none does.
+-- The state of a lexeme that is open at a place, because its end is still to come, as the private functions give it. It
+-- has the bytes of the lexeme, those that continue it, and its kind if none does.
 use Rattle.std.specs.Prelude.{◌≡◌, ℕ, ◌+◌, Bool, true, false, not, ◌==◌, ◌||◌, ◌&&◌, ◌⊎◌, nat_eq, nat_lt, List, [], ◌∷◌, ◌++◌, length, slice_index, codes, Option, None, Some, if◌then◌else◌}
 use Rattle.std.specs.List.{AllByRecursion, starts_with}
 use Rattle.std.specs.Char.{is_ascii_digit, is_ascii_alphanumeric}
@@ -15,18 +15,19 @@ use Rattle.pgn_cut.specs.declared.state.ResultMarkers.{ResultMarkers}
 use Rattle.pgn_cut.specs.declared.state.State.{State}
 use Rattle.pgn_cut.specs.declared.state.State.TheVariants.{AtStart, OneOfMark, TwoOfMark, Between, InComment, InLine, InText, InSymbol, InNumber, InSuffix, InNull}
 
--- the front of what stands between the quotes of a string; `escaped` says that a backslash at its end takes the next byte with it
+-- the front of the text between the quotes of a string; `escaped` is true if a backslash at its end takes the next byte
+-- with it
 abbrev pub IsPartOfText : (escaped : Bool) → List ℕ → Type 0
 IsPartOfText false body = IsBody body
 IsPartOfText true body = (before : List ℕ) × (body ≡ before ++ backslash ∷ []) × IsBody before
 
--- which results a symbol begins
+-- the results that a symbol begins
 abbrev pub BeginResults : ResultMarkers → List ℕ → Type 0
 BeginResults r bytes =
     (r.white ≡ starts_with nat_eq (codes "1-0") bytes) × (r.black ≡ starts_with nat_eq (codes "0-1") bytes)
     × (r.draw ≡ starts_with nat_eq (codes "1/2-1/2") bytes)
 
--- Some bytes are those of the open lexeme. `first` says whether it begins in the first column.
+-- Some bytes are those of the open lexeme. `first` is true if it begins in the first column.
 abbrev pub IsOpen : (first : Bool) → State → List ℕ → Type 0
 IsOpen first AtStart bytes = ⊥
 IsOpen first OneOfMark bytes = ⊥
@@ -40,7 +41,7 @@ IsOpen first InNumber bytes = (digits : List ℕ) × (bytes ≡ dollar_sign ∷ 
 IsOpen first InSuffix bytes = (bytes ≡ codes "!") ⊎ (bytes ≡ codes "?")
 IsOpen first InNull bytes = bytes ≡ codes "-"
 
--- a marker goes on with a byte at its place
+-- a byte at its place continues a marker
 abbrev pub begins_further : List ℕ → ℕ → ℕ → Bool
 begins_further marker len b = nat_lt len (length marker) && b == slice_index marker len
 
@@ -48,7 +49,7 @@ begins_further marker len b = nat_lt len (length marker) && b == slice_index mar
 abbrev pub results_from : ℕ → ResultMarkers
 results_from b = record { white = b == 49; black = b == 48; draw = b == 49 }
 
--- those of them that go on with a byte after `len` bytes
+-- those of them that a byte continues after `len` bytes
 abbrev pub results_after : ResultMarkers → ℕ → ℕ → ResultMarkers
 results_after r len b = record {
   white = r.white && begins_further (codes "1-0") len b;
@@ -56,11 +57,11 @@ results_after r len b = record {
   draw = r.draw && begins_further (codes "1/2-1/2") len b;
 }
 
--- whether one of them has `len` bytes
+-- true if one of them has `len` bytes
 abbrev pub are_spelled : ResultMarkers → ℕ → Bool
 are_spelled r len = ((r.white || r.black) && len == 3) || (r.draw && len == 7)
 
--- what a byte opens, if it isn't a lexeme by itself
+-- the state after the first byte of a lexeme, if it isn't a lexeme by itself
 abbrev pub begun : (first : Bool) → ℕ → Option State
 begun first b =
     if is_ascii_alphanumeric b then Some (InSymbol (results_from b))
@@ -74,7 +75,7 @@ begun first b =
     else (if b == hyphen then Some InNull
     else None))))))))
 
--- whether a byte belongs to what is open
+-- true if a byte belongs to what is open
 abbrev pub takes : State → ℕ → Bool
 takes AtStart b = b == first_of_mark
 takes OneOfMark b = b == second_of_mark
@@ -88,7 +89,7 @@ takes InNumber b = is_ascii_digit b
 takes InSuffix b = b == exclamation_mark || b == question_mark
 takes InNull b = b == hyphen
 
--- whether a byte that belongs to the open lexeme is its last
+-- true if a byte that belongs to the open lexeme is its last
 abbrev pub finishes : State → ℕ → Bool
 finishes InComment b = b == right_brace
 finishes (InText escaped) b = b == quote && not escaped
@@ -102,7 +103,7 @@ after (InText escaped) len b = InText (b == backslash && not escaped)
 after (InSymbol r) len b = InSymbol (results_after r len b)
 after s len b = s
 
--- the kind of the open lexeme where no more bytes belong to it, or with its last byte, as far as a cut tells kinds apart
+-- the kind of the open lexeme without more bytes, or with its last byte, as far as a cut distinguishes kinds
 abbrev pub kind_at_end : State → LexemeKind
 kind_at_end InComment = Token UnclosedComment
 kind_at_end InLine = Token LineComment
@@ -115,7 +116,7 @@ kind_with_last InComment = Token Comment
 kind_with_last (InText escaped) = Token Text
 kind_with_last _ = Token Null
 
--- whether the open lexeme is a marker where it has so many bytes and no more belong to it
+-- true if the open lexeme is a marker if it has `len` bytes and no more belong to it
 abbrev pub is_marker_at_end : State → ℕ → Bool
 is_marker_at_end (InSymbol r) len = are_spelled r len
 is_marker_at_end _ len = false
@@ -135,12 +136,12 @@ pub record Stays (s : State) (b : ℕ) : Type 0 where
   pub some : s ≡ Between → ⊥
   pub no_mark : is_in_mark s ≡ false
 
--- what is open ends before these bytes: there are none, or the first doesn't belong to it
+-- an open lexeme ends before these bytes: there are none, or the first doesn't belong to it
 abbrev pub EndsBefore : State → List ℕ → Type 0
 EndsBefore s [] = Unit {0}
 EndsBefore s (b ∷ bs) = takes s b ≡ false
 
--- a cut doesn't tell two kinds apart
+-- a cut doesn't distinguish two kinds
 pub record AreAlike (a b : LexemeKind) : Type 0 where
   pub nests : (d : ℕ) → nest d a ≡ nest d b
   pub pairs : (open_ : Bool) → opens_pair open_ a ≡ opens_pair open_ b
@@ -157,7 +158,7 @@ pub record IsOneLexeme (first : Bool) (bytes : List ℕ) (kind : LexemeKind) (ma
       ≡ record { at = at; first = first; text = bytes; kind = read }
       ∷ lexemes (at + length bytes) (first_at first bytes (length bytes)) rest
 
--- an open lexeme ends before certain bytes, by a kind that a cut takes for this one; where the archive ends, so does it, and
--- whether it goes on is not settled
+-- An open lexeme ends before certain bytes, by a kind that a cut takes for this one. At the archive's end it is
+-- unsettled: it ends there, but more bytes might continue it.
 abbrev pub EndsAs : (first : Bool) (bytes : List ℕ) (kind : LexemeKind) (marker : Bool) (Before : List ℕ → Type 0) → Type 0
 EndsAs first bytes kind marker Before = IsOneLexeme first bytes kind marker Before × IsUnsettled first bytes

@@ -1,4 +1,4 @@
--- What a cutter keeps of the bytes that it was fed: what it stands for.
+-- The state of a cutter, by the bytes that it was fed.
 use Rattle.std.specs.Prelude.{◌≡◌, ℕ, ◌+◌, ◌*◌, ◌≤◌, ◌⊎◌, Bool, true, List, [], ◌∷◌, ◌++◌, length, Option}
 use Rattle.std.specs.Option.{option_to_list}
 use Rattle.pgn_lexer.specs.Lexemes.{Lexeme, lexemes, first_at}
@@ -10,7 +10,7 @@ use Rattle.pgn_cut.specs.declared.cutter.Cutter.{Cutter}
 use Rattle.pgn_cut.specs.declared.state.State.{State}
 use Rattle.pgn_cut.specs.declared.state.State.TheVariants.{AtStart, OneOfMark, TwoOfMark, Between}
 
--- the counts of a cutter fit what it was fed
+-- the counts of a cutter fit the bytes that it was fed
 abbrev pub IsSound : Cutter → Type 0
 IsSound c = (c.game.depth ≤ 2 * c.place) × (c.at ≤ c.place)
 
@@ -23,7 +23,7 @@ pub record IsInMark (c : Cutter) (fed : List ℕ) : Type 0 where
   pub sound : IsSound c
 
 -- These bytes are lexemes, of which `kept` are those of the open game, and then the bytes of the open lexeme. Whatever
--- follows, the cut goes on after the closed games with these.
+-- follows, the cut continues after the closed games with these.
 pub record IsInText (c : Cutter) (fed : List ℕ) : Type 0 where
   pub kept : List Lexeme
   pub bytes : List ℕ
@@ -36,11 +36,11 @@ pub record IsInText (c : Cutter) (fed : List ℕ) : Type 0 where
   pub cuts : (more : List ℕ) → cut (fed ++ more)
       ≡ closed fed ++ cut_from (length fed + length more) kept (lexemes c.at c.first (bytes ++ more))
 
--- a cutter stands for the bytes that it was fed
+-- a cutter represents the bytes that it was fed
 abbrev pub Stands : Cutter → List ℕ → Type 0
 Stands c fed = IsInMark c fed ⊎ IsInText c fed
 
--- What follows says what a step of a cutter does, as the private functions give it.
+-- The definitions below are the steps of a cutter, as the private functions give them.
 
 -- nothing is open at a place
 pub record IsBetween (c : Cutter) (place : ℕ) (column : Bool) : Type 0 where
@@ -50,7 +50,8 @@ pub record IsBetween (c : Cutter) (place : ℕ) (column : Bool) : Type 0 where
   pub place_ : c.place ≡ place
   pub column_ : c.column ≡ column
 
--- What is open ends here: a game may be closed, and the cut goes on with what follows, if that is no part of what was open.
+-- An open lexeme ends here: a game may be closed. The cut continues with the bytes that follow, if they are no part of
+-- the lexeme or mark that was open.
 pub record IsEnded (c : Cutter) (games : Option Span) (was : State) (fed : List ℕ) : Type 0 where
   pub kept : List Lexeme
   pub game : c.game ≡ progress_of kept
@@ -59,7 +60,7 @@ pub record IsEnded (c : Cutter) (games : Option Span) (was : State) (fed : List 
   pub cuts : (rest : List ℕ) → EndsBefore was rest → cut (fed ++ rest)
       ≡ (closed fed ++ option_to_list games) ++ cut_from (length fed + length rest) kept (lexemes c.at c.first rest)
 
--- A byte that follows belongs to what is open, where the bytes before it and itself close these games.
+-- The next byte belongs to what is open. With that byte these games are closed.
 pub record IsReady (c : Cutter) (fed : List ℕ) (b : ℕ) (games : List Span) : Type 0 where
   pub kept : List Lexeme
   pub bytes : List ℕ
@@ -73,7 +74,7 @@ pub record IsReady (c : Cutter) (fed : List ℕ) (b : ℕ) (games : List Span) :
   pub cuts : (more : List ℕ) → cut (fed ++ b ∷ more)
       ≡ games ++ cut_from (length fed + length (b ∷ more)) kept (lexemes c.at c.first (bytes ++ b ∷ more))
 
--- a cutter was fed more bytes, and the closed games are now these
+-- a cutter was fed more bytes, and the closed games are these
 abbrev pub HasTaken : Cutter → List ℕ → List Span → Type 0
 HasTaken c fed games = IsInText c fed × (closed fed ≡ games)
 

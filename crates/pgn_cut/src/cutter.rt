@@ -30,8 +30,8 @@ use pgn_lexer::{
     readings_are_longest, readings_grow, white_space_is_passed,
 };
 
-/// Cuts an archive that comes in pieces. It keeps none of its bytes: what is open at its place, where that begins, and
-/// what the open game shows so far.
+/// Cuts an archive that comes in pieces. It keeps none of the archive's bytes. It keeps what is open at its place, the
+/// place where that begins, and the progress of the open game.
 #[derive(Clone, Copy)]
 pub struct Cutter {
     state: State,
@@ -44,7 +44,7 @@ pub struct Cutter {
 
 impl Shared for Cutter {}
 
-// A byte of a mark that turned out to be none.
+// A bad byte: a byte of an incomplete byte order mark.
 fn bad_byte(at: u64) -> LexemeView
     requires { at < 2 ^ 62 }
     ensures { result ≡ record { at = at; end = at + 1; first = at == 0; kind = Token BadByte; marker = false } }
@@ -77,14 +77,14 @@ fn append(spans: &mut Vec<Span>, first: Option<Span>, second: Option<Span>) -> R
 }
 
 impl Cutter {
-    /// A cutter that was fed nothing.
+    /// Returns a cutter that was fed nothing.
     pub fn new() -> Cutter
         ensures { Stands result [] }
     {
         Cutter::in_mark(State::AtStart, 0)
     }
 
-    // The cutter in a byte order mark, of which so many bytes are read.
+    // The cutter in a byte order mark, of which `place` bytes are read.
     fn in_mark(state: State, place: u64) -> Cutter
         ensures place { (result.state ≡ state) × (result.at ≡ 0) × (result.place ≡ place) }
         ensures game { result.game ≡ progress_of [] }
@@ -114,7 +114,7 @@ impl Cutter {
         }
     }
 
-    // The cutter after a lexeme from its place to another, and the game that it closes, where it closes one.
+    // The cutter after a lexeme, from its place to another, and the game that the lexeme closes, if any.
     fn after_lexeme(
         self,
         end: u64,
@@ -141,7 +141,7 @@ impl Cutter {
         (Cutter::between(game, end, column), closed)
     }
 
-    // The cutter after a part of a byte order mark whose rest doesn't come, so that its bytes are lexemes.
+    // The cutter after a part of a byte order mark without its rest, so that its bytes are lexemes.
     fn without_mark(self) -> Cutter
         requires { is_in_mark self.state ≡ true }
         ensures counts { (result.game.depth ≤ 2) × (result.at ≤ 2) × (result.place ≡ result.at) }
@@ -159,7 +159,7 @@ impl Cutter {
         }
     }
 
-    // The cutter where what is open ends at its place, and the game that is closed by that, where one is.
+    // The cutter after the end of what is open, at its place, and the game that is closed by that, if any.
     fn ended(self) -> (Cutter, Option<Span>)
         requires depth { self.game.depth + 1 < 2 ^ 63 }
         requires place { self.place < 2 ^ 62 }
@@ -214,7 +214,7 @@ impl Cutter {
         }
     }
 
-    // The cutter after a byte where nothing was open, and the game that the byte closes, where it closes one.
+    // The cutter after a byte at a place where nothing is open, and the game that the byte closes, if any.
     fn begun(self, b: u8) -> (Cutter, Option<Span>)
         requires state { self.state ≡ Between }
         requires depth { self.game.depth < 2 ^ 63 }
@@ -236,7 +236,7 @@ impl Cutter {
         }
     }
 
-    // The cutter after a byte that belongs to what is open, and the game that the byte closes, where it closes one.
+    // The cutter after a byte that belongs to what is open, and the game that the byte closes, if any.
     fn taken(self, b: u8) -> (Cutter, Option<Span>)
         requires depth { self.game.depth < 2 ^ 63 }
         requires place { self.place < 2 ^ 62 }
@@ -257,7 +257,8 @@ impl Cutter {
         (self.with_open(state, column), None)
     }
 
-    // The cutter after one more byte, and the games that are closed before that and by that, where they are.
+    // The cutter after one more byte, the game that is closed before that byte and the one that is closed by it, if
+    // any.
     fn step(self, b: u8) -> (Cutter, Option<Span>, Option<Span>)
         requires depth { self.game.depth + 1 < 2 ^ 63 }
         requires place { self.place < 2 ^ 62 }
@@ -289,7 +290,7 @@ impl Cutter {
         self.column = run[run.len() - 1] == b'\n';
     }
 
-    // Nothing is open after some bytes.
+    // Moves on over some bytes after which nothing is open.
     fn go_on(&mut self, run: &[u8])
         requires some { 0 < length run.now }
         requires place { self.old.place + length run.now < 2 ^ 62 }
@@ -303,7 +304,8 @@ impl Cutter {
         self.first = self.column;
     }
 
-    // How many bytes at the start of some change nothing of what is kept of the open game: white space, words, or a tag pair.
+    // The number of bytes at the start of some that leave the progress of the open game as it is: white space, words,
+    // or a tag pair.
     fn quiet_len(&self, rest: &[u8]) -> usize
         requires { 0 < length rest.now }
         ensures within { result ≤ length rest.now }
@@ -318,7 +320,7 @@ impl Cutter {
         usize::from(is_white(rest[0]))
     }
 
-    // After bytes that change nothing of what is kept of the open game.
+    // Moves on over bytes that leave the progress of the open game as it is.
     fn pass_quiet(&mut self, run: &[u8])
         requires state { self.old.state ≡ Between }
         requires some { 0 < length run.now }
@@ -330,7 +332,7 @@ impl Cutter {
         self.go_on(run);
     }
 
-    // After a lexeme of so many bytes, where nothing follows it but white space. Answers the game that it closes, where it closes one.
+    // Moves on over a lexeme that nothing follows but white space. Returns the game that it closes, if any.
     fn pass_lexeme(&mut self, run: &[u8], found: SettledLexeme) -> Option<Span>
         requires state { self.old.state ≡ Between }
         requires some { 0 < length run.now }
@@ -353,7 +355,8 @@ impl Cutter {
         closed
     }
 
-    // Takes one of the bytes that are left, and appends the games that are closed by that.
+    // Takes the first of the remaining bytes, and appends the games that are closed by that. Returns the number of
+    // bytes taken.
     fn take_byte(&mut self, rest: &[u8], spans: &mut Vec<Span>) -> Result<usize, NoMemory>
         requires some { 0 < length rest.now }
         requires depth { self.old.game.depth + 1 < 2 ^ 63 }
@@ -369,7 +372,7 @@ impl Cutter {
         Ok(1)
     }
 
-    // The same of a lexeme, where it is settled, or of one byte. Nothing is open.
+    // Takes a lexeme, if it is settled, or one byte. Nothing is open.
     fn take_lexeme(&mut self, rest: &[u8], spans: &mut Vec<Span>) -> Result<usize, NoMemory>
         requires state { self.old.state ≡ Between }
         requires some { 0 < length rest.now }
@@ -390,7 +393,7 @@ impl Cutter {
         }
     }
 
-    // The same of bytes that leave all as it is, where there are some.
+    // Takes bytes that leave all as it is, if there are some, or else a lexeme or one byte.
     fn turn(&mut self, rest: &[u8], spans: &mut Vec<Span>) -> Result<usize, NoMemory>
         requires some { 0 < length rest.now }
         requires depth { self.old.game.depth + 1 < 2 ^ 63 }
@@ -416,8 +419,12 @@ impl Cutter {
         self.take_byte(rest, spans)
     }
 
-    /// Takes the next bytes of the archive, and appends the games that they close. Fails only when out of memory, and then
-    /// leaves the cutter and the spans as they are. All bytes together are fewer than 2^62.
+    /// Takes the next bytes of the archive, and appends the games that they close. All bytes together are fewer than
+    /// 2^62.
+    ///
+    /// # Errors
+    ///
+    /// Fails only if out of memory, and then leaves the cutter and the spans as they are.
     pub fn feed(&mut self, piece: &[u8], spans: &mut Vec<Span>) -> Result<(), NoMemory>
         requires { (fed : List ℕ) × Stands self.old fed × (length fed + length piece.now < 2 ^ 62) }
         ensures stands { OnOk result ((fed : List ℕ) → Stands self.old fed → Stands self.new (fed ++ piece.now)) }
@@ -441,7 +448,7 @@ impl Cutter {
         Ok(())
     }
 
-    // The place by what is kept: the open game's first lexeme, or else the open lexeme.
+    // The place of the open game's first lexeme, or else of the open lexeme.
     fn open_place(&self) -> Option<u64>
         ensures { result ≡ open_place (begins_at self.now.game.start) self.now.state self.now.at }
     {
@@ -456,8 +463,8 @@ impl Cutter {
         }
     }
 
-    /// Where the open game begins, so that the bytes before it need not be kept; None where none is open. The games after it begin
-    /// where the bytes that were fed end, or later.
+    /// Returns the place where the open game begins, or None if none is open. The bytes before it need not be kept. The
+    /// games after it begin at the end of the bytes that were fed, or later.
     pub fn open_at(&self) -> Option<u64>
         ensures { (fed : List ℕ) → Stands self.now fed → IsOpenAt result fed }
     {
@@ -469,8 +476,12 @@ impl Cutter {
         self.open_place()
     }
 
-    /// Appends the last game, where there is one, at the archive's end. The cutter stays as it is, so a second call appends
-    /// that game again. Fails only when out of memory, and then leaves the spans as they are too.
+    /// Appends the last game, if there is one, at the archive's end. The cutter stays as it is, so a second call
+    /// appends that game again.
+    ///
+    /// # Errors
+    ///
+    /// Fails only if out of memory, and then leaves the spans as they are too.
     pub fn finish(&mut self, spans: &mut Vec<Span>) -> Result<(), NoMemory>
         requires { (fed : List ℕ) × Stands self.old fed × (length fed < 2 ^ 62) }
         ensures games { OnOk result ((fed : List ℕ) → Stands self.old fed →

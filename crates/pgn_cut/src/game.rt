@@ -1,4 +1,4 @@
-//! A game that is being cut: what its lexemes show so far.
+//! A game that is being cut: its progress by the lexemes so far.
 ghost use Rattle.std.specs.Prelude.{◌≡◌, ◌+◌, ◌<◌, ◌≤◌, ◌^◌, ◌++◌, ◌||◌, ◌&&◌, ◌==◌, not, ℕ, List, [], ◌∷◌, length};
 ghost use Rattle.std.specs.Option.{option_to_list};
 ghost use Rattle.pgn_lexer.specs.Lexemes.{Lexeme as ALexeme};
@@ -10,14 +10,14 @@ ghost use Rattle.pgn_cut.specs.Progress.{begins_at, progress_of, span_from, IsSt
 use crate::span::Span;
 use pgn_lexer::{LexemeKind, TokenKind};
 
-/// Where a game begins.
+/// The beginning of a game.
 #[derive(Clone, Copy)]
 pub(crate) struct Start {
     at: u64,
     first: bool,
 }
 
-/// What the lexemes of a game show so far.
+/// The progress of a game by its lexemes so far.
 #[derive(Clone, Copy)]
 pub(crate) struct OpenGame {
     start: Option<Start>,
@@ -27,14 +27,14 @@ pub(crate) struct OpenGame {
     has_more: bool,
 }
 
-// Whether a symbol is the marker of a result.
+// True if a symbol is the marker of a result.
 fn is_result(text: &[u8]) -> bool
     ensures { result ≡ is_result text.now }
 {
     text == b"1-0".as_slice() || text == b"0-1".as_slice() || text == b"1/2-1/2".as_slice()
 }
 
-/// Whether a lexeme of a kind marks the end of a game.
+/// Returns true if a lexeme of a kind marks the end of a game.
 pub(crate) fn marks(kind: LexemeKind, text: &[u8]) -> bool
     ensures { result ≡ marks kind text.now }
 {
@@ -45,7 +45,7 @@ pub(crate) fn marks(kind: LexemeKind, text: &[u8]) -> bool
     }
 }
 
-/// What a cut looks at of a lexeme, whose places count from the archive's first byte.
+/// The view that a cut has of a lexeme, whose places count from the archive's first byte.
 #[derive(Clone, Copy)]
 pub(crate) struct LexemeView {
     pub(crate) at: u64,
@@ -68,7 +68,7 @@ fn nest(depth: usize, kind: LexemeKind) -> usize
     }
 }
 
-// Whether a tag pair is open after a lexeme.
+// True if a tag pair is open after a lexeme.
 fn opens_pair(in_pair: bool, kind: LexemeKind) -> bool
     ensures { result ≡ opens_pair in_pair kind }
 {
@@ -79,7 +79,7 @@ fn opens_pair(in_pair: bool, kind: LexemeKind) -> bool
     }
 }
 
-// Whether a lexeme is movetext where it stands outside a tag pair.
+// True if a lexeme outside a tag pair is movetext.
 fn is_movetext(kind: LexemeKind) -> bool
     ensures { result ≡ is_movetext kind }
 {
@@ -99,7 +99,7 @@ fn is_movetext(kind: LexemeKind) -> bool
     }
 }
 
-// Whether a lexeme alone makes no game.
+// True if a lexeme alone makes no game.
 fn is_passed_over(kind: LexemeKind) -> bool
     ensures { result ≡ is_passed_over kind }
 {
@@ -109,7 +109,7 @@ fn is_passed_over(kind: LexemeKind) -> bool
     )
 }
 
-// Whether a lexeme opens a tag pair.
+// True if a lexeme opens a tag pair.
 fn opens(kind: LexemeKind) -> bool
     ensures { result ≡ opens kind }
 {
@@ -132,35 +132,36 @@ impl OpenGame {
         }
     }
 
-    /// Whether words change nothing that is kept: there is movetext, or a tag pair is open.
+    /// Returns true if words leave the progress as it is: there is movetext, or a tag pair is open.
     pub(crate) fn passes_words(self) -> bool
         ensures { result ≡ passes_words self }
     {
         self.has_more && (self.has_movetext || self.in_pair)
     }
 
-    /// Whether a tag pair changes nothing that is kept: there is more before it, no movetext, and none is open.
+    /// Returns true if a tag pair leaves the progress as it is: there is more before it, no movetext, and no tag pair
+    /// is open.
     pub(crate) fn passes_pairs(self) -> bool
         ensures { result ≡ passes_pairs self }
     {
         self.has_more && !(self.has_movetext || self.in_pair)
     }
 
-    // Whether the game has movetext, a further lexeme included.
+    // True if the game has movetext, a further lexeme included.
     fn sees_movetext(self, kind: LexemeKind) -> bool
         ensures { result ≡ (self.has_movetext || (is_movetext kind && not self.in_pair)) }
     {
         self.has_movetext || (is_movetext(kind) && !self.in_pair)
     }
 
-    // Whether the game has more than closed comments and escape lines, a further lexeme included.
+    // True if the game has more than closed comments and escape lines, a further lexeme included.
     fn sees_more(self, kind: LexemeKind) -> bool
         ensures { result ≡ (self.has_more || not (is_passed_over kind)) }
     {
         self.has_more || !is_passed_over(kind)
     }
 
-    // One lexeme more.
+    // Adds one lexeme.
     fn add(&mut self, look: LexemeView)
         requires depth { self.old.depth < 2 ^ 63 }
         ensures value { (game : List ALexeme) (l : ALexeme) → IsViewOf look l → self.old ≡ progress_of game →
@@ -178,7 +179,7 @@ impl OpenGame {
         self.in_pair = opens_pair(self.in_pair, look.kind);
     }
 
-    /// The game with one more lexeme.
+    /// Returns the game with one more lexeme.
     pub(crate) fn with(self, look: LexemeView) -> OpenGame
         requires depth { self.depth < 2 ^ 63 }
         ensures value { (game : List ALexeme) (l : ALexeme) → IsViewOf look l → self ≡ progress_of game →
@@ -190,7 +191,7 @@ impl OpenGame {
         game
     }
 
-    /// Where it begins, once it has a lexeme.
+    /// Returns the place where it begins, once it has a lexeme.
     pub(crate) fn begins_at(self) -> Option<u64>
         ensures { result ≡ begins_at self.start }
     {
@@ -208,7 +209,7 @@ impl OpenGame {
         })
     }
 
-    /// The last game of an archive that ends at a place, where there is one.
+    /// Returns the last game of an archive that ends at a place, if there is one.
     pub(crate) fn last(self, place: u64) -> Option<Span>
         ensures { (game : List ALexeme) → self ≡ progress_of game → option_to_list result ≡ cut_from place game [] }
     {
@@ -219,21 +220,21 @@ impl OpenGame {
         }
     }
 
-    // Whether the game ends before a lexeme: a `[` in the first column, where it has movetext.
+    // True if the game ends before a lexeme: a `[` in the first column, after movetext.
     fn ends_before(self, look: LexemeView) -> bool
         ensures { result ≡ (opens look.kind && look.first && self.has_movetext) }
     {
         opens(look.kind) && look.first && self.has_movetext
     }
 
-    // Whether the game ends after a lexeme: a marker outside variations.
+    // True if the game ends after a lexeme: a marker outside variations.
     fn ends_after(self, look: LexemeView) -> bool
         ensures { result ≡ (look.marker && self.depth == 0) }
     {
         self.depth == 0 && look.marker
     }
 
-    /// Meets a lexeme, and answers the game that it closes, where it closes one.
+    /// Adds a lexeme, and returns the game that it closes, if any.
     pub(crate) fn meet(&mut self, look: LexemeView) -> Option<Span>
         requires depth { self.old.depth < 2 ^ 63 }
         ensures deeper { self.new.depth ≤ self.old.depth + 1 }

@@ -1,4 +1,4 @@
-//! Laws of the cut, for the crates above. Each is proved for all archives; to call one costs nothing.
+//! Laws of the cut, for the crates above. Each is proved for all archives, and a call costs nothing.
 ghost use Rattle.std.specs.Prelude.{◌≡◌, ◌+◌, ◌++◌, ◌==◌, ℕ, Bool, true, false, List, [], ◌∷◌, None, All, length};
 ghost use Rattle.pgn_lexer.specs.Lexemes.{lexemes, tokens_of};
 ghost use Rattle.cq_common.specs.Text.{is_white};
@@ -22,7 +22,7 @@ use pgn_lexer::{
     whole_lexemes_stay,
 };
 
-/// The games of a cut stand in their archive in order, each with at least one byte, and don't overlap.
+/// The games of a cut are in order in their archive, each with at least one byte, and don't overlap.
 pub fn games_stand_apart()
     ensures order { (archive : List ℕ) → AreSpansInOrder 0 (length archive) (cut archive) }
     ensures each { (archive : List ℕ) → All (EndsBy (length archive)) (cut archive) }
@@ -38,8 +38,8 @@ pub fn games_have_their_tokens()
     lexemes_are_local();
 }
 
-/// The bytes of each game of a cut are one game of a cut. No game ends within such bytes: no lexeme of theirs stands
-/// after a marker outside variations, no `[` in the first column after movetext, and so no token after such a marker.
+/// The bytes of each game of a cut are one game of a cut. No game ends within such bytes. They have no lexeme after a
+/// marker outside variations, and no `[` in the first column after movetext. So they have no token after such a marker.
 pub fn games_end_once()
     ensures each { (archive : List ℕ) → All (IsGameIn archive) (cut archive) }
     ensures lexemes { (start : ℕ) (first : Bool) (bytes : List ℕ) →
@@ -52,7 +52,7 @@ pub fn games_end_once()
     lexemes_are_spelled();
 }
 
-/// The games that a prefix of an archive closes are the archive's first ones, and the first that any longer prefix
+/// The games that a prefix of an archive closes are the archive's first ones. They are the first that any longer prefix
 /// closes, whatever follows. A prefix has at most one game besides, which ends with it.
 pub fn closed_games_stay()
     ensures stay { (front more : List ℕ) → (rest : List ASpan) × (cut (front ++ more) ≡ closed front ++ rest) }
@@ -65,8 +65,9 @@ pub fn closed_games_stay()
     readings_are_longest();
 }
 
-/// An archive splits after each of its games. The bytes before the seam are cut into the games up to that one. Those after it are cut,
-/// after one space, into the games after that one: the same ones with the same tokens, so many bytes further on.
+/// An archive splits after each of its games. The bytes before the seam are cut into the games up to that one. Those
+/// after it are cut, after one space, into the games after that one. They are the same games with the same tokens,
+/// moved.
 pub fn archives_split()
     ensures { (archive : List ℕ) (before : List ASpan) (game : ASpan) (after : List ASpan) →
         cut archive ≡ before ++ game ∷ after → IsSeam archive before game after }
@@ -80,9 +81,10 @@ pub fn archives_split()
     lexemes_move();
 }
 
-/// What is read of an open lexeme and the bytes after it follows from its state and these: it ends before the first that
-/// doesn't belong to it, or with its last. A byte that opens none is white space or a lexeme by itself. And the games that
-/// a prefix of an archive closes are those before which its cut goes on, whatever follows, with what it leaves open.
+/// The reading of an open lexeme and the bytes after it follows from its state and these bytes. It ends before the
+/// first that doesn't belong to it, or with its last. A byte that opens none is white space or a lexeme by itself. The
+/// cut of any longer archive begins with the games that a prefix closes. It continues, whatever follows, with the
+/// lexemes and bytes that the prefix leaves open.
 pub fn open_lexemes_settle()
     ensures ends { (first : Bool) (s : AState) (bytes : List ℕ) → IsOpen first s bytes → (s ≡ Between → ⊥) →
         EndsAs first bytes (kind_at_end s) (is_marker_at_end s (length bytes)) (EndsBefore s) }

@@ -1,9 +1,10 @@
 //! An archive of PGN, cut into its games.
 //!
-//! `specs/Cut` says where games begin and end, by the lexemes of the whole archive; `cut_whole` gives exactly these.
-//! The laws say that games stand in order, that the tokens of a game are the archive's lexemes within it, that no game
-//! ends within another, that the games which a prefix of an archive closes stay, whatever follows, and that an archive splits
-//! after each of its games. A `Cutter` gives the games of an archive that comes in pieces, and where the open game begins.
+//! `specs/Cut` defines the beginning and the end of each game, by the lexemes of the whole archive; `cut_whole` gives
+//! exactly these. The laws say that games are in order, and that the tokens of a game are the archive's lexemes within
+//! it. No game ends within another. The games that a prefix of an archive closes stay, whatever follows, and an archive
+//! splits after each of its games. A `Cutter` gives the games of an archive that comes in pieces, and the beginning of
+//! the open game.
 #![tactic(auto)]
 
 mod cutter;

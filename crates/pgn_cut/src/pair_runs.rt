@@ -1,4 +1,4 @@
-//! Tag pairs, each at once.
+//! Tag pairs, each in one step.
 ghost use Rattle.std.specs.Prelude.{◌≡◌, ◌+◌, ◌-◌, ◌<◌, ◌≤◌, length, take, drop, slice_index, IfSome};
 ghost use Rattle.pgn_lexer.specs.Bytes.{ends_line, left_bracket};
 ghost use Rattle.pgn_lexer.specs.declared.token.LexemeKind.{LexemeKind as AKind};
@@ -11,7 +11,7 @@ use crate::settled_lexeme::{SettledLexeme, settled_lexeme};
 use crate::word_runs::words_len;
 use pgn_lexer::{LexemeKind, TokenKind};
 
-// The lexeme at a place of some bytes after their first, where it ends there whatever follows.
+// The lexeme at a place of some bytes after their first, if it ends there whatever follows.
 fn lexeme_at(bytes: &[u8], at: usize) -> Option<SettledLexeme>
     requires { (0 < at) × (at ≤ length bytes.now) }
     ensures some { IfSome result (λ f. (0 < f.taken) × (at + f.taken ≤ length bytes.now)) }
@@ -24,7 +24,7 @@ fn lexeme_at(bytes: &[u8], at: usize) -> Option<SettledLexeme>
     settled_lexeme(bytes[at - 1] == b'\n', rest)
 }
 
-// How many bytes from a place on are a string, with the white space after it.
+// The length in bytes of a string from a place on, with the white space after it.
 fn text_len(bytes: &[u8], at: usize) -> Option<usize>
     requires { (0 < at) × (at ≤ length bytes.now) }
     ensures some { IfSome result (λ n. (0 < n) × (at + n ≤ length bytes.now)) }
@@ -37,7 +37,7 @@ fn text_len(bytes: &[u8], at: usize) -> Option<usize>
     }
 }
 
-// How many bytes from a place on are a closing bracket, with the white space after it.
+// The length in bytes of a closing bracket from a place on, with the white space after it.
 fn closing_len(bytes: &[u8], at: usize) -> Option<usize>
     requires { (0 < at) × (at ≤ length bytes.now) }
     ensures some { IfSome result (λ n. (0 < n) × (at + n ≤ length bytes.now)) }
@@ -50,7 +50,8 @@ fn closing_len(bytes: &[u8], at: usize) -> Option<usize>
     }
 }
 
-/// How many bytes at the start of some, which begin with a bracket, are a tag pair, where they are one with a name.
+/// Returns the length of the tag pair at the start of some bytes, which begin with a bracket. None if they are no tag
+/// pair with a name.
 pub(crate) fn pair_len(bytes: &[u8]) -> Option<usize>
     requires some { 0 < length bytes.now }
     requires bracket { slice_index bytes.now 0 ≡ left_bracket }

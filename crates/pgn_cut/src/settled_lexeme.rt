@@ -1,4 +1,4 @@
-//! A lexeme that no byte goes on with, or that white space follows.
+//! A lexeme that no byte continues, or that white space follows.
 ghost use Rattle.std.specs.Prelude.{◌≡◌, ◌<◌, ◌≤◌, length, take, IfSome};
 ghost use Rattle.pgn_lexer.specs.SingleLexeme.{runs_on};
 ghost use Rattle.pgn_cut.specs.Cut.{marks};
@@ -11,8 +11,8 @@ use pgn_lexer::{
     whole_lexemes_stay,
 };
 
-/// A lexeme at the start of some bytes: its kind, whether it marks a result, how many bytes it has, and how many with the byte of
-/// white space after it, where that is taken with it.
+/// A lexeme at the start of some bytes: its kind, `marker` (true if it marks a result), and its length in bytes.
+/// `taken` is the length with the byte of white space after it, if that is taken with it.
 #[derive(Clone, Copy)]
 pub(crate) struct SettledLexeme {
     pub(crate) kind: LexemeKind,
@@ -21,7 +21,7 @@ pub(crate) struct SettledLexeme {
     pub(crate) taken: usize,
 }
 
-// Whether no byte goes on with a lexeme of a kind.
+// True if no byte continues a lexeme of a kind.
 fn is_whole(kind: LexemeKind) -> bool
     ensures { result ≡ is_whole kind }
 {
@@ -41,7 +41,7 @@ fn is_whole(kind: LexemeKind) -> bool
     )
 }
 
-// Whether a lexeme of a kind goes on over white space.
+// True if a lexeme of a kind continues over white space.
 fn runs_on(kind: LexemeKind) -> bool
     ensures { result ≡ runs_on kind }
 {
@@ -84,7 +84,8 @@ fn settled(bytes: &[u8], reading: Reading) -> Option<SettledLexeme>
     None
 }
 
-/// The lexeme at the start of some bytes, where it ends there whatever follows them. `first` says whether it stands in the first column.
+/// Returns the lexeme at the start of some bytes, if it ends there whatever follows them. `first` is true if it is in
+/// the first column.
 pub(crate) fn settled_lexeme(first: bool, bytes: &[u8]) -> Option<SettledLexeme>
     requires { 0 < length bytes.now }
     ensures some { IfSome result (λ f. (0 < f.taken) × (f.len ≤ f.taken)) }

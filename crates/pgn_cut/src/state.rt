@@ -1,4 +1,4 @@
-//! What is open at a place of an archive that comes in pieces.
+//! The state at a place of an archive that comes in pieces.
 ghost use Rattle.std.specs.Prelude.{◌≡◌, ◌≤◌, ◌&&◌, ◌==◌, ℕ, true, false, take, nat_lt, codes, slice_index, length};
 ghost use Rattle.std.specs.List.{AllByRecursion};
 ghost use Rattle.pgn_cut.specs.States.{begins_further, results_from, results_after, are_spelled, takes, finishes, after, begun, is_in_mark, Stays, kind_at_end, kind_with_last, is_marker_at_end};
@@ -6,7 +6,7 @@ ghost use Rattle.pgn_cut.specs.declared.state.State.TheVariants.{Between};
 
 use pgn_lexer::{LexemeKind, TokenKind, continues_symbol, place_of, plain_len};
 
-/// Which markers of a result begin with the bytes of a symbol.
+/// The markers of a result that begin with the bytes of a symbol.
 #[derive(Clone, Copy)]
 pub(crate) struct ResultMarkers {
     white: bool,
@@ -14,8 +14,8 @@ pub(crate) struct ResultMarkers {
     draw: bool,
 }
 
-/// What is open at a place: a part of a byte order mark at the archive's start, nothing, or a lexeme whose end is still to
-/// come.
+/// The state at a place: a part of a byte order mark at the archive's start, nothing, or a lexeme without its end so
+/// far.
 #[derive(Clone, Copy)]
 pub(crate) enum State {
     AtStart,
@@ -24,7 +24,7 @@ pub(crate) enum State {
     Between,
     InComment,
     InLine,
-    /// Whether a backslash takes the next byte with it.
+    /// True if a backslash takes the next byte with it.
     InText(bool),
     InSymbol(ResultMarkers),
     InNumber,
@@ -32,7 +32,7 @@ pub(crate) enum State {
     InNull,
 }
 
-// Whether a marker, of which so many bytes are read, goes on with a byte.
+// True if a byte continues a marker, of which `len` bytes are read.
 fn begins_further(marker: &[u8], len: u64, b: u8) -> bool
     ensures { result ≡ begins_further marker.now len b }
 {
@@ -40,7 +40,7 @@ fn begins_further(marker: &[u8], len: u64, b: u8) -> bool
 }
 
 impl ResultMarkers {
-    // Those that begin with a byte.
+    // The markers that begin with a byte.
     fn from(b: u8) -> ResultMarkers
         ensures { result ≡ results_from b }
     {
@@ -51,7 +51,7 @@ impl ResultMarkers {
         }
     }
 
-    // Those that go on with a byte after so many bytes.
+    // The markers of these that a byte continues after `len` bytes.
     fn after(self, len: u64, b: u8) -> ResultMarkers
         ensures { result ≡ results_after self len b }
     {
@@ -62,7 +62,7 @@ impl ResultMarkers {
         }
     }
 
-    // Whether one of them has so many bytes.
+    // True if one of them has `len` bytes.
     fn are_spelled(self, len: u64) -> bool
         ensures { result ≡ are_spelled self len }
     {
@@ -71,8 +71,8 @@ impl ResultMarkers {
 }
 
 impl State {
-    /// What a byte opens that is not white space; `first` says whether it stands in the first column. None where it is a
-    /// lexeme by itself.
+    /// Returns the state after the first byte of a lexeme. `first` is true if the byte is in the first column. None if
+    /// the byte is a lexeme by itself.
     pub(crate) fn begun(first: bool, b: u8) -> Option<State>
         ensures { result ≡ begun first b }
     {
@@ -90,7 +90,7 @@ impl State {
         }
     }
 
-    /// Whether nothing is open.
+    /// Returns true if nothing is open.
     pub(crate) fn is_between(self) -> bool
         ensures yes { result ≡ true → self ≡ Between }
         ensures no { result ≡ false → self ≡ Between → ⊥ }
@@ -98,14 +98,14 @@ impl State {
         matches!(self, State::Between)
     }
 
-    /// Whether a part of a byte order mark is open.
+    /// Returns true if a part of a byte order mark is open.
     pub(crate) fn is_in_mark(self) -> bool
         ensures { result ≡ is_in_mark self }
     {
         matches!(self, State::AtStart | State::OneOfMark | State::TwoOfMark)
     }
 
-    /// Whether a byte belongs to what is open.
+    /// Returns true if a byte belongs to what is open.
     pub(crate) fn takes(self, b: u8) -> bool
         ensures { result ≡ takes self b }
     {
@@ -122,7 +122,7 @@ impl State {
         }
     }
 
-    /// Whether a byte that belongs to the open lexeme is its last, whatever follows.
+    /// Returns true if a byte that belongs to the open lexeme is its last, whatever follows.
     pub(crate) fn finishes(self, b: u8) -> bool
         ensures { result ≡ finishes self b }
     {
@@ -134,7 +134,7 @@ impl State {
         }
     }
 
-    /// The open lexeme, of which so many bytes are read, after one more that isn't its last.
+    /// Returns the state of the open lexeme, of which `len` bytes are read, after one more that isn't its last.
     pub(crate) fn after(self, len: u64, b: u8) -> State
         ensures { result ≡ after self len b }
     {
@@ -145,7 +145,7 @@ impl State {
         }
     }
 
-    /// The kind of the open lexeme where no more bytes belong to it, as far as a cut tells kinds apart.
+    /// Returns the kind of the open lexeme if no more bytes belong to it, as far as a cut distinguishes kinds.
     pub(crate) fn kind_at_end(self) -> LexemeKind
         ensures { result ≡ kind_at_end self }
     {
@@ -159,7 +159,7 @@ impl State {
         LexemeKind::Token(kind)
     }
 
-    /// Its kind with its last byte.
+    /// Returns its kind with its last byte.
     pub(crate) fn kind_with_last(self) -> LexemeKind
         ensures { result ≡ kind_with_last self }
     {
@@ -171,7 +171,7 @@ impl State {
         LexemeKind::Token(kind)
     }
 
-    /// Whether the open lexeme marks a result where it has so many bytes and no more belong to it.
+    /// Returns true if the open lexeme marks a result if it has `len` bytes and no more belong to it.
     pub(crate) fn is_marker_at_end(self, len: u64) -> bool
         ensures { result ≡ is_marker_at_end self len }
     {
@@ -181,8 +181,8 @@ impl State {
         }
     }
 
-    /// How many bytes at the start of some surely leave what is open as it is: those of a comment, a line or a string
-    /// before the first that may end it.
+    /// Returns a number of bytes at the start of some that surely leave the state as it is. They are those of a
+    /// comment, a line or a string before the first that may end it.
     pub(crate) fn run_len(self, bytes: &[u8]) -> usize
         ensures within { result ≤ length bytes.now }
         ensures stays { AllByRecursion (Stays self) (take result bytes.now) }

@@ -11,7 +11,11 @@ use crate::span::Span;
 use cq_common::NoMemory;
 use std::alloc::Global;
 
-/// The games of an archive of fewer than 2^62 bytes, in order. Fails only when out of memory.
+/// Returns the games of an archive of fewer than 2^62 bytes, in order.
+///
+/// # Errors
+///
+/// Fails only if out of memory.
 pub fn cut_whole(alloc: Global, archive: &[u8]) -> Result<Vec<Span>, NoMemory>
     requires { length archive.now < 2 ^ 62 }
     ensures games { IfOk result (λ v. v.items ≡ cut archive.now) }

@@ -1,4 +1,4 @@
-//! The bytes of words, many at once.
+//! The bytes of words, many in one step.
 ghost use Rattle.std.specs.Prelude.{◌≡◌, ◌≤◌, length, take};
 ghost use Rattle.std.specs.List.{prefix_len};
 ghost use Rattle.std.specs.Char.{is_ascii_alphanumeric};
@@ -7,7 +7,7 @@ ghost use Rattle.pgn_cut.specs.Internal.WordRuns.{is_plain, AreWords};
 
 use pgn_lexer::continues_symbol;
 
-/// Whether a byte is plain, for each of the 256.
+/// For each of the 256 bytes, true if it is plain.
 const IS_PLAIN: [bool; 256] = [
     false, false, false, false, false, false, false, false, false, true, true, true, true, true,
     false, false, false, false, false, false, false, false, false, false, false, false, false,
@@ -30,7 +30,7 @@ const IS_PLAIN: [bool; 256] = [
     false, false, false, false, false, false, false,
 ];
 
-// Whether a byte is plain.
+// True if a byte is plain.
 #[inline]
 #[tactic(auto, using(crate::proofs::WordRuns::plain_table))]
 fn is_plain(b: u8) -> bool
@@ -39,7 +39,7 @@ fn is_plain(b: u8) -> bool
     IS_PLAIN[b as usize]
 }
 
-// How many bytes at the start of some are plain.
+// The number of plain bytes at the start of some.
 fn plain_len(bytes: &[u8]) -> usize
     ensures value { result ≡ prefix_len is_plain bytes.now }
     ensures within { result ≤ length bytes.now }
@@ -47,13 +47,13 @@ fn plain_len(bytes: &[u8]) -> usize
     bytes.iter().take_while(|b| is_plain(**b)).count()
 }
 
-// Whether a byte goes on with a symbol and begins none.
+// True if a byte continues a symbol and begins none.
 fn is_misplaced(b: u8) -> bool {
     continues_symbol(b) && !b.is_ascii_alphanumeric()
 }
 
-/// How many bytes at the start of some are words. Where a byte stands first that begins no word they may be none, so that a byte is
-/// looked at a few times at most.
+/// Returns the number of bytes at the start of some that are words. It may be zero if the first byte begins no word,
+/// so that a byte is read a few times at most.
 pub(crate) fn words_len(bytes: &[u8]) -> usize
     ensures within { result ≤ length bytes.now }
     ensures words { AreWords (take result bytes.now) }

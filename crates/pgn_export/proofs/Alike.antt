@@ -1,4 +1,4 @@
--- Tokens that tell the same.
+-- Tokens with the same meaning.
 use Rattle.std.proofs.Common.{◌≡◌, ◌⊎◌, ℕ, ◌+◌, ◌<◌, List, [], ◌∷◌, ◌++◌, Some, refl, sym, ap, ap₂, ◌∙◌, subst, inl, inr, ⊎_elim}
 use Rattle.cq_position.specs.Board.{Board}
 use Rattle.cq_position.specs.Comments.{words, comment_of}
@@ -52,7 +52,7 @@ parts_of (u ∷ us) (w ∷ ws) vs a =
 pub alike_other : (v w : Word) (s : Sense) → sense w ≡ s → ((c : List ℕ) → s ≡ remarks c → ⊥) → Alike v w → v ≡ w
 alike_other v w s is other a = ⊎_elim (λ same. same) (λ r. absurd (other r.other (sym is ∙ r.other_is))) a
 
--- what a token tells, one that is like it tells too
+-- the meaning of a token is that of one that is like it
 remark_same : (depth : ℕ) (a b : LinePlace) (c d : List ℕ) (u t : LineTail) → comment_of (words c) ≡ comment_of (words d) → ParsesWord depth a (remarks d) b u t → ParsesWord depth a (remarks c) b u t
 remark_same depth a b c d u t same tells = (tells.0, tells.1 ∙ ap (λ cs. record u { comments = cs ++ u.comments }) (sym same))
 
@@ -61,7 +61,7 @@ tells_alike depth v w a b u t (inl same) tells = subst (λ x. ParsesWord depth a
 tells_alike depth v w a b u t (inr r) tells =
     subst (λ s. ParsesWord depth a s b u t) (sym r.one_is) (remark_same depth a b r.one r.other u t r.same (subst (λ s. ParsesWord depth a s b u t) r.other_is tells))
 
--- so tokens that are like those of a line are those of a line that tells the same
+-- so tokens that are like those of a line are those of a line with the same meaning
 pub record LikeLine (depth : ℕ) (a : LinePlace) (us : List Word) (t : LineTail) : Type 0 where
   pub line : Line
   pub is : us ≡ text line

@@ -4,7 +4,7 @@ use Rattle.std.specs.Prelude.{nat_le}
 use Rattle.pgn_export.specs.Internal.Column.{gap, next_column}
 use Rattle.pgn_export.specs.Lines.{filled}
 
--- what follows a line of so many bytes
+-- the text after a line of `column` bytes
 unfoldable pub following : ℕ → List (List ℕ) → List ℕ
 following column [] = 10 ∷ []
 following column (w ∷ ws) = gap column w ∷ (w ++ following (next_column column w) ws)

@@ -1,4 +1,4 @@
--- What words tell, however they stand in lines.
+-- The meaning of words, by any split into lines.
 use Rattle.std.proofs.Common.{◌≡◌, ℕ, ◌+◌, Bool, true, false, List, [], ◌∷◌, ◌++◌, length, refl, sym, ap, ◌∙◌, subst, append_assoc, append-nil}
 use Rattle.std.specs.Prelude.{nat_le, if◌then◌else◌}
 use Rattle.cq_common.specs.Text.{is_white}
@@ -30,7 +30,7 @@ pub record IsYielded (first : Bool) (text more : List ℕ) (vs : List Word) : Ty
   pub is : told first (text ++ more) ≡ words ++ told column more
   pub alike : AreAlike words vs
 
--- words tell these tokens, whatever white space stands between two words
+-- words mean these tokens, with any white space between two words
 abbrev pub Tell : List (List ℕ) → List Word → Type 0
 Tell ws vs = (first : Bool) (text more : List ℕ) → Glued ws text → IsApart more → IsYielded first text more vs
 

@@ -1,4 +1,4 @@
--- The tags of a normal game are written as they stand.
+-- The tags of a normal game are written in their order.
 use Rattle.std.proofs.Common.{◌≡◌, ◌≢◌, ℕ, suc, ◌<◌, Bool, true, false, cond, List, [], ◌∷◌, ◌++◌, length, take, drop, Option, Some, None, refl, sym, ap, ◌∙◌, subst, arith, true≢false, append_assoc, append-nil, length-append}
 use Rattle.std.specs.Prelude.{◌&&◌, not, codes, map, if◌then◌else◌}
 use Rattle.std.specs.BTreeMap.{insert_entry}
@@ -205,7 +205,7 @@ written_as_they_are g normal =
     ∙ seven_written s.one s.two s.three s.four s.five s.six s.seven (drop 7 g.tags) normal.order.others normal.order.sorted
     (subst (λ tags. (value : List ℕ) → tag_value (codes "FEN") tags ≡ Some value → tag_value (codes "SetUp") tags ≡ Some (codes "1")) s.is normal.set_up))
 
--- and pairs with distinct names are the tags that they tell
+-- and pairs with distinct names are their own tags
 pub absent : (name : List ℕ) (tags : List Tag) → ((i : ℕ) → i < length tags → (tag_at tags i).0 ≢ name) → is_some (tag_value name tags) ≡ false
 absent name [] differ = refl
 absent name (t ∷ ts) differ = by_name (bytes_eq name t.0) refl (absent name ts (λ i h. differ (suc i) (omega (arith, h))))

@@ -74,13 +74,13 @@ comment_written old mid words new rest ws open_ w shut is one more last =
     ∙ last_longer shut old (open_ ++ w) rest
     ∙ ap (λ l. with_words old (with_suffix shut (with_prefix open_ l))) (sym is)
 
--- what is written with the last LF
+-- the text with the last LF
 written : (p : Page) (ws : List (List ℕ)) → (with_words p ws).text ++ 10 ∷ [] ≡ p.text ++ following p.column ws
 unfolding with_word following
 written p [] = refl
 written p (w ∷ ws) = written (with_word p w) ws ∙ append_assoc p.text (gap p.column w ∷ w) (following (next_column p.column w) ws)
 
--- after whole lines words stand in lines, after an empty one
+-- after complete lines words are in lines, after an empty one
 after_empty : (ws : List (List ℕ)) → following 79 ws ≡ 10 ∷ lines ws
 unfolding following
 after_empty [] = refl

@@ -1,4 +1,4 @@
--- The first child of a node and its next sibling begin what is played after it and instead of it.
+-- The first child of a node and its next sibling begin the moves played after it and instead of it.
 use Rattle.std.proofs.Common.{◌≡◌, ℕ, zero, suc, ◌+◌, ◌-◌, ◌<◌, ◌≤◌, Bool, true, false, cond, ◌&&◌, List, length, drop, Option, Some, None, refl, sym, ap, ap₂, ◌∙◌, subst, arith, eqb-true}
 use Rattle.std.specs.Prelude.{nat_lt, IfSome}
 use Rattle.std.specs.List.{find, range_with_len}
@@ -38,7 +38,7 @@ number_is None p e = absurd (false≢true e)
 number_is (Some q) p e = ap Some (eqb-true q p e)
 
 module _ (nodes : List Node) (tree : IsTree nodes) where
-  -- where a child of a node stands, and how its siblings begin with it
+  -- the place of a child of a node; its siblings begin with it
   pub record Begins (parent k c : ℕ) : Type 0 where
     pub from : k ≤ c
     pub within : c < length nodes
@@ -92,7 +92,7 @@ module _ (nodes : List Node) (tree : IsTree nodes) where
       by_test parent k (find (is_child_of nodes parent) (range_with_len (k + 1) n)) (is_child_of nodes parent k) (omega (arith, all)) refl
       (by_find parent n (k + 1) (omega (arith, all)))
 
-  -- no child stands before its parent
+  -- no child comes before its parent
   not_before : (parent k : ℕ) → k ≤ parent → is_child_of nodes parent k ≡ false
   not_before parent k low =
       false_from_ne_true (is_child_of nodes parent k)
@@ -130,7 +130,7 @@ module _ (nodes : List Node) (tree : IsTree nodes) where
       ∙ agree test (is_child_of nodes parent) (k + 1) rest (λ m low. sibling_test (node_at nodes k).parent parent k m is (omega (arith, low))) in
       subst (BeginsBy parent (k + 1)) (sym same) (by_find parent rest (k + 1) (sym all))
 
-  -- by what the calls answer
+  -- by the results of the calls
   pub no_child : (parent : ℕ) → parent < length nodes → first_child nodes parent ≡ None → after_node nodes parent ≡ none
   unfolding BeginsBy
   no_child parent within e = subst (BeginsBy parent (parent + 1)) e (first_by parent within)
@@ -147,7 +147,7 @@ module _ (nodes : List Node) (tree : IsTree nodes) where
   unfolding BeginsBy
   has_sibling parent k c within is e = subst (BeginsBy parent (k + 1)) e (next_by parent k within is)
 
--- how a node stands to its parent
+-- a node and its parent
 pub record LedFrom (nodes : List Node) (parent k : ℕ) (m : Move) : Type 0 where
   pub after : parent < k
   pub leads : Leads (node_at nodes parent).position m (node_at nodes k).position
@@ -171,11 +171,11 @@ led_from nodes tree parent k m within is led =
     some_move : (a b : Move) → Some a ≡ Some b → a ≡ b
     some_move a b e = cc
 
--- each node but the root has a parent that stands before it
+-- each node but the root has a parent that comes before it
 pub parent_within : (nodes : List Node) → IsTree nodes → (parent k : ℕ) → k < length nodes → (node_at nodes k).parent ≡ Some parent → parent < length nodes
 parent_within nodes tree parent k within is = let before = (tree_first nodes tree).before k parent is in omega (arith, before, within)
 
--- where a first child and a next sibling stand
+-- the places of a first child and a next sibling
 pub child_place : (nodes : List Node) → IsTree nodes → (k : ℕ) (r : Option ℕ) → k < length nodes → r ≡ first_child nodes k
     → IfSome r (λ c. (k < c) × (c < length nodes) × ((node_at nodes c).parent ≡ Some k))
 child_place nodes tree k None within e = tt

@@ -170,7 +170,7 @@ export_spells g tree notes distinct position normal start first = record {
   few = tree.few;
 }
 
--- what reading the text answers
+-- the result of reading the text
 too_long : (limit n : ℕ) → limit < n → n ≤ limit → ⊥
 too_long limit n long short = omega (arith, long, short)
 
@@ -184,7 +184,7 @@ read_back g start first text (Err (Fault fault)) spells short verdict =
     (λ f. no_fault (words_of start first text) g spells f.index fault.reason f.fault)
     verdict
 
--- so an answer that is the text of a normal game spells it, and is read as it
+-- so a result that is the text of a normal game spells it, and is read as it
 pub answer_spells : {E : Type 0} (g : Game) (answer : Result (List ℕ) E) → IsTree g.nodes → HaveNotes g.nodes → HaveDistinctNames g.tags → IsPosition (node_at g.nodes 0).position
     → IfOk answer (λ text. text ≡ export_text g) → IfOk answer (λ text. IsNormal g → (start : ℕ) (first : Bool) → Spells (words_of start first text) g)
 answer_spells g (Ok text) tree notes distinct position is =

@@ -28,11 +28,11 @@ word_if (Token kind) text = (record { kind = kind; text = text }) ∷ []
 abbrev pub word_in : Lexeme → List Word
 word_in l = word_if l.kind l.text
 
--- the tokens of a text; `first` says whether it begins in the first column
+-- the tokens of a text; `first` is true if it begins in the first column
 unfoldable pub told : Bool → List ℕ → List Word
 told first bytes = flat_map word_in (lexemes 0 first bytes)
 
--- they are those of the reader, wherever the text stands
+-- they are those of the reader, at any place of the text
 word_by : (start : ℕ) (bytes : List ℕ) (kind : LexemeKind) (at : ℕ) (text : List ℕ) → start ≤ at → text ≡ slice_range bytes (at - start) (at + length text - start)
     → map (word_of start bytes) (token_if at (length text) kind) ≡ word_if kind text
 word_by start bytes EscapeLine at text from is = refl
@@ -73,7 +73,7 @@ pub told_white : (first : Bool) (b : ℕ) (bs : List ℕ) → is_white b ≡ tru
 unfolding told
 told_white first b bs white = ap (flat_map word_in) (over_white_byte b bs 0 first white) ∙ told_at 1 (ends_line b) bs
 
--- a text is read as one token of this kind wherever it stands, and white space doesn't go on with it
+-- a text is read as one token of this kind at any place, and white space doesn't continue it
 pub record IsOne (kind : TokenKind) (b : ℕ) (bs : List ℕ) : Type 0 where
   pub whole : (first : Bool) → IsReadWhole first (Token kind) b bs
   pub still : runs_on (Token kind) ≡ false
@@ -86,7 +86,7 @@ told_one kind first b bs more one ended =
     ap (flat_map word_in) (next 0 first (Token kind) b bs more (one.whole first) ended)
     ∙ ap (λ (ws : List Word). (record { kind = kind; text = b ∷ bs }) ∷ ws) (told_at (0 + length (b ∷ bs)) (first_at first (b ∷ bs) (length (b ∷ bs))) more)
 
--- what goes on with no token but those that run over white space
+-- a text that continues no token except those that continue over white space
 abbrev pub IsApart : List ℕ → Type 0
 IsApart more = (kind : LexemeKind) → runs_on kind ≡ false → IsEndedBy kind more
 

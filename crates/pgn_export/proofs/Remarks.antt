@@ -132,7 +132,7 @@ glued_lacks w [] text all glued = subst (Lacks 125) (sym glued) all.0.lacks
 glued_lacks w (v ∷ vs) text all (b, rest, is, white, glued) =
     subst (Lacks 125) (sym is) (lacks_append w (b ∷ rest) all.0.lacks (white_other b white, glued_lacks v vs rest all.1 glued))
 
--- what a comment in braces tells
+-- the meaning of a comment in braces
 brace_free : (text : List ℕ) → Lacks 125 text → without_braces text ≡ text
 brace_free [] lacks = refl
 brace_free (b ∷ bs) lacks = ap₂ (λ t l. (if t then 41 else b) ∷ l) (false_from_ne_true (b == 125) (λ e. lacks.0 (eqb-true b 125 e))) (brace_free bs lacks.1)
@@ -146,7 +146,7 @@ remark_sense body lacks =
     let n : length (123 ∷ (body ++ 125 ∷ [])) - 2 ≡ length body = let e = length-append body (125 ∷ []) in omega (arith, e) in
     ap remarks (ap (λ k. without_braces (take k (body ++ 125 ∷ []))) n ∙ ap without_braces (take-append_seam body (125 ∷ [])) ∙ brace_free body lacks)
 
--- a comment's words, however they stand in lines, tell a comment with the same words
+-- a comment's words, by any split into lines, mean a comment with the same words
 tell_words : (c w : List ℕ) (ws : List (List ℕ)) → words c ≡ w ∷ ws → AllByRecursion IsWord (w ∷ ws) → Lacks 125 c
     → Tell (with_suffix (125 ∷ []) ((123 ∷ w) ∷ ws)) (remark_word c ∷ [])
 tell_words c w ws is each lacks first text more glued apart =

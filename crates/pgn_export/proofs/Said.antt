@@ -1,4 +1,4 @@
--- The words of the movetext tell the tokens of its line.
+-- The words of the movetext mean the tokens of its line.
 use Rattle.std.proofs.Common.{◌≡◌, ℕ, ◌<◌, Bool, true, false, List, [], ◌∷◌, ◌++◌, length, refl, sym, ap, ◌∙◌, subst, arith, append_assoc, append-nil, length-append}
 use Rattle.std.specs.Prelude.{map, codes, decimal, if◌then◌else◌}
 use Rattle.std.specs.List.{AllByRecursion, flat_map}
@@ -149,7 +149,7 @@ marker_sense BlackWon = refl
 marker_sense Draw = refl
 marker_sense Undecided = refl
 
--- words in lines, with an empty line after them, are read as tokens like those that they tell
+-- words in lines, with an empty line after them, are read as tokens like those that they mean
 pub record AreRead (first : Bool) (ws : List (List ℕ)) (vs : List Word) : Type 0 where
   pub words : List Word
   pub is : told first (lines ws ++ 10 ∷ []) ≡ words

@@ -1,4 +1,4 @@
--- The texts of numbers and moves are symbols, and which of them numbers a move and which is one.
+-- The texts of numbers and moves are symbols: those of digits number a move, the others are moves.
 use Rattle.std.proofs.Common.{◌≡◌, ℕ, ◌+◌, ◌<◌, Bool, true, false, List, [], ◌∷◌, ◌++◌, length, Option, Some, None, refl, sym, ap, ◌∙◌, arith, true≢false, length-append}
 use Rattle.std.specs.Prelude.{◌||◌, ◌&&◌, ◌==◌, codes, decimal, if◌then◌else◌, IfSome}
 use Rattle.std.specs.List.{AllByRecursion, list_any, list_all}
@@ -31,7 +31,7 @@ use Rattle.cq_san.proofs.Room.{on_board, parts_on_board}
 use Rattle.pgn_lexer.specs.Bytes.{continues_symbol}
 use Rattle.pgn_reader.specs.Words.{result_of_text, sense_of_symbol, sense_of_marker, plays, means_nothing}
 
--- each byte goes on with a symbol, and the first, if there is one, begins one
+-- each byte continues a symbol, and the first, if there is one, begins one
 abbrev Goes : List ℕ → Type 0
 Goes text = AllByRecursion (λ c. continues_symbol c ≡ true) text
 
@@ -54,7 +54,7 @@ begins_append (x ∷ xs) ys a b = a
 symbolic_append : (xs ys : List ℕ) → IsSymbolic xs → IsSymbolic ys → IsSymbolic (xs ++ ys)
 symbolic_append xs ys a b = record { goes = goes_append xs ys a.goes b.goes; begins = begins_append xs ys a.begins b.begins }
 
--- what goes on alone stands after something
+-- bytes that continue a symbol come after some bytes of one
 symbolic_then : (xs ys : List ℕ) → 0 < length xs → IsSymbolic xs → Goes ys → IsSymbolic (xs ++ ys)
 symbolic_then [] ys some a b = absurd (omega (arith, some))
 symbolic_then (x ∷ xs) ys some a b = record { goes = goes_append (x ∷ xs) ys a.goes b; begins = a.begins }

@@ -21,7 +21,7 @@ use Rattle.pgn_export.specs.TagLines.{roster, is_in_roster, roster_tag, put, sor
 use Rattle.pgn_export.specs.TagValues.{written_value, AreExportTags}
 use Rattle.pgn_export.proofs.Ordered.{Tag, before, AreSorted, same_name, absent}
 
--- what is said of each name is said after a tag is put
+-- a property of each name holds after a tag is put
 all_put : (P : List ℕ → Type 0) (ts : List Tag) (t : Tag) → AllByRecursion P (map (λ u. u.0) ts) → P t.0 → AllByRecursion P (map (λ u. u.0) (put ts t))
 all_put P [] t all one = (one, tt)
 all_put P (u ∷ us) t all one = by_order (before t.0 u.0) (all_put P us t all.1 one)
@@ -114,7 +114,7 @@ put_value name (u ∷ us) t = by_order (before t.0 u.0) refl (put_value name us 
         at_same (bytes_eq name u.0) (bytes_eq name t.0) u t.1 (find (λ t. bytes_eq name t.0) us) (ap (bytes_eq name) (same_by t.0 u.0 is))
     by_order Greater is rest = by_name (bytes_eq name u.0) (bytes_eq name t.0) refl refl is rest
 
--- no name stands twice
+-- names are distinct
 abbrev AreDistinct : List Tag → Type 0
 AreDistinct [] = Unit {0}
 AreDistinct (t ∷ ts) = (is_some (tag_value t.0 ts) ≡ false) × AreDistinct ts
@@ -214,7 +214,7 @@ unfolding roster_tag
 roster_value name tags [] = refl
 roster_value name tags (t ∷ ts) = roster_by (bytes_eq name t.0) name tags t ts refl (roster_value name tags ts)
 
--- which names are of the roster
+-- the names of the roster
 any_value : (name : List ℕ) (ts : List Tag) → list_any (λ t. bytes_eq name t.0) ts ≡ is_some (tag_value name ts)
 any_value name [] = refl
 any_value name (t ∷ ts) = by_test (bytes_eq name t.0) (any_value name ts)

@@ -1,4 +1,4 @@
--- The line that is written of what is played, and what it tells.
+-- The line that is written for the moves played, and its meaning.
 use Rattle.std.proofs.Common.{◌≡◌, ◌≢◌, ℕ, ◌+◌, ◌<◌, ◌≤◌, Bool, true, false, List, [], ◌∷◌, ◌++◌, Some, refl, sym, ap, ◌∙◌, subst, inl, inr, arith, true≢false, append_assoc, append-nil}
 use Rattle.std.specs.Prelude.{Ok, map, not, ◌&&◌, decimal, codes, nat_lt, if◌then◌else◌}
 use Rattle.std.specs.List.{AllByRecursion}
@@ -88,7 +88,7 @@ unfoldable pub AreKept : Continuations → Type 0
 AreKept none = Unit {0}
 AreKept (played m next others) = HasKeptNotes m.nags m.comments × AreKept next × AreKept others
 
--- what a line tells of which no glyph and no comment waits
+-- the meaning of a line without glyphs and comments before its first move
 abbrev pub lined : (variations rest : Continuations) → LinePlace → LineTail
 lined variations rest end = record { nags = []; comments = []; variations = variations; rest = rest; end = end }
 
@@ -153,7 +153,7 @@ comments_tell depth a (c ∷ cs) line t all tells =
       comments_tell depth a cs line t all.1 tells,
     )
 
--- where a move leads
+-- the position after a move
 null_of : (p : Board) (m : Move) → is_pseudo_legal p m ≡ true → m.null ≡ false
 unfolding is_pseudo_legal
 null_of p m moves = by_null m.null (nat_lt m.to 64) (reaches p m.from m.to) (promotion_is_right p m) moves
@@ -228,7 +228,7 @@ levels_later : (m : Played) (next others : Continuations) → levels_beside othe
 unfolding levels_beside
 levels_later m next others = omega arith
 
--- the line that is written tells what is played
+-- the meaning of the written line is the moves played
 mutual
   unfolding line_of variations_of AreKept Follows end_of
 

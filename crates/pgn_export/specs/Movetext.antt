@@ -10,8 +10,9 @@ use Rattle.cq_san.specs.Writing.{san_text}
 use Rattle.pgn_export.specs.Words.{comment_words, in_parens}
 use Rattle.pgn_tree.specs.Results.{result_text}
 
--- The number of a move (section 8.2.2) stands before each move of White. Before a move of Black it stands with three periods, where that is
--- due: where the move begins the movetext or a variation, or follows a glyph, a comment or a variation.
+-- The number of a move (section 8.2.2) comes before each move of White. Before a move of Black it comes with three
+-- periods, if it is due. It is due if the move begins the movetext or a variation, or follows a glyph, a comment or a
+-- variation.
 abbrev pub number_words : Side → (due : Bool) → ℕ → List (List ℕ)
 number_words White due number = (decimal number ++ codes ".") ∷ []
 number_words Black true number = (decimal number ++ codes "...") ∷ []
@@ -26,22 +27,22 @@ abbrev pub move_words : Board → (due : Bool) → Played → List (List ℕ)
 move_words p due m =
     number_words p.side due p.number ++ ((san_text p m.move ∷ []) ++ (map nag_word m.nags ++ flat_map comment_words m.comments))
 
--- whether there is anything in a list
+-- true if a list has an element
 abbrev pub is_any : {A : Type 0} → List A → Bool
 is_any [] = false
 is_any (x ∷ xs) = true
 
--- whether anything is played
+-- true if a move is played
 abbrev pub is_played : Continuations → Bool
 is_played none = false
 is_played (played m next others) = true
 
--- whether a number is due after a move, its glyphs, its comments and its variations
+-- true if a number is due after a move, its glyphs, its comments and its variations
 abbrev pub is_due : Played → (variations : Continuations) → Bool
 is_due m variations = is_any m.nags || is_any m.comments || is_played variations
 
--- The words of what is played after a position: the first move, the variations that replace it, and the rest of the line. A variation has
--- its own first move and the rest of its line; the others stand after it.
+-- The words of the moves played after a position: the first move, the variations that replace it, and the rest of the
+-- line. A variation has its own first move and the rest of its line; the other variations come after it.
 unfoldable mutual
   pub line_words : Board → (due : Bool) → Continuations → List (List ℕ)
   line_words p due none = []
@@ -53,7 +54,7 @@ unfoldable mutual
   variation_words p (played m next others) =
       in_parens (move_words p true m ++ line_words m.position (is_due m none) next) ++ variation_words p others
 
--- what is played in a game after its start
+-- the moves played in a game after its start
 abbrev pub played_in : Game → Continuations
 played_in g = continuations 0 1 (drop 1 g.nodes)
 

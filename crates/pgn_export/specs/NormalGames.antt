@@ -1,4 +1,4 @@
--- Which games are normal: those that are written as they are, so that they are read back from what is written.
+-- Normal games: those that are written as they are, so that they are read back from their text.
 use Rattle.std.specs.Prelude.{◌≡◌, ℕ, ◌+◌, ◌≤◌, true, not, List, [], ◌++◌, ◌∷◌, length, take, drop, map, max, codes, Bool, Some, None, Result, Ok, Err}
 use Rattle.std.specs.Cmp.Lexicographic.{slice_cmp}
 use Rattle.std.specs.List.{AllByRecursion, list_all}
@@ -22,7 +22,7 @@ use Rattle.pgn_export.specs.Movetext.{played_in}
 use Rattle.pgn_tree.specs.Results.{result_text}
 use Rattle.pgn_export.specs.TagLines.{is_in_roster, roster}
 
--- how many levels the variations have: one that replaces a move of a line stands a level above that line
+-- the number of levels of the variations: one that replaces a move of a line is a level above that line
 unfoldable mutual
   pub levels : Continuations → ℕ
   levels none = 0
@@ -32,7 +32,7 @@ unfoldable mutual
   levels_beside none = 0
   levels_beside (played m next others) = max (1 + levels next) (levels_beside others)
 
--- a tag's name is a symbol that marks no result, and its value stands on one line (PGN standard, section 7)
+-- a tag's name is a symbol that marks no result, and its value is on one line (PGN standard, section 7)
 pub record IsWritable (t : List ℕ × List ℕ) : Type 0 where
   pub name : IsLexeme true (Token Symbol) t.0
   pub no_marker : result_of_text t.0 ≡ None
@@ -48,10 +48,10 @@ pub record AreInExportOrder (tags : List (List ℕ × List ℕ)) : Type 0 where
   pub others : list_all (λ t. not (is_in_roster t.0)) (drop 7 tags) ≡ true
   pub sorted : IsStrictlySortedBy (slice_cmp nat_cmp) (map (λ t. t.0) (drop 7 tags))
 
--- A normal game: its tags can be written, and stand in export order; the tag Result tells its result (section 8.1.1.7); with a tag FEN the
--- tag SetUp is 1 (9.7.1), and the game begins in the position of that tag, and without one in that of the initial array (9.7.2); its
--- variations have at most 100 levels; its start has no glyph; and its text has at most 2^24 bytes. That its moves are legal or allowed null
--- moves every game keeps.
+-- A normal game. Its tags can be written, and are in export order; the tag Result has its result (section 8.1.1.7).
+-- With a tag FEN the tag SetUp is 1 (9.7.1), and the game begins in the position of that tag. Without one it begins
+-- in that of the initial array (9.7.2). Its variations have at most 100 levels, its start has no glyph, and its text
+-- has at most 2^24 bytes. The moves of every game are legal or allowed null moves.
 pub record IsNormal (g : Game) : Type 0 where
   pub writable : AllByRecursion IsWritable g.tags
   pub order : AreInExportOrder g.tags
@@ -62,13 +62,13 @@ pub record IsNormal (g : Game) : Type 0 where
   pub no_glyph : (node_at g.nodes 0).nags ≡ []
   pub short : length (export_text g) ≤ longest
 
--- what was read is this game, unless it is refused as out of memory
+-- the result of reading is this game, unless out of memory
 abbrev pub IsSameGame : Game → Result Game (Refusal GameFault) → Type 0
 IsSameGame g (Ok read) = read ≡ g
 IsSameGame g (Err (Fault fault)) = ⊥
 IsSameGame g (Err NoMemory) = Unit {0}
 
--- a text is read as a game, wherever it stands in an archive
+-- a text is read as a game, at any place in an archive
 abbrev pub IsReadAs : List ℕ → Game → Type 0
 IsReadAs text g =
     (start : ℕ) (first : Bool) (answer : Result Game (Refusal GameFault)) → IsVerdict start first text answer → IsSameGame g answer

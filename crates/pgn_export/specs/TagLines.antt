@@ -10,7 +10,7 @@ use Rattle.cq_position.specs.Games.{Game, tag_value}
 use Rattle.pgn_lexer.specs.Bytes.{quote, backslash}
 use Rattle.pgn_tree.specs.Results.{result_text}
 
--- the tags that every game has, but for the result (section 8.1.1), with the value of one that is missing
+-- the tags that every game has, except the result (section 8.1.1), with the value of one that is missing
 abbrev pub roster : List (List ℕ × List ℕ)
 roster =
     (codes "Event", codes "?") ∷ (codes "Site", codes "?") ∷ (codes "Date", codes "????.??.??")
@@ -23,12 +23,12 @@ is_in_roster name = list_any (λ t. bytes_eq name t.0) roster || bytes_eq name (
 unfoldable pub roster_tag : List (List ℕ × List ℕ) → List ℕ × List ℕ → List ℕ × List ℕ
 roster_tag tags t = (t.0, unwrap_or (tag_value t.0 tags) t.1)
 
--- tags in the ASCII order of their names (section 8.1.1), each put in its place among those before; a name that is there takes
--- the new value
+-- tags in the ASCII order of their names (section 8.1.1), each put in its place among those before; a name that is
+-- present takes the new value
 abbrev pub put : List (List ℕ × List ℕ) → List ℕ × List ℕ → List (List ℕ × List ℕ)
 put tags t = insert_entry (slice_cmp nat_cmp) tags t.0 t.1
 
--- the same for the tags that are not of the roster alone
+-- the same only for a tag that is not of the roster
 abbrev pub put_other : List (List ℕ × List ℕ) → List ℕ × List ℕ → List (List ℕ × List ℕ)
 put_other tags t = if is_in_roster t.0 then tags else put tags t
 
@@ -41,11 +41,11 @@ other_tags tags =
     if is_some (tag_value (codes "FEN") tags) then put (sorted (filter (λ t. not (is_in_roster t.0)) tags)) (codes "SetUp", codes "1")
     else sorted (filter (λ t. not (is_in_roster t.0)) tags)
 
--- all tags as they are written: the roster, which ends with the game's result, and the others
+-- all tags of the text: the roster, which ends with the game's result, and the others
 abbrev pub written_tags : Game → List (List ℕ × List ℕ)
 written_tags g = map (roster_tag g.tags) roster ++ ((codes "Result", result_text g.result) ∷ other_tags g.tags)
 
--- a quote and a backslash stand after a backslash (section 7)
+-- a quote and a backslash come after a backslash (section 7)
 abbrev pub escaped_byte : ℕ → List ℕ
 escaped_byte b = if b == quote || b == backslash then backslash ∷ b ∷ [] else b ∷ []
 

@@ -12,21 +12,26 @@ use cq_common::{Bytes, NoMemory};
 use pgn_tree::Game;
 use std::alloc::Global;
 
-/// How many bytes are taken for the tags.
+/// The number of bytes reserved for the tags.
 const ROOM_FOR_TAGS: usize = 512;
 
-/// How many bytes are taken for a move, half a number and the white space.
+/// The number of bytes reserved for a move, half a number and the white space.
 const ROOM_FOR_MOVE: usize = 8;
 
-/// The text of a game in export format (PGN standard, section 3.2).
+/// Returns the text of a game in export format (PGN standard, section 3.2).
 ///
-/// First come the tags of the seven tag roster, with `?` for one that is missing, the result of the game for `Result`, and
-/// then the others in the ASCII order of their names; with a tag FEN the tag SetUp is 1. An empty line follows. The
-/// movetext stands in lines of at most 79 bytes, but that a longer word stands alone, with single spaces between words; an
-/// empty line ends it. Numeric annotation glyphs and comments follow their move, then the variations that replace it.
+/// First come the tags of the seven tag roster, with `?` for one that is missing, and with the result of the game for
+/// `Result`. Then come the others in the ASCII order of their names; with a tag FEN the tag SetUp is 1. An empty line
+/// follows. The movetext is in lines of at most 79 bytes, except that a longer word has its own line. Words have single
+/// spaces between them, and an empty line ends the movetext. Numeric annotation glyphs and comments follow their move,
+/// then the variations that replace it.
 ///
-/// The text of a normal game, as `specs/NormalGames` says which these are, spells the game, wherever it stands in an archive:
-/// `read_game` gives this game back.
+/// The text of a normal game spells the game at any place in an archive: `read_game` returns this game. Normal games
+/// are defined in `specs/NormalGames`.
+///
+/// # Errors
+///
+/// Fails only if out of memory.
 pub fn export(alloc: Global, game: &Game) -> Result<Bytes, NoMemory>
     ensures text { IfOk result (λ text. text ≡ export_text game.now) }
     ensures spelled { IfOk result (λ text. IsNormal game.now →
@@ -49,7 +54,7 @@ fn written(alloc: Global, game: &Game) -> Result<Bytes, NoMemory>
     Bytes::from_slice(alloc, page.as_slice())
 }
 
-// How many bytes most texts of so many nodes have: a longer one takes more room as it grows.
+// The number of bytes that suffices for most games of this number of nodes. A longer text reserves more as it grows.
 fn room_for(game: &Game) -> usize {
     ROOM_FOR_TAGS + game.len() as usize * ROOM_FOR_MOVE
 }

@@ -1,7 +1,7 @@
 //! The export text of a game (PGN standard, section 3.2).
 //!
-//! `specs/TagLines`, `specs/Movetext` and `specs/Lines` say what the tag lines, the words of the movetext and their lines
-//! are, and `specs/Export` joins them.
+//! `specs/TagLines`, `specs/Movetext` and `specs/Lines` define the tag lines, the words of the movetext and their
+//! lines, and `specs/Export` joins them.
 #![tactic(auto)]
 
 mod game;

@@ -30,7 +30,7 @@ pub(crate) fn write_movetext(page: &mut Page, game: &Game) -> Result<(), NoMemor
     Ok(())
 }
 
-// Adds the words of what is played after a node. `due` says whether the number of a move of Black is due.
+// Adds the words of the moves played after a node. `due` is true if the number of a move of Black is due.
 #[cycle(writing)]
 fn write_line(page: &mut Page, game: &Game, of: u32, due: bool) -> Result<(), NoMemory>
     requires { of < length game.now.nodes }
@@ -87,7 +87,7 @@ fn sibling_of(game: &Game, parent: u32, k: u32) -> Option<u32>
     game.next_sibling(k)
 }
 
-// Whether a number is due after a node in its line: after a glyph, a comment or a variation.
+// True if a number is due after a node in its line: after a glyph, a comment or a variation.
 fn is_due_in_line(game: &Game, k: u32) -> bool
     requires { k < length game.now.nodes }
     ensures { result ≡ (has_notes (node_at game.now.nodes k) || is_some (next_sibling game.now.nodes k)) }
@@ -95,7 +95,7 @@ fn is_due_in_line(game: &Game, k: u32) -> bool
     is_due(game, k) || game.next_sibling(k).is_some()
 }
 
-// Whether a number is due after a node without variations: after a glyph or a comment.
+// True if a number is due after a node without variations: after a glyph or a comment.
 fn is_due(game: &Game, k: u32) -> bool
     requires { k < length game.now.nodes }
     ensures { result ≡ (has_notes (node_at game.now.nodes k)) }

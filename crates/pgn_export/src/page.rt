@@ -1,16 +1,16 @@
-//! The text of a game as it is written.
+//! The text of a game while it is written.
 ghost use Rattle.std.specs.Prelude.{◌≡◌, ◌<◌, ◌++◌, length, OnOk, codes};
 ghost use Rattle.pgn_export.specs.Internal.Page.{after_lines, with_word, with_longer_word, with_last_in_new_line};
 
 use cq_common::NoMemory;
 use std::marker::Model;
 
-/// How many bytes a line has at most, but where a word has more.
+/// The largest number of bytes of a line, unless it is a single longer word.
 const WIDTH: usize = 79;
 
 /// The text of a game so far: whole lines, and then words, in lines that are filled greedily.
 ///
-/// Each word stands after a byte of its own, a space or LF. The last line has no LF yet.
+/// Each word has a byte of its own before it, a space or LF. The last line has no LF yet.
 #[derive(Drop)]
 pub(crate) struct Page {
     text: Vec<u8>,
@@ -30,7 +30,7 @@ impl Model for Page {
 }
 
 impl Page {
-    /// Whole lines, at least one.
+    /// Returns a page of complete lines, at least one.
     pub(crate) fn new(lines: Vec<u8>) -> Page
         requires { 0 < length lines.items }
         ensures { result ≡ after_lines lines.items }
@@ -42,14 +42,14 @@ impl Page {
         }
     }
 
-    /// All that is written.
+    /// Returns the whole text.
     pub(crate) fn as_slice(&self) -> &[u8]
         ensures { result.now ≡ self.now.text }
     {
         self.text.as_slice()
     }
 
-    /// Adds a word, after a space where its line has room for both, else in a new line.
+    /// Adds a word, after a space if its line has room for both, else in a new line.
     #[tactic(auto, unfolding(crate::specs::Internal::Page::with_word))]
     pub(crate) fn push(&mut self, word: &[u8]) -> Result<(), NoMemory>
         ensures { OnOk result (self.new ≡ with_word self.old word.now) }
@@ -111,7 +111,7 @@ impl Page {
         Ok(())
     }
 
-    // Puts the last word in a new line.
+    // Moves the last word to a new line.
     fn break_line(&mut self)
         ensures { self.new ≡ with_last_in_new_line self.old }
     {

@@ -22,7 +22,7 @@ pub(crate) fn write_tags(out: &mut Vec<u8>, alloc: Global, game: &Game) -> Resul
     Ok(())
 }
 
-// Adds the lines of the tags of the roster, but for the result.
+// Adds the lines of the tags of the roster, except the result.
 fn write_roster(out: &mut Vec<u8>, tags: &Tags) -> Result<(), NoMemory>
     ensures { OnOk result (out.new.items
         ≡ out.old.items ++ flat_map tag_lines.tag_line (map (tag_lines.roster_tag tags.now) tag_lines.roster)) }
@@ -36,7 +36,7 @@ fn write_roster(out: &mut Vec<u8>, tags: &Tags) -> Result<(), NoMemory>
     Ok(())
 }
 
-// Adds the line of a tag of the roster, with this value where the tag is missing.
+// Adds the line of a tag of the roster, with this value if the tag is missing.
 #[tactic(auto, unfolding(crate::specs::TagLines::roster_tag))]
 fn write_roster_tag(
     out: &mut Vec<u8>,
@@ -62,7 +62,7 @@ fn write_tag(out: &mut Vec<u8>, name: &[u8], value: &[u8]) -> Result<(), NoMemor
     Ok(())
 }
 
-// Adds a value, each quote and backslash after a backslash.
+// Adds a value, with a backslash before each quote and backslash.
 fn write_escaped(out: &mut Vec<u8>, value: &[u8]) -> Result<(), NoMemory>
     ensures { OnOk result (out.new.items ≡ out.old.items ++ tag_lines.escaped value.now) }
 {
@@ -131,7 +131,7 @@ fn put_other(
     put(others, alloc, name, value)
 }
 
-// Puts a tag in its place; a name that is there takes the new value.
+// Puts a tag in its place; a name that is present takes the new value.
 fn put(
     others: &mut BTreeMap<Vec<u8>, Bytes>,
     alloc: Global,
@@ -146,7 +146,7 @@ fn put(
     Ok(())
 }
 
-// Whether a name is one of the roster.
+// True if a name is one of the roster.
 fn is_in_roster(name: &[u8]) -> bool
     ensures { result ≡ tag_lines.is_in_roster name.now }
 {

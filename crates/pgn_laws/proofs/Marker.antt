@@ -1,4 +1,4 @@
--- No token of a game of a cut stands after its marker.
+-- No token of a game of a cut comes after its marker.
 use Rattle.std.proofs.Common.{◌≡◌, ℕ, ◌+◌, ◌-◌, Bool, true, false, List, [], ◌∷◌, ◌++◌, All, length, length-append, take, drop, map, Option, Some, None, refl, sym, ap, ap₂, ◌∙◌, subst, arith}
 use Rattle.std.specs.Prelude.{◌&&◌, ◌||◌, ◌==◌, nat_lt, codes, fold, if◌then◌else◌}
 use Rattle.std.specs.List.{list_all}

@@ -74,7 +74,7 @@ all_alike archive place from to (g ∷ games) (m ∷ others) some le order all =
     let next : place ≤ m.end = let e = order.1.0 in omega (arith, here, e) in
     (alike archive place g m some here all.0, all_alike archive place m.end to games others some next order.2 all.1)
 
--- the spans after one of those that stand in order
+-- the spans after one of some spans in order
 behind_one : (from to : ℕ) (before : List Span) (game : Span) (after : List Span) → AreSpansInOrder from to (before ++ game ∷ after)
     → (0 < game.end) × AreSpansInOrder game.end to after
 behind_one from to [] game after order = (let e = order.1.0 in omega (arith, e), order.2)

@@ -1,4 +1,4 @@
--- What the games of an archive are read as where it splits after one of them.
+-- The outcomes of the games of an archive that splits after one of them.
 use Rattle.std.specs.Prelude.{◌↔◌, ℕ, List, [], ◌∷◌, Result}
 use Rattle.cq_position.specs.Games.{Game}
 use Rattle.pgn_cut.specs.GameTokens.{game_bytes}
@@ -7,7 +7,7 @@ use Rattle.pgn_reader.specs.declared.fault.GameFault.{GameFault}
 use Rattle.pgn_reader.specs.MovedTokens.{moved}
 use Rattle.pgn_reader.specs.Verdict.{IsRead}
 
--- a game of one archive is read as one of another: as the same game, or the same reason at a byte so many further on
+-- a game of one archive has the outcome of one of another: the same game, or the same reason at a byte n further on
 abbrev pub IsReadAlike : (n : ℕ) (here there : List ℕ) → Span → Span → Type 0
 IsReadAlike n here there game other =
     (outcome : Result Game GameFault) → IsRead game.start game.first (game_bytes here game) outcome

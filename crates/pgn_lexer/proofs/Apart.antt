@@ -1,4 +1,4 @@
--- The lexemes of a text stand in order, and don't overlap.
+-- The lexemes of a text are in order, and don't overlap.
 use Rattle.std.proofs.Common.{◌≡◌, ℕ, zero, suc, ◌+◌, ◌-◌, ◌<◌, ◌≤◌, ◌⊎◌, Bool, List, [], ◌∷◌, length, sym, ap, ◌∙◌, inl, inr, arith}
 use Rattle.std.specs.List.{AllByRecursion}
 use Rattle.cq_common.specs.Text.{is_white}
@@ -46,7 +46,7 @@ ends_uncrossed q (l ∷ ls) order =
           (both_all (λ m. IsUncrossed m.at ls × IsUncrossed (end m) ls) (λ m. end l ≤ m.at) ls (ends_uncrossed (end l) ls order.2) begin_after),
     )
 
--- where a lexeme of a text stands, counted from its first byte
+-- the place of a lexeme in a text, counted from its first byte
 record Placed (at : ℕ) (first : Bool) (bs : List ℕ) (l : Lexeme) : Type 0 where
   after : at ≤ l.at
   some : 0 < length l.text
@@ -84,7 +84,7 @@ all_placed (b ∷ bs) zero at first =
           (lexemes_from bs (r.len - 1) (at + 1) (ends_line b)) (all_placed bs (r.len - 1) (at + 1) (ends_line b)),
     ))
 
--- each lexeme of a text stands in it
+-- each lexeme of a text is in its place
 pub stand_apart : (start : ℕ) (first : Bool) (bytes : List ℕ) → AllByRecursion (StandsIn start first bytes) (lexemes start first bytes)
 stand_apart start first bytes =
     let all = lexemes start first bytes in

@@ -1,4 +1,4 @@
--- The body of a string: over bytes that stand for themselves, and over a backslash.
+-- The body of a string: over plain bytes, and over a backslash.
 use Rattle.std.proofs.Common.{◌≡◌, ℕ, suc, ◌+◌, ◌-◌, ◌<◌, ◌≤◌, ◌⊎◌, Bool, true, false, cond, List, [], ◌∷◌, ◌++◌, length, get_or, drop, refl, sym, ap, subst, inl, inr, ⊎_elim, ◌∙◌, arith, zero-add, eqb-true}
 use Rattle.std.specs.Prelude.{◌≢◌, ◌==◌, ◌&&◌, ◌||◌, not}
 use Rattle.std.specs.List.{position_or_len}
@@ -45,7 +45,7 @@ pub body_len-backslash : (bs : List ℕ) → body_len false (92 ∷ bs) ≡ 1 + 
 unfolding body_len
 body_len-backslash bs = refl
 
--- a byte that isn't special stands for itself
+-- a byte that isn't special is plain
 plain_from : (b : ℕ) → is_special b ≡ false → IsPlain b
 plain_from b plain =
     let line_feed = or_parts ((b == 34) || (b == 92)) (b == 10) plain in
@@ -60,7 +60,7 @@ by_first false b p bs first more =
     let one : suc p ≡ 1 + p = omega arith in
     subst (λ n. body_len false (b ∷ bs) ≡ n + body_len false (drop n (b ∷ bs))) one here
 
--- a body goes on over all the bytes before the first special one
+-- a body continues over all the bytes before the first special one
 pub plain_front : (rest : List ℕ) → body_len false rest ≡ position_or_len is_special rest + body_len false (drop (position_or_len is_special rest) rest)
 unfolding body_len
 plain_front [] = refl
@@ -104,7 +104,7 @@ pub body_at_end : (rest : List ℕ) (at : ℕ) → length rest ≤ at → body_l
 unfolding body_len
 body_at_end rest at past = at_drop_all (body_len false) rest at past
 
--- the body goes on over the bytes before the place, where a special one stands or the text ends
+-- the body continues over the bytes before the place, which is that of a special byte or the end of the text
 pub record Reaches (rest : List ℕ) (at : ℕ) : Type 0 where
   pub within : at ≤ length rest
   pub special : at < length rest → is_special (get_or rest at 0) ≡ true
@@ -130,7 +130,7 @@ reaches_next rest from n within is body =
 pub reaches_first : (rest : List ℕ) (at : ℕ) → at ≡ position_or_len is_special rest → Reaches rest at
 reaches_first rest at is = subst (Reaches rest) (zero-add at) (reaches_next rest 0 at (omega arith) is (omega arith))
 
--- the body ends there where the text does, and where another byte than a backslash stands
+-- the body ends at the end of the text, and at a special byte other than a backslash
 pub reached_end : (rest : List ℕ) (at : ℕ) → Reaches rest at → length rest ≤ at → at ≡ body_len false rest
 reached_end rest at reaches past =
     let ends = body_at_end rest at past in

@@ -1,4 +1,4 @@
--- A lexeme is read whole before a byte that doesn't go on with it.
+-- A lexeme is read whole before a byte that doesn't continue it.
 use Rattle.std.proofs.Common.{◌≡◌, ◌≢◌, ℕ, suc, ◌+◌, ◌<◌, Bool, true, false, List, [], ◌∷◌, ◌++◌, length, get_or, take, drop, refl, sym, ap, ap₂, ◌∙◌, subst, inl, inr, ⊎_elim, arith, true≢false, length-append, append_assoc}
 use Rattle.std.specs.Prelude.{not, ◌&&◌, ◌||◌, ◌==◌, min}
 use Rattle.std.specs.List.{AllByRecursion}
@@ -23,7 +23,7 @@ use Rattle.pgn_lexer.proofs.Longest.{is_longest}
 use Rattle.pgn_lexer.proofs.Settled.{lexeme_front, unfinished_front, grows}
 use Rattle.pgn_lexer.proofs.Walk.{over_lexeme}
 
--- white space goes on with no symbol and no number
+-- white space continues no symbol and no number
 white_never : (t : ℕ → Bool) (b : ℕ) → ((c : ℕ) → c < 33 → (is_white c && t c) ≡ false) → is_white b ≡ true → t b ≡ false
 white_never t b never white =
     let small : b < 33 = grind (arith, nat_tests) in
@@ -95,7 +95,7 @@ alone first kind b bs h no_ =
     let same : r.kind ≡ kind = longest.only kind no_ (subst (λ m. IsLexeme first kind (take m (b ∷ bs))) (sym len) (subst (IsLexeme first kind) (sym whole) h)) in
     record { dark = dark_lexeme first kind b bs h no_; reads = ap₂ (λ k m. record { kind = k; len = m }) same len }
 
--- what holds at each element before a last one, and of that
+-- a property of each element before a last one, and of that one, holds of all
 all_front : {A : Type 0} (P : A → Type 0) (xs : List A) (y : A) → AllByRecursion P (xs ++ y ∷ []) → AllByRecursion P xs
 all_front P [] y all = tt
 all_front P (x ∷ xs) y all = (all.0, all_front P xs y all.1)
@@ -126,7 +126,7 @@ unfinished_last bs c = ⊎_elim (λ whole. body_last bs c whole) (λ cut.
 no_line : (c : ℕ) → c ≢ 10 → not (ends_line c) ≡ true
 no_line c other = grind (arith, nat_tests)
 
--- where a lexeme of one more byte follows, that byte goes on with the reading of the bytes before it
+-- if a lexeme has one more byte, that byte continues the reading of the bytes before it
 module _ (first : Bool) (b c : ℕ) (bs : List ℕ) (k : LexemeKind) (reads : reading first b bs ≡ record { kind = k; len = length (b ∷ bs) }) where
   by_kind : (other : LexemeKind) → (other ≡ Token BadByte → ⊥) → IsLexeme first other (b ∷ bs) → goes_on other c ≡ true → goes_on k c ≡ true
   by_kind other no_ h goes =
@@ -140,7 +140,7 @@ module _ (first : Bool) (b c : ℕ) (bs : List ℕ) (k : LexemeKind) (reads : re
   too_long : (x : ℕ) → b ∷ bs ++ c ∷ [] ≡ x ∷ [] → goes_on k c ≡ true
   too_long x e = let n = ap length e in let m = long in absurd (omega arith)
 
-  -- where the text is a byte and bytes of which each is such a one
+  -- the text is also its first byte and the bytes after it, of which c is the last
   rest_is : (x : ℕ) (xs : List ℕ) → b ∷ bs ++ c ∷ [] ≡ x ∷ xs → (b ≡ x) × (xs ≡ bs ++ c ∷ [])
   rest_is x xs e = (ap (λ l. get_or l 0 0) e, sym (ap (drop 1) e))
 

@@ -48,7 +48,7 @@ least : (t : Bool) (x y : Reading) (n : ℕ) → n ≤ x.len → n ≤ y.len →
 least true x y n nx ny m fits = omega arith
 least false x y n nx ny m fits = omega arith
 
--- what a comment is, by where its } stands
+-- the reading of a comment, by the place of its }
 abbrev comment_by : ℕ → ℕ → Reading
 comment_by body len = if nat_lt body len then token Comment (body + 2) else token UnclosedComment (body + 1)
 
@@ -62,7 +62,7 @@ comment_short m body other len short most fits same =
     ap (λ n. comment_by n m) (same few)
     ∙ ap (λ t. if t then token Comment (body + 2) else token UnclosedComment (body + 1)) (closes_too ∙ sym closes)
 
--- what a string is, by its body and the byte after that
+-- the reading of a string, by its body and the byte after that
 abbrev text_by : ℕ → ℕ → Reading
 text_by body next = if next == 34 then token Text (body + 2) else token UnclosedText (body + 1)
 
@@ -81,7 +81,7 @@ text_short m body other rest fits same =
     ap (text_by body) none ∙ sym (ap (λ t. if t then token Text (body + 2) else token UnclosedText (body + 1)) open_))
     (cases_lt body m)
 
--- what a glyph is, by its digits
+-- the reading of a glyph, by its digits
 abbrev nag_by : ℕ → List ℕ → Reading
 nag_by digits number = if digits == 0 then token BadByte 1 else token (Nag (min 256 (digits_value 10 number))) (digits + 1)
 
@@ -96,7 +96,7 @@ nag_short m digits other rest fits same =
     ap (λ n. nag_by n (take n (take m rest))) (same few)
     ∙ ap (nag_by digits) (take-take digits m rest few)
 
--- what a null move is, by the byte after its first
+-- the reading of a null move, by the byte after its first
 null_by : (m : ℕ) (rest : List ℕ) → Same m (if get_or rest 0 0 == 45 then token Null 2 else token BadByte 1) (if get_or (take m rest) 0 0 == 45 then token Null 2 else token BadByte 1)
 null_by zero rest fits =
     let not_null : (get_or rest 0 0 == 45) ≡ false = false_from_ne_true (get_or rest 0 0 == 45) (λ is.
@@ -104,7 +104,7 @@ null_by zero rest fits =
     sym (ap (λ t. if t then token Null 2 else token BadByte 1) not_null)
 null_by (suc m) rest fits = ap (λ n. if n == 45 then token Null 2 else token BadByte 1) (get_or-take (suc m) rest 0 0 (omega arith))
 
--- what a reading is by the byte after its first
+-- a reading that depends on the byte after its first
 by_next : (m : ℕ) (c d : ℕ) (x y z : Reading) (rest : List ℕ) → 0 < c → 0 < d → 1 < x.len → 1 < y.len
     → Same m (if get_or rest 0 0 == c then x else (if get_or rest 0 0 == d then y else z)) (if get_or (take m rest) 0 0 == c then x else (if get_or (take m rest) 0 0 == d then y else z))
 by_next zero c d x y z rest pc pd long_x long_y fits =

@@ -1,4 +1,4 @@
--- Lists of which something holds at each element, and filters.
+-- Lists with a property of each element, and filters.
 use Rattle.std.proofs.Common.{◌≡◌, Bool, true, false, cond, List, [], ◌∷◌, refl, ap, ◌∙◌}
 use Rattle.std.specs.Prelude.{◌&&◌, filter}
 use Rattle.std.specs.List.{AllByRecursion}
@@ -31,7 +31,7 @@ pub filter-filter : {A : Type 0} (p q : A → Bool) (xs : List A) → filter p (
 filter-filter p q [] = refl
 filter-filter p q (x ∷ xs) = twice (q x) (p x) p x (filter q xs) (filter (λ y. q y && p y) xs) refl (filter-filter p q xs)
 
--- what holds at each element of a list holds at each that a filter keeps
+-- a property of each element of a list holds of each that a filter keeps
 kept_all : {A : Type 0} (P : A → Type 0) (t : Bool) (x : A) (xs ys : List A) → P x × AllByRecursion P xs → AllByRecursion P ys → AllByRecursion P (cond t (x ∷ ys) ys)
 kept_all P true x xs ys all rest = (all.0, rest)
 kept_all P false x xs ys all rest = rest

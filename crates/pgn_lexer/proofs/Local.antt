@@ -1,4 +1,4 @@
--- The lexemes of a part of a text, and how they stand in it.
+-- The lexemes of a part of a text, and their places in it.
 use Rattle.std.proofs.Common.{◌≡◌, ℕ, zero, suc, ◌+◌, ◌-◌, ◌≤◌, ◌⊎◌, Bool, true, false, cond, List, [], ◌∷◌, length, take, drop, refl, sym, ap, ap₂, ◌∙◌, subst, ⊎_elim, arith, add-zero}
 use Rattle.std.specs.Prelude.{◌&&◌, nat_le, nat_lt, filter, slice_range}
 use Rattle.std.specs.List.{AllByRecursion}

@@ -22,7 +22,7 @@ use Rattle.pgn_lexer.proofs.Within.{of_both, reading_some, reading_within}
 Agrees : LexemeKind → ℕ → Reading → Type 0
 Agrees other n r = (n ≤ r.len) × ((other ≡ Token BadByte → ⊥) → n ≡ r.len → r.kind ≡ other)
 
--- what a front of a text tells of the text
+-- a front of a text gives the text's first byte and the bytes after it
 heads : (b : ℕ) (rest : List ℕ) (n c : ℕ) (more : List ℕ) → n ≤ length (b ∷ rest) → take n (b ∷ rest) ≡ c ∷ more → (b ≡ c) × (n ≡ suc (length more)) × (rest ≡ more ++ drop (length more) rest)
 heads b rest zero c more fits is = cc
 heads b rest (suc k) c more fits is =

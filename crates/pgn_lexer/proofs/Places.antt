@@ -1,4 +1,4 @@
--- What a search for bytes finds.
+-- The result of a search for bytes.
 use Rattle.std.proofs.Common.{◌≡◌, ℕ, ◌≤◌, Bool, List, Option, None, Some, length, get_or, sym, arith}
 use Rattle.std.specs.Option.{unwrap_or}
 use Rattle.std.specs.List.{position_or_len}
@@ -6,7 +6,7 @@ use Rattle.std.proofs.lemmas.List.Sums.{position_or_len_is}
 use Rattle.std.proofs.lemmas.Bool.{false_from_ne_true}
 use Rattle.memchr.specs.Find.{IsFirstByte}
 
--- what a search answers, or the length, is the first place
+-- the result of a search, or the length, is the first place
 pub place_found : (test : ℕ → Bool) (bytes : List ℕ) (r : Option ℕ) → IsFirstByte test bytes r → unwrap_or r (length bytes) ≡ position_or_len test bytes
 place_found test bytes None nowhere =
     sym (position_or_len_is test bytes (length bytes) 0 (omega arith) (λ k lt. false_from_ne_true (test (get_or bytes k 0)) (nowhere k (omega arith) lt)) (λ lt. absurd (omega arith)))

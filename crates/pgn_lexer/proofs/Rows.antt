@@ -30,12 +30,12 @@ pub suffixes : tokens_of 0 true (codes "Qh5!?!!??!?!") ≡ token 0 3 Symbol ∷ 
 unfolding lexemes_from reading symbol good_suffix poor_suffix
 suffixes = refl
 
--- a marker is whole only where nothing goes on; the marker of a draw is one symbol
+-- a marker is whole only if nothing continues it; the marker of a draw is one symbol
 pub markers : tokens_of 0 true (codes "1-0x 1/2-1/2 --- *") ≡ token 0 4 Symbol ∷ token 5 7 Symbol ∷ token 13 2 Null ∷ token 15 1 BadByte ∷ token 17 1 Star ∷ []
 unfolding lexemes_from reading symbol null_move single
 markers = refl
 
--- an escape line stands in the first column alone
+-- an escape line is in the first column alone
 pub escape_lines : tokens_of 0 true (codes "%x y" ++ 10 ∷ codes "a %b" ++ 10 ∷ codes "%c") ≡ token 5 1 Symbol ∷ token 7 1 BadByte ∷ token 8 1 Symbol ∷ []
 unfolding lexemes_from reading escape_line symbol single
 escape_lines = refl

@@ -1,4 +1,4 @@
--- What of the lexemes of a front stays, whatever follows it.
+-- The lexemes of a front that stay, whatever follows it.
 use Rattle.std.proofs.Common.{◌≡◌, ℕ, zero, suc, ◌+◌, ◌-◌, ◌<◌, ◌≤◌, Bool, true, false, cond, List, [], ◌∷◌, ◌++◌, length, get_or, take, drop, refl, sym, ap, ap₂, ◌∙◌, subst, inl, inr, ⊎_elim, arith, true≢false, add-zero, min}
 use Rattle.std.specs.Prelude.{◌≢◌}
 use Rattle.std.specs.List.{AllByRecursion}
@@ -225,7 +225,8 @@ further b bs inside at first given next step rest =
       unsettled = subst (λ c. IsUnsettled c (drop n bs)) (sym column) rest.unsettled;
     }
 
--- where a byte is white space, where it begins a lexeme that ends before the front does, and where that is all that is left
+-- three cases: the byte is white space, it begins a lexeme that ends before the front does, or that lexeme is all that
+-- is left
 white_settles : (b : ℕ) (bs : List ℕ) (at : ℕ) (first : Bool) → is_white b ≡ true → SettlesFrom bs 0 (at + 1) (ends_line b) → SettlesFrom (b ∷ bs) 0 at first
 unfolding lexemes_from
 white_settles b bs at first white rest =
@@ -260,7 +261,7 @@ last_unsettled b bs at first dark reaches grows_ =
       unsettled = (dark, omega arith, grows_);
     }
 
--- where no lexeme of the rest crosses, by how the first one stands
+-- a front that begins with a lexeme settles it, or leaves it open as its last one
 first_settles : (b : ℕ) (bs : List ℕ) (at : ℕ) (first : Bool) → is_white b ≡ false → SettlesFrom bs ((reading first b bs).len - 1) (at + 1) (ends_line b) → SettlesFrom (b ∷ bs) 0 at first
 first_settles b bs at first dark rest =
     let within = reading_within first b bs in

@@ -135,7 +135,7 @@ with_backslash : Bool → List ℕ → List ℕ
 with_backslash true l = 92 ∷ l
 with_backslash false l = l
 
--- what is read of a string's body is one, and a quote after it ends it whole
+-- the bytes read of a string's body are a body, and a quote after it ends it whole
 record BodyRead (backslash : Bool) (bytes : List ℕ) (n : ℕ) : Type 0 where
   unfinished : IsUnfinished (with_backslash backslash (take n bytes))
   whole : get_or bytes n 0 ≡ 34 → IsBody (with_backslash backslash (take n bytes))

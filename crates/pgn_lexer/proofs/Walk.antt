@@ -18,7 +18,7 @@ first_at-drop first bytes p (suc k) =
     let e : p + suc k ≡ suc (p + k) = omega arith in
     ap ends_line (get_or-drop p bytes k 0) ∙ ap (first_at first bytes) (sym e)
 
--- after the first byte the column is told by that
+-- after the first byte the column depends on that byte
 pub first_at-cons : (first : Bool) (b : ℕ) (bs : List ℕ) (n : ℕ) → first_at first (b ∷ bs) (suc n) ≡ first_at (ends_line b) bs n
 first_at-cons first b bs zero = refl
 first_at-cons first b bs (suc n) = refl
@@ -73,7 +73,7 @@ pub of_nothing : (at : ℕ) (first : Bool) → lexemes at first [] ≡ []
 unfolding lexemes_from
 of_nothing at first = refl
 
--- the lexemes of a text that stands elsewhere
+-- the lexemes of a text at another place
 both_moved : (n : ℕ) (t : Bool) (x : Lexeme) (xs ys xs' ys' : List Lexeme) → xs' ≡ map (moved n) xs → ys' ≡ map (moved n) ys → cond t xs' (moved n x ∷ ys') ≡ map (moved n) (cond t xs (x ∷ ys))
 both_moved n true x xs ys xs' ys' white dark = white
 both_moved n false x xs ys xs' ys' white dark = ap (λ l. moved n x ∷ l) dark
@@ -121,7 +121,7 @@ module _ (start : ℕ) (first : Bool) (bytes : List ℕ) where
       ∙ ap (λ l. (record { at = start + p; first = col; text = take r.len l; kind = r.kind }) ∷ lexemes_from (drop r.len l) 0 (start + p + r.len) (first_at col l r.len)) (sym cons)
       ∙ ap (λ ls. (record { at = start + p; first = col; text = take r.len (drop p bytes); kind = r.kind }) ∷ ls) (further p r.len)
 
--- where white space ends
+-- the byte at the end of white space is not white space
 pub dark_after_white : (bytes : List ℕ) (p : ℕ) → p + prefix_len is_white (drop p bytes) < length bytes → is_white (get_or bytes (p + prefix_len is_white (drop p bytes)) 0) ≡ false
 dark_after_white bytes p within =
     let len = length-drop p bytes in

@@ -11,7 +11,7 @@ use Rattle.pgn_lexer.specs.Bytes.{ends_line, continues_symbol}
 use Rattle.pgn_lexer.specs.Readings.{comment, line_comment, escape_line, ends_body, takes_next, body_len, text, symbol, nag, good_suffix, poor_suffix, null_move, single, reading}
 use Rattle.pgn_lexer.specs.declared.token.Reading.{Reading}
 
--- what holds of both answers of a test holds of the answer
+-- a property of both branches of a test holds of the result
 pub of_both : {A : Type 0} (P : A → Type 0) (t : Bool) (x y : A) → (t ≡ true → P x) → (t ≡ false → P y) → P (cond t x y)
 of_both P true x y px py = px refl
 of_both P false x y px py = py refl
@@ -20,7 +20,7 @@ pub record Takes (rest : List ℕ) (r : Reading) : Type 0 where
   pub some : 0 < r.len
   pub within : r.len ≤ length rest + 1
 
--- a byte that isn't 0 stands within the list
+-- a byte that isn't 0 is within the list
 pub index_within : (xs : List ℕ) (i c : ℕ) → 0 < c → (get_or xs i 0 == c) ≡ true → i < length xs
 index_within xs i c positive is = ⊎_elim (λ lt. lt) (λ past. let e = sym (get_or_past xs i 0 past) ∙ eqb-true (get_or xs i 0) c is in absurd (omega arith)) (cases_lt i (length xs))
 

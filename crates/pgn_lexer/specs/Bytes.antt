@@ -1,4 +1,4 @@
--- The bytes that the tokens of PGN are told apart by, and the number beyond those of glyphs.
+-- The bytes that distinguish tokens, and the number beyond those of glyphs.
 use Rattle.std.specs.Prelude.{ℕ, Bool, ◌==◌, ◌||◌, codes}
 use Rattle.std.specs.List.{list_any}
 use Rattle.std.specs.Char.{is_ascii_alphanumeric}
@@ -9,7 +9,7 @@ line_feed = 10
 abbrev pub space : ℕ
 space = 32
 
--- the bytes that tokens and escape lines begin with, and those that end comments and strings
+-- the first bytes of tokens and escape lines, and the last bytes of comments and strings
 abbrev pub left_brace : ℕ
 left_brace = 123
 
@@ -58,7 +58,7 @@ period = 46
 abbrev pub star : ℕ
 star = 42
 
--- glyphs have the numbers from 0 to 255; this one stands for all beyond
+-- glyphs have the numbers from 0 to 255; this one represents all beyond
 abbrev pub beyond_glyphs : ℕ
 beyond_glyphs = 256
 
@@ -66,7 +66,7 @@ beyond_glyphs = 256
 abbrev pub ends_line : ℕ → Bool
 ends_line b = b == line_feed
 
--- PGN standard, section 7: a symbol goes on with letters, digits and _ + # = : - and here with / too,
--- so that the marker of a drawn game is one symbol
+-- PGN standard, section 7: a symbol continues with letters, digits and _ + # = : - and here with / too, so that the
+-- marker of a drawn game is one symbol
 abbrev pub continues_symbol : ℕ → Bool
 continues_symbol b = is_ascii_alphanumeric b || list_any (λ c. b == c) (codes "_+#=:-/")

@@ -1,11 +1,11 @@
--- The grammar of the lexemes: which text, whole, is one of which kind. It knows nothing of what follows.
+-- The grammar of the lexemes: the whole texts of each kind. It knows nothing of the bytes that follow.
 --
 -- It is that of the PGN standard: section 5 on comments, section 6 on escape lines, section 7 on tokens and section
 -- 8.2.3.8 on suffixes. It is more lenient in these points. Digits alone are a symbol, and no integer of their own. A
--- symbol goes on over /, so that 1/2-1/2 is one. A string may hold every byte but LF, as many as there are, and a
--- backslash may stand before any of them. Suffixes are tokens. A glyph's number may be of any length. -- is a null
--- move. Comments and strings that don't end, and bytes that begin nothing, among them < and >, are faulty tokens: a
--- text is never refused as a whole.
+-- symbol continues over /, so that 1/2-1/2 is one. A string may have every byte but LF, without limit of length, and a
+-- backslash may come before any of them. Suffixes are tokens. A glyph's number may be of any length. -- is a null move.
+-- Comments and strings that don't end, and bytes that begin nothing, among them < and >, are faulty tokens: no text is
+-- rejected as a whole.
 use Rattle.std.specs.Prelude.{ℕ, ◌<◌, ◌≤◌, ◌≡◌, ◌≢◌, ◌⊎◌, Bool, true, List, [], ◌∷◌, ◌++◌, length, take, min, codes}
 use Rattle.std.specs.List.{AllByRecursion}
 use Rattle.std.specs.Char.{is_ascii_digit, is_ascii_alphanumeric}
@@ -20,11 +20,11 @@ use Rattle.pgn_lexer.specs.declared.token.LexemeKind.TheVariants.{EscapeLine, To
 abbrev pub Lacks : ℕ → List ℕ → Type 0
 Lacks c bytes = AllByRecursion (λ b. b ≢ c) bytes
 
--- a byte of a string that stands for itself: no quote, no backslash and no LF
+-- a plain byte of a string: no quote, no backslash and no LF
 abbrev pub IsPlain : ℕ → Type 0
 IsPlain b = (b ≢ quote) × (b ≢ backslash) × (b ≢ line_feed)
 
--- what stands between the quotes of a string: plain bytes, and backslashes with a byte each that isn't LF
+-- the text between the quotes of a string: plain bytes, and backslashes with a byte each that isn't LF
 abbrev pub IsBody : List ℕ → Type 0
 IsBody [] = Unit {0}
 IsBody (b ∷ []) = IsPlain b
@@ -42,8 +42,8 @@ IsNumbered n text =
     (digits : List ℕ) × (text ≡ dollar_sign ∷ digits) × (0 < length digits)
     × AllByRecursion (λ d. is_ascii_digit d ≡ true) digits × (n ≡ min beyond_glyphs (digits_value 10 digits))
 
--- A text is a lexeme of a kind; `first` says whether it begins in the first column. Any one byte may be a bad one, and
--- is read so only where nothing else is.
+-- A text is a lexeme of a kind; `first` is true if it begins in the first column. Any single byte may be a bad one, and
+-- is read so only if no other reading exists.
 abbrev pub IsLexeme : (first : Bool) → LexemeKind → List ℕ → Type 0
 IsLexeme first EscapeLine text = (line : List ℕ) × (text ≡ percent_sign ∷ line) × (first ≡ true) × Lacks line_feed line
 IsLexeme first (Token Open) text = text ≡ codes "["
@@ -65,8 +65,8 @@ IsLexeme first (Token UnclosedComment) text = (body : List ℕ) × (text ≡ lef
 IsLexeme first (Token UnclosedText) text =
     (body : List ℕ) × (text ≡ quote ∷ body) × (IsBody body ⊎ ((before : List ℕ) × (body ≡ before ++ backslash ∷ []) × IsBody before))
 
--- A reading is the longest: it is a lexeme of its kind within the bytes, no lexeme at that place has more bytes, and of as many bytes
--- there is no other, but that any byte may be a bad one.
+-- A reading is the longest: it is a lexeme of its kind within the bytes, and no lexeme at that place has more bytes. No
+-- other lexeme has as many, except that any byte may be a bad one.
 pub record IsLongest (first : Bool) (bytes : List ℕ) (r : Reading) : Type 0 where
   pub within : r.len ≤ length bytes
   pub reads : IsLexeme first r.kind (take r.len bytes)

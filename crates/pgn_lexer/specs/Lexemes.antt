@@ -8,7 +8,7 @@ use Rattle.pgn_lexer.specs.declared.token.LexemeKind.{LexemeKind}
 use Rattle.pgn_lexer.specs.declared.token.LexemeKind.TheVariants.{EscapeLine, Token}
 use Rattle.pgn_lexer.specs.declared.token.Token.{Token as GameToken}
 
--- a lexeme: its place, whether its first byte stands in the first column, its bytes and its kind
+-- a lexeme: its place, `first` (true if its first byte is in the first column), its bytes and its kind
 pub record Lexeme : Type 0 where
   pub at : ℕ
   pub first : Bool
@@ -19,13 +19,13 @@ pub record Lexeme : Type 0 where
 abbrev pub end : Lexeme → ℕ
 end l = l.at + length l.text
 
--- the lexeme at a place: the longest reading of the byte there and what stands after it
+-- the lexeme at a place: the longest reading of the byte there and the bytes after it
 abbrev pub lexeme : ℕ → Bool → ℕ → List ℕ → Lexeme
 lexeme at first b rest =
     record { at = at; first = first; text = take (reading first b rest).len (b ∷ rest); kind = (reading first b rest).kind }
 
--- The lexemes of a text whose front `inside` bytes belong to the lexeme before. `at` is the place of its first byte,
--- and `first` says whether that byte stands in the first column; any other byte does so where it follows LF.
+-- The lexemes of a text whose first `inside` bytes belong to the lexeme before. `at` is the place of its first byte,
+-- and `first` is true if that byte is in the first column. Any other byte is in the first column if it follows LF.
 unfoldable pub lexemes_from : List ℕ → (inside : ℕ) → (at : ℕ) → (first : Bool) → List Lexeme
 lexemes_from [] inside at first = []
 lexemes_from (b ∷ bs) (suc inside) at first = lexemes_from bs inside (at + 1) (ends_line b)
@@ -37,20 +37,20 @@ lexemes_from (b ∷ bs) zero at first =
 abbrev pub lexemes : ℕ → Bool → List ℕ → List Lexeme
 lexemes start first bytes = lexemes_from bytes 0 start first
 
--- the same lexeme, so many bytes further on
+-- the same lexeme, n bytes further on
 abbrev pub moved : ℕ → Lexeme → Lexeme
 moved n l = record { at = l.at + n; first = l.first; text = l.text; kind = l.kind }
 
--- whether the byte at a place of a text stands in the first column; `first` says so of the first byte
+-- true if the byte at a place of a text is in the first column; `first` is the value for the first byte
 abbrev pub first_at : (first : Bool) → List ℕ → ℕ → Bool
 first_at first bytes zero = first
 first_at first bytes (suc before) = ends_line (slice_index bytes before)
 
--- the lexemes that begin at a place of a text or after it, where no lexeme crosses that place
+-- the lexemes that begin at a place of a text or after it, if no lexeme crosses that place
 abbrev pub lexemes_at : ℕ → Bool → List ℕ → ℕ → List Lexeme
 lexemes_at start first bytes place = lexemes_from (drop place bytes) 0 (start + place) (first_at first bytes place)
 
--- a lexeme as the tokens that it gives a game: escape lines give none
+-- a lexeme as tokens of a game: an escape line gives none
 abbrev pub token_if : ℕ → ℕ → LexemeKind → List GameToken
 token_if at len EscapeLine = []
 token_if at len (Token kind) = record { at = at; len = len; kind = kind } ∷ []

@@ -1,4 +1,4 @@
--- Which places of a text no lexeme crosses, and which lexemes stand between two places.
+-- The places of a text that no lexeme crosses, and the lexemes between two places.
 use Rattle.std.specs.Prelude.{ℕ, ◌+◌, ◌-◌, ◌≤◌, ◌<◌, ◌≡◌, ◌⊎◌, Bool, true, false, ◌&&◌, nat_le, nat_lt, List, [], ◌∷◌, ◌++◌, length, drop, filter}
 use Rattle.std.specs.List.{AllByRecursion}
 use Rattle.cq_common.specs.Text.{is_white}
@@ -16,13 +16,13 @@ IsUncrossed place ls = AllByRecursion (λ l. (end l ≤ place) ⊎ (place ≤ l.
 abbrev pub within : ℕ → ℕ → List Lexeme → List Lexeme
 within from to ls = filter (λ l. nat_le from l.at && nat_lt l.at to) ls
 
--- lexemes stand in order from a place on: each has some bytes, and begins where the one before it ends or after that
+-- lexemes are in order from a place on: each has some bytes, and begins at the end of the one before it or after that
 abbrev pub AreLexemesInOrder : ℕ → List Lexeme → Type 0
 AreLexemesInOrder from [] = Unit {0}
 AreLexemesInOrder from (l ∷ ls) = (from ≤ l.at) × (0 < length l.text) × AreLexemesInOrder (end l) ls
 
--- How a lexeme of a text stands in it: no other crosses its ends, it takes some of the text's bytes, and it stands in
--- the first column where its first byte does.
+-- The place of a lexeme in its text: no other crosses its ends, and it has some of the text's bytes. It is in the first
+-- column if its first byte is.
 pub record StandsIn (start : ℕ) (first : Bool) (bytes : List ℕ) (l : Lexeme) : Type 0 where
   pub begin_uncrossed : IsUncrossed l.at (lexemes start first bytes)
   pub end_uncrossed : IsUncrossed (end l) (lexemes start first bytes)
@@ -31,8 +31,8 @@ pub record StandsIn (start : ℕ) (first : Bool) (bytes : List ℕ) (l : Lexeme)
   pub to_end : end l ≤ start + length bytes
   pub column : l.first ≡ first_at first bytes (l.at - start)
 
--- Whether a lexeme that reaches the end of a text is left open: only the tokens of one byte are not. A comment or string that was closed
--- can't grow either, and is left open all the same.
+-- True if a lexeme that reaches the end of a text is left open: only the tokens of one byte are not. A closed comment
+-- or string can't grow either, but counts as left open.
 abbrev pub is_left_open : LexemeKind → Bool
 is_left_open (Token Open) = false
 is_left_open (Token Close) = false
@@ -42,13 +42,14 @@ is_left_open (Token LeftParen) = false
 is_left_open (Token RightParen) = false
 is_left_open _ = true
 
--- what a front leaves open: nothing, or a byte whose longest reading is all that is left, and left open
+-- the rest of a front that is left open: nothing, or a byte whose longest reading is all of the rest, and left open
 abbrev pub IsUnsettled : (first : Bool) → List ℕ → Type 0
 IsUnsettled first [] = Unit {0}
 IsUnsettled first (b ∷ bs) =
     (is_white b ≡ false) × ((reading first b bs).len ≡ length (b ∷ bs)) × (is_left_open (reading first b bs).kind ≡ true)
 
--- A front settles its lexemes up to a place: they stay, whatever follows the front, and those of what it leaves open come after them.
+-- A front settles its lexemes up to a place: they stay, whatever follows the front. The lexemes of its open rest come
+-- after them.
 pub record Settles (start : ℕ) (first : Bool) (front : List ℕ) : Type 0 where
   pub settled : List Lexeme
   pub place : ℕ
@@ -57,7 +58,8 @@ pub record Settles (start : ℕ) (first : Bool) (front : List ℕ) : Type 0 wher
       → lexemes start first (front ++ more) ≡ settled ++ lexemes (start + place) (first_at first front place) (drop place front ++ more)
   pub unsettled : IsUnsettled (first_at first front place) (drop place front)
 
--- What follows a text makes its first reading longer or leaves it; a reading that fits into the text is that of the text.
+-- The bytes that follow a text make its first reading longer or leave it; a reading that fits into the text is that of
+-- the text.
 pub record Grows (first : Bool) (b : ℕ) (bs more : List ℕ) : Type 0 where
   pub longer : (reading first b bs).len ≤ (reading first b (bs ++ more)).len
   pub same : (reading first b (bs ++ more)).len ≤ length (b ∷ bs) → reading first b (bs ++ more) ≡ reading first b bs

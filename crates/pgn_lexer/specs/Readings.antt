@@ -9,11 +9,11 @@ use Rattle.pgn_lexer.specs.declared.token.TokenKind.TheVariants.{Open, Close, Te
 use Rattle.pgn_lexer.specs.declared.token.LexemeKind.TheVariants.{EscapeLine, Token}
 use Rattle.pgn_lexer.specs.declared.token.Reading.{Reading}
 
--- a token of so many bytes
+-- a token of `len` bytes
 abbrev pub token : TokenKind → ℕ → Reading
 token kind len = record { kind = Token kind; len = len }
 
--- `rest` below is what stands after the first byte of the reading
+-- `rest` below is the bytes after the first byte of the reading
 
 -- section 5: a comment goes from { to the next }, and doesn't nest; without } it takes all the rest
 unfoldable pub comment : List ℕ → Reading
@@ -29,12 +29,12 @@ line_comment rest = token LineComment (position_or_len ends_line rest + 1)
 unfoldable pub escape_line : List ℕ → Reading
 escape_line rest = record { kind = EscapeLine; len = position_or_len ends_line rest + 1 }
 
--- the bytes of a string that don't stand for themselves: a quote and LF, which may end it, and a backslash, which may take the next
--- byte with it
+-- the special bytes of a string: a quote and LF, which may end it, and a backslash, which may take the next byte with
+-- it
 abbrev pub is_special : ℕ → Bool
 is_special b = b == quote || b == backslash || b == line_feed
 
--- `escaped` below says that the byte before is a backslash that takes this byte with it
+-- `escaped` below is true if the byte before is a backslash that takes this byte with it
 
 -- a string ends before a line's end always, and before a quote that is not escaped
 abbrev pub ends_body : (escaped : Bool) → ℕ → Bool
@@ -44,7 +44,7 @@ ends_body escaped b = ends_line b || (b == quote && not escaped)
 abbrev pub takes_next : (escaped : Bool) → ℕ → Bool
 takes_next escaped b = b == backslash && not escaped
 
--- how many bytes of a string stand before its end
+-- the number of bytes of a string before its end
 unfoldable pub body_len : (escaped : Bool) → List ℕ → ℕ
 body_len escaped [] = 0
 body_len escaped (b ∷ bs) = if ends_body escaped b then 0 else 1 + body_len (takes_next escaped b) bs
@@ -65,7 +65,7 @@ nag rest =
     let digits = prefix_len is_ascii_digit rest in
     if digits == 0 then token BadByte 1 else token (Nag (min beyond_glyphs (digits_value 10 (take digits rest)))) (digits + 1)
 
--- section 8.2.3.8: the suffixes stand for the glyphs 1 to 6
+-- section 8.2.3.8: the suffixes are the glyphs 1 to 6
 unfoldable pub good_suffix : List ℕ → Reading
 good_suffix rest =
     if slice_index rest 0 == exclamation_mark then token (Nag 3) 2
@@ -93,8 +93,8 @@ single b =
     else (if b == star then token Star 1
     else token BadByte 1)))))
 
--- the longest reading of a byte, which isn't white space, with what stands after it;
--- `first` says whether the byte stands in the first column
+-- the longest reading of a byte, which isn't white space, and the bytes after it;
+-- `first` is true if the byte is in the first column
 unfoldable pub reading : (first : Bool) → ℕ → List ℕ → Reading
 reading first b rest =
     if is_ascii_alphanumeric b then symbol rest

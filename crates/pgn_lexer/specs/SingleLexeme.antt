@@ -1,4 +1,4 @@
--- Which bytes may go on with a lexeme, and so where one is read whole, whatever comes later.
+-- The bytes that may continue a lexeme, and the texts that are read as one lexeme, whatever comes later.
 use Rattle.std.specs.Prelude.{◌≡◌, ℕ, Bool, true, false, not, ◌==◌, ◌||◌, List, [], ◌∷◌, length}
 use Rattle.std.specs.Char.{is_ascii_digit}
 use Rattle.cq_common.specs.Text.{is_white}
@@ -8,8 +8,8 @@ use Rattle.pgn_lexer.specs.declared.token.LexemeKind.{LexemeKind}
 use Rattle.pgn_lexer.specs.declared.token.LexemeKind.TheVariants.{EscapeLine, Token}
 use Rattle.pgn_lexer.specs.declared.token.TokenKind.TheVariants.{Symbol, Nag, LineComment, BadByte, UnclosedComment, UnclosedText}
 
--- Whether a byte that follows a lexeme of this kind may go on with it. A line, and a string without its quote, go on to
--- the line's end; a comment without its brace goes on over all that follows.
+-- True if a byte that follows a lexeme of this kind may continue it. A line, and a string without its quote, continue
+-- to the line's end. A comment without its brace continues over all that follows.
 abbrev pub goes_on : LexemeKind → ℕ → Bool
 goes_on EscapeLine b = not (ends_line b)
 goes_on (Token Symbol) b = continues_symbol b
@@ -20,7 +20,7 @@ goes_on (Token UnclosedComment) b = true
 goes_on (Token UnclosedText) b = not (ends_line b)
 goes_on _ b = false
 
--- whether a lexeme of this kind goes on over white space
+-- true if a lexeme of this kind continues over white space
 abbrev pub runs_on : LexemeKind → Bool
 runs_on EscapeLine = true
 runs_on (Token LineComment) = true
@@ -28,12 +28,12 @@ runs_on (Token UnclosedComment) = true
 runs_on (Token UnclosedText) = true
 runs_on _ = false
 
--- nothing follows a lexeme of this kind, or a byte that doesn't go on with it
+-- nothing follows a lexeme of this kind, or a byte that doesn't continue it
 abbrev pub IsEndedBy : LexemeKind → List ℕ → Type 0
 IsEndedBy kind [] = Unit {0}
 IsEndedBy kind (b ∷ bs) = goes_on kind b ≡ false
 
--- a text that is read as one lexeme of this kind, where nothing follows
+-- a text that is read as one lexeme of this kind if nothing follows
 pub record IsReadWhole (first : Bool) (kind : LexemeKind) (b : ℕ) (bs : List ℕ) : Type 0 where
   pub dark : is_white b ≡ false
   pub reads : reading first b bs ≡ record { kind = kind; len = length (b ∷ bs) }

@@ -9,9 +9,12 @@ use crate::token::{LexemeKind, Token};
 use cq_common::NoMemory;
 use std::alloc::Global;
 
-/// The tokens of a text of at most 2^24 bytes; escape lines give none. `start` is the place of its first byte in the
-/// archive, from which the tokens' places count, and `first` says whether that byte stands in the first column. Fails
-/// only when out of memory.
+/// Returns the tokens of a text of at most 2^24 bytes; escape lines give none. `start` is the place of its first byte
+/// in the archive, from which the tokens' places count. `first` is true if that byte is in the first column.
+///
+/// # Errors
+///
+/// Fails only if out of memory.
 pub fn tokens(alloc: Global, bytes: &[u8], start: u64, first: bool) -> Result<Vec<Token>, NoMemory>
     requires size { length bytes.now ≤ 2 ^ 24 }
     requires place { start < 2 ^ 62 }

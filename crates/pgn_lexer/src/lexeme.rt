@@ -7,7 +7,8 @@ use crate::reading::longest_reading;
 use crate::token::LexemeKind;
 use cq_common::white_len;
 
-/// A lexeme of some bytes: its place among them, whether it begins in the first column, its bytes and its kind.
+/// A lexeme of some bytes: its place among them, `first` (true if it begins in the first column), its bytes and its
+/// kind.
 #[derive(Clone, Copy, Debug)]
 pub struct Lexeme<'a> {
     pub at: usize,
@@ -16,7 +17,7 @@ pub struct Lexeme<'a> {
     pub kind: LexemeKind,
 }
 
-// Whether the byte at a place stands in the first column; `first` says so of the first byte.
+// True if the byte at a place is in the first column; `first` is the value for the first byte.
 #[inline]
 fn in_first_column(bytes: &[u8], at: usize, first: bool) -> bool
     requires { at ≤ length bytes.now }
@@ -29,8 +30,8 @@ fn in_first_column(bytes: &[u8], at: usize, first: bool) -> bool
     }
 }
 
-/// The next lexeme from a place on, which no lexeme crosses. `first` says whether the first byte of all stands in the
-/// first column. None where white space alone is left.
+/// Returns the next lexeme from a place on, which no lexeme crosses. `first` is true if the first of all bytes is in
+/// the first column. None if white space alone is left.
 #[inline]
 pub fn next_lexeme(bytes: &[u8], at: usize, first: bool) -> Option<Lexeme<'_>>
     requires { at ≤ length bytes.now }

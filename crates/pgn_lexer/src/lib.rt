@@ -1,9 +1,9 @@
 //! The tokens of PGN, read from bytes: sections 5 to 8 of the standard.
 //!
-//! `specs/Grammar` says which texts are lexemes of which kind. `specs/Readings` says what is read at a place, and
-//! `readings_are_longest` that this is the longest lexeme there. `specs/Lexemes` takes the readings off the front of a
-//! text, one after the other; `tokens` gives exactly these, without escape lines. The laws say that lexemes stand in
-//! order, that those of a part of a text are the text's within it, and which of a text's lexemes stay whatever follows it.
+//! `specs/Grammar` defines the texts of each kind of lexeme. `specs/Readings` defines the reading at a place, and
+//! `readings_are_longest` proves that it is the longest lexeme there. `specs/Lexemes` takes the readings off the front
+//! of a text, one after the other; `tokens` gives exactly these, without escape lines. The laws are on the order of
+//! lexemes, on those of a part of a text, and on those that stay whatever follows the text.
 #![tactic(auto)]
 
 mod game;

@@ -9,7 +9,7 @@ use crate::token::{LexemeKind, Reading, TokenKind};
 use cq_common::{decimal_up_to, digits_len};
 use memchr::{memchr, memchr3};
 
-/// Whether a symbol goes on with a byte, for each of the 256.
+/// For each of the 256 bytes, true if it continues a symbol.
 const CONTINUES_SYMBOL: [bool; 256] = [
     false, false, false, false, false, false, false, false, false, false, false, false, false,
     false, false, false, false, false, false, false, false, false, false, false, false, false,
@@ -32,7 +32,7 @@ const CONTINUES_SYMBOL: [bool; 256] = [
     false, false, false, false, false, false, false, false, false,
 ];
 
-/// Whether a symbol goes on with this byte.
+/// Returns true if this byte continues a symbol.
 #[inline]
 #[tactic(auto, using(crate::proofs::Tables::symbol_table))]
 pub fn continues_symbol(b: u8) -> bool
@@ -41,7 +41,7 @@ pub fn continues_symbol(b: u8) -> bool
     CONTINUES_SYMBOL[b as usize]
 }
 
-// A token of so many bytes.
+// A token of `len` bytes.
 fn token(kind: TokenKind, len: usize) -> Reading
     ensures { result ≡ token kind len }
 {
@@ -51,7 +51,7 @@ fn token(kind: TokenKind, len: usize) -> Reading
     }
 }
 
-/// The place of the first such byte, or the length where there is none.
+/// Returns the place of the first such byte, or the length if there is none.
 pub fn place_of(byte: u8, bytes: &[u8]) -> usize
     ensures value { result ≡ position_or_len (λ b. b == byte) bytes.now }
     ensures within { result ≤ length bytes.now }
@@ -59,7 +59,7 @@ pub fn place_of(byte: u8, bytes: &[u8]) -> usize
     memchr(byte, bytes).unwrap_or(bytes.len())
 }
 
-// How many bytes at the start continue a symbol.
+// The number of bytes at the start that continue a symbol.
 #[inline(always)]
 fn symbol_len(bytes: &[u8]) -> usize
     ensures value { result ≡ prefix_len continues_symbol bytes.now }
@@ -68,7 +68,7 @@ fn symbol_len(bytes: &[u8]) -> usize
     bytes.iter().take_while(|b| continues_symbol(**b)).count()
 }
 
-// A comment from its brace; `rest` is what stands after that.
+// A comment from its brace; `rest` is the bytes after that.
 #[tactic(auto, unfolding(crate::specs::Readings::comment))]
 fn comment(rest: &[u8]) -> Reading
     ensures { result ≡ comment rest.now }
@@ -100,7 +100,7 @@ fn escape_line(rest: &[u8]) -> Reading
     }
 }
 
-/// How many bytes at the start of a string stand for themselves: those before a quote, a backslash or LF.
+/// Returns the number of plain bytes at the start of a string: those before a quote, a backslash or LF.
 pub fn plain_len(bytes: &[u8]) -> usize
     ensures value { result ≡ position_or_len is_special bytes.now }
     ensures within { result ≤ length bytes.now }
@@ -108,7 +108,7 @@ pub fn plain_len(bytes: &[u8]) -> usize
     memchr3(b'"', b'\\', b'\n', bytes).unwrap_or(bytes.len())
 }
 
-// Where a string goes on after its backslash at a place: after the byte that it takes with it, which is never LF.
+// The place after a backslash of a string and the byte that it takes with it, which is never LF.
 #[tactic(auto, using(crate::proofs::Bodies::escape_at_end, crate::proofs::Bodies::escape_of_line, crate::proofs::Bodies::escape_of_byte))]
 fn after_backslash(rest: &[u8], at: usize) -> usize
     requires { at < length rest.now }
@@ -122,7 +122,7 @@ fn after_backslash(rest: &[u8], at: usize) -> usize
     }
 }
 
-// How many bytes of a string stand before its closing quote or its line's end.
+// The number of bytes of a string before its closing quote or its line's end.
 fn body_len(rest: &[u8]) -> usize
     ensures value { result ≡ body_len false rest.now }
     ensures within { result ≤ length rest.now }
@@ -157,7 +157,7 @@ fn symbol(rest: &[u8]) -> Reading
     token(TokenKind::Symbol, symbol_len(rest) + 1)
 }
 
-/// What every glyph's number above the standard's range is read as.
+/// The number of every glyph above the standard's range.
 const BEYOND_GLYPHS: u32 = 256;
 
 // A glyph from its dollar sign.
@@ -226,7 +226,7 @@ fn single(b: u8) -> Reading
     token(kind, 1)
 }
 
-// The reading of a byte, which is not white space, by its kind. Symbols, which are most, are read where they are met.
+// The reading of a byte, which is not white space, by its kind. Symbols, which are most, are read first and inline.
 #[tactic(auto, unfolding(crate::specs::Readings::reading))]
 #[inline(always)]
 fn read(b: u8, rest: &[u8], first: bool) -> Reading
@@ -239,7 +239,7 @@ fn read(b: u8, rest: &[u8], first: bool) -> Reading
     }
 }
 
-// The same of a byte that begins no symbol.
+// The reading of a byte that begins no symbol.
 #[tactic(auto, unfolding(crate::specs::Readings::reading))]
 #[inline(never)]
 fn read_sign(b: u8, rest: &[u8], first: bool) -> Reading
@@ -259,8 +259,8 @@ fn read_sign(b: u8, rest: &[u8], first: bool) -> Reading
     }
 }
 
-/// The longest reading of a byte that is not white space, with what stands after it. `first` says whether the
-/// byte stands in the first column.
+/// Returns the longest reading of a byte that is not white space and the bytes after it. `first` is true if the byte is
+/// in the first column.
 #[tactic(auto, using(crate::proofs::Within::reading_some, crate::proofs::Within::reading_within))]
 #[inline(always)]
 pub fn longest_reading(b: u8, rest: &[u8], first: bool) -> Reading

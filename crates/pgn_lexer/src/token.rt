@@ -1,6 +1,6 @@
-//! What the text of a game is made of.
+//! The tokens and lexemes of a text, by their kinds.
 
-/// What a token is. The kinds of the PGN standard, with comments and three kinds of faulty token.
+/// The kind of a token: the kinds of the PGN standard, comments, and three kinds of faulty token.
 #[derive(Clone, Copy, Debug, PartialEq, Eq)]
 pub enum TokenKind {
     /// `[`, which opens a tag pair.
@@ -29,13 +29,13 @@ pub enum TokenKind {
     LineComment,
     /// A byte that begins no token.
     BadByte,
-    /// A comment whose `}` never comes: all the rest.
+    /// A comment without its `}`: all the rest.
     UnclosedComment,
     /// A string that a line's end, or the end of the bytes, cuts short.
     UnclosedText,
 }
 
-/// A token: the place of its first byte, counted from the archive's first, how many bytes it has, and its kind.
+/// A token: the place of its first byte, counted from the archive's first, its length in bytes, and its kind.
 #[derive(Clone, Copy, Debug, PartialEq, Eq)]
 pub struct Token {
     pub at: u64,
@@ -43,7 +43,7 @@ pub struct Token {
     pub kind: TokenKind,
 }
 
-/// What the longest reading at a place gives: a token, or a line that is passed over.
+/// The kind of the longest reading at a place: a token, or a line that is skipped.
 #[derive(Clone, Copy, Debug, PartialEq, Eq)]
 pub enum LexemeKind {
     /// `%` in the first column, to the line's end.
@@ -52,7 +52,7 @@ pub enum LexemeKind {
     Token(TokenKind),
 }
 
-/// The longest reading at the front of some bytes: its kind, and how many bytes it takes.
+/// The longest reading at the front of some bytes: its kind, and its length in bytes.
 #[derive(Clone, Copy, Debug, PartialEq, Eq)]
 pub struct Reading {
     pub kind: LexemeKind,

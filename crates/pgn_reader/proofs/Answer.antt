@@ -1,4 +1,4 @@
--- What reading answers: the one game that is spelled, or the first fault.
+-- The result of reading: the one game that is spelled, or the first fault.
 use Rattle.std.proofs.Common.{◌≡◌, ◌≢◌, ℕ, suc, ◌+◌, ◌<◌, ◌≤◌, inl, inr, ◌↔◌, List, [], ◌∷◌, ◌++◌, length, take, Some, None, refl, sym, ap, ap₂, ◌∙◌, subst, arith}
 use Rattle.std.proofs.lemmas.List.{take_all}
 use Rattle.cq_position.specs.declared.games.GameResult.{GameResult}
@@ -38,7 +38,7 @@ reached start (within b o l) f (g ∷ k) (around, p, before, shallow, opening, t
       depth = let e : depth_of b + 1 ≡ length (g ∷ k) = let d = outer.depth in omega (arith, d) in e;
     }
 
--- where reading ends there is one game
+-- one game at the end of reading
 same_end : (s : State) (h i : Head) (f g : Frame) (a b : GameResult) → IsEnd s h f a → IsEnd s i g b → game_of_frame i g b ≡ game_of_frame h f a
 same_end s h i f g a b (inl x) (inl y) =
     let e : at i g [] ≡ at h f [] = sym y.0 ∙ x.0 in
@@ -90,7 +90,7 @@ read_iff ts h f result is_end few g = (
   }),
 )
 
--- where the tokens of a state stand
+-- the place of the tokens of a state
 stands_by : (ts : List Word) (s : State) → run first ts ≡ s → moves_in s ≤ 65535 → Stands ts s → (s ≡ stuck → ⊥) → IsReadingPlace ts (reading_place_of s)
 stands_by ts (opened tags) is few stands live = stands
 stands_by ts (named tags name) is few stands live = stands

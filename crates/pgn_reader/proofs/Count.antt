@@ -16,7 +16,7 @@ use Rattle.pgn_reader.specs.Line.{led_to}
 use Rattle.pgn_reader.specs.Internal.Frame.{Frame, last_row_by, last_row, whole, advance, with_glyph, with_remark, with_variation}
 use Rattle.pgn_reader.specs.Internal.Machine.{Head, State, opened, named, valued, at, ended, stuck, on_name, on_start, on_value, on_closing, on_move, on_marker, on_opening, on_end, on_bracket, on_sense, feed, run, first}
 
--- how many rows the lines that are open have
+-- the number of rows of the lines that are open
 abbrev pub rows_in : List Frame → ℕ
 rows_in [] = 0
 rows_in (g ∷ k) = length (whole g) + rows_in k

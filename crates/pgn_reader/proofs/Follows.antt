@@ -26,7 +26,7 @@ use Rattle.pgn_reader.proofs.Stands.{Stands, all_stands}
 use Rattle.pgn_reader.proofs.Whole.{IsEnd}
 use Rattle.pgn_reader.proofs.Answer.{spells_shown, all_nodes_length, whole_counts}
 
--- where a move leads from a position, `led_to` is the position after it
+-- if a move leads from a position, `led_to` is the position after it
 to_led : (p q : Board) (m : Move) → Leads p m q → q ≡ led_to p m
 to_led p q m (inl legal) = legal.leads ∙ sym (led_by_other p m (legal_not_null p q m legal))
 to_led p q m (inr passes) = passes.leads ∙ sym (led_by_null p m (ap (λ x. x.null) passes.null))
@@ -35,7 +35,7 @@ leads_to_position : (p q : Board) (m : Move) → IsPosition p → Leads p m q �
 leads_to_position p q m is (inl legal) = legal_is_position p m q is legal
 leads_to_position p q m is (inr passes) = subst IsPosition (sym passes.leads) (after_pass_is_position p is passes.safe)
 
--- what a text means leads to a position
+-- the meaning of a text leads to a position
 pub record Led (p : Board) (m : Move) : Type 0 where
   pub leads : Leads p m (led_to p m)
   pub position : IsPosition (led_to p m)
@@ -55,7 +55,7 @@ pub record IsSound (a : LinePlace) : Type 0 where
   pub reached : IsPosition a.reached
   pub before : (p : Board) → a.before ≡ Some p → IsPosition p
 
--- what is told at a place follows from it
+-- the meaning at a place follows from it
 pub record Followed (a : LinePlace) (t : LineTail) : Type 0 where
   pub rest : Follows a.reached t.rest
   pub variations : (p : Board) → a.before ≡ Some p → Follows p t.variations
@@ -91,7 +91,7 @@ none_follows : (p : Board) → Follows p none
 unfolding Follows
 none_follows p = tt
 
--- a token, before what is told after it
+-- a token, before the meaning of the tokens after it
 followed_word : (depth : ℕ) (a b : LinePlace) (s : Sense) (u t : LineTail) → IsSound a → ParsesWord depth a s b u t → (IsSound b → Followed b u) → Followed a t
 followed_word depth a b (plays m) u t sound (move, means, to, is) after =
     let led : Led a.reached move = meant_leads a.reached m move sound.reached means in
@@ -130,7 +130,7 @@ followed (variation opening inner closing rest) depth a t sound (p, before, shal
           (later.variations r e);
     })
 
--- what a line tells from a position is a tree
+-- the meaning of a line from a position is a tree
 told_tree : (start : Board) (l : Line) (t : LineTail) → IsPosition start → ParsesLine 0 (beginning start) l t
     → length (nodes_of_tail start t) ≤ 65536 → IsTree (nodes_of_tail start t)
 told_tree start l t is tells few =

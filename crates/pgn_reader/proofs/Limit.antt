@@ -1,4 +1,4 @@
--- No game within the limit of positions goes on after a faulty token.
+-- No game within the limit of positions continues after a faulty token.
 use Rattle.std.proofs.Common.{◌≡◌, ◌≢◌, ◌⊎◌, ℕ, zero, suc, ◌+◌, ◌≤◌, Bool, true, false, List, [], ◌∷◌, length, Option, Some, None, Result, Ok, Err, refl, sym, ap, ◌∙◌, subst, inl, inr, ⊎_elim, arith}
 use Rattle.std.specs.Prelude.{nat_lt, if◌then◌else◌}
 use Rattle.std.specs.List.{list_all}
@@ -28,7 +28,7 @@ use Rattle.pgn_reader.proofs.Read.{feed_is}
 use Rattle.pgn_reader.proofs.Verdicts.{Passes, step_passes}
 use Rattle.pgn_reader.proofs.Whole.{IsEnd}
 
--- the movetext was reached, with so many moves at least
+-- the movetext was reached, with at least this number of moves
 pub AtLeast : ℕ → State → Type 0
 AtLeast n (at h f k) = (h.heading ≡ false) × (n ≤ h.moves)
 AtLeast n (ended h f r) = n ≤ h.moves
@@ -179,7 +179,7 @@ word_never : (w : Word) → sense w ≡ out_of_place TooManyPositions → ⊥
 unfolding sense
 word_never w e = no_sense w.kind w.text e
 
--- the limit is passed at a move, after so many
+-- the limit is exceeded at a move, after the largest number of moves
 record PassesLimit (moves : ℕ) (a : LinePlace) (s : Sense) : Type 0 where
   text : List ℕ
   move : Move
@@ -209,7 +209,7 @@ limit_passes heading depth moves a kind (remarks c) placed e = never (remarks c)
 limit_passes heading depth moves a kind (ends r) placed e = never (ends r) moves a e
 limit_passes heading depth moves a kind means_nothing placed e = never means_nothing moves a e
 
--- where the limit is passed so many moves were read
+-- beyond the limit of positions, at least 65,536 moves were read
 limit_fed : (s : State) (w : Word) → (s ≡ stuck → ⊥) → fault_at (reading_place_of s) w ≡ Some TooManyPositions → AtLeast 65536 (feed s w)
 limit_fed (opened tags) w live why = absurd (no_name w.kind why)
 limit_fed (named tags name) w live why = absurd (no_value w.kind (start_of (with_tag tags name (value_of w.text))) why)

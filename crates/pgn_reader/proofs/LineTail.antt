@@ -1,4 +1,4 @@
--- What is read is told.
+-- The tokens that are read have their meaning.
 use Rattle.std.proofs.Common.{◌≡◌, ℕ, ◌+◌, ◌<◌, List, [], ◌∷◌, ◌++◌, length, Some, Ok, Bool, true, false, cond, refl, sym, ap, ◌∙◌, subst, arith, append_assoc}
 use Rattle.std.specs.Prelude.{count_by, ◌&&◌}
 use Rattle.std.specs.List.{list_all}
@@ -15,7 +15,7 @@ use Rattle.pgn_reader.specs.Internal.Machine.{Head}
 use Rattle.pgn_reader.proofs.Read.{counted_word}
 use Rattle.pgn_reader.proofs.Then.{then, text_then, end_same, Longer, tells_then}
 
--- the innermost line of what has begun goes on
+-- the innermost of the open lines continues
 abbrev pub longer : OpenLines → Line → OpenLines
 longer (outermost l) m = outermost (then l m)
 longer (within b o l) m = within b o (then l m)
@@ -24,7 +24,7 @@ pub text_longer : (b : OpenLines) (m : Line) → open_lines_text (longer b m) �
 text_longer (outermost l) m = text_then l m
 text_longer (within b o l) m = ap (λ x. open_lines_text b ++ o ∷ x) (text_then l m) ∙ sym (append_assoc (open_lines_text b) (o ∷ text l) (text m))
 
--- what has begun leads to the lines that are open
+-- the open lines as the reader has them
 abbrev pub Stack : Board → OpenLines → Frame → List Frame → Type 0
 Stack start (outermost l) f [] = (t : LineTail) × ParsesLine 0 (beginning start) l t × (t.end ≡ place f)
 Stack start (outermost l) f (g ∷ k) = ⊥
@@ -33,7 +33,7 @@ Stack start (within b o l) f (g ∷ k) =
     Stack start b g k × (p : Board) × (g.before ≡ Some p) × (length k < 100) × (sense o ≡ opens)
     × (t : LineTail) × ParsesLine (length k + 1) (beginning p) l t × (t.end ≡ place f)
 
--- what a state in the movetext shows of the tokens
+-- the tokens of a state in the movetext
 pub record Shown (ts : List Word) (h : Head) (f : Frame) (k : List Frame) : Type 0 where
   pub pairs : List Pair
   pub has_heading : HasHeading pairs h.tags h.start
@@ -43,7 +43,7 @@ pub record Shown (ts : List Word) (h : Head) (f : Frame) (k : List Frame) : Type
   pub moves : h.moves ≡ count_by is_move (open_lines_text begun)
   pub heading : h.heading ≡ list_all is_comment (open_lines_text begun)
 
--- the line goes on from one place to another
+-- the line continues from one place to another
 pub stack_on : (start : Board) (b : OpenLines) (f g : Frame) (k : List Frame) (m : Line) (u : LineTail) → Stack start b f k
     → ((d : ℕ) → d ≡ length k → ParsesLine d (place f) m u) → u.end ≡ place g → Stack start (longer b m) g k
 stack_on start (outermost l) f g [] m u (t, tells, end) more to =
@@ -74,7 +74,7 @@ and_true false = refl
 pub same_moves : (h : Head) → h.moves ≡ h.moves + 0
 same_moves h = omega arith
 
--- what stands in the movetext after some tokens more
+-- the tokens of a state in the movetext after some more tokens
 pub shown_on : (ts more : List Word) (h j : Head) (f g : Frame) (k c : List Frame) (state_of : Shown ts h f k) (b : OpenLines)
     → open_lines_text b ≡ open_lines_text state_of.begun ++ more → Stack h.start b g c → j.tags ≡ h.tags → j.start ≡ h.start
     → j.moves ≡ h.moves + count_by is_move more → j.heading ≡ (h.heading && list_all is_comment more) → Shown (ts ++ more) j g c

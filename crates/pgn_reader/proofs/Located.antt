@@ -1,4 +1,4 @@
--- Where some tokens stand, there the reader is when it has read them.
+-- The reader after some tokens is at their place.
 use Rattle.std.proofs.Common.{◌≡◌, ℕ, ◌+◌, ◌≤◌, inl, inr, Bool, true, cond, List, [], ◌∷◌, ◌++◌, length, Result, Ok, Err, refl, sym, ap, ap₂, ◌∙◌, subst, arith}
 use Rattle.std.specs.Prelude.{count_by, ◌&&◌}
 use Rattle.std.specs.List.{list_all}
@@ -27,7 +27,7 @@ use Rattle.pgn_reader.proofs.Heading.{comments_read, pairs_read, bracket_fed, na
 use Rattle.pgn_reader.proofs.Read.{run_append, opening_read, counted_word, told_is_read}
 use Rattle.pgn_reader.proofs.Whole.{IsEnd, IsRead, spelled_is_read, stuck_is_dead, start_none}
 
--- what has begun is read up to its place
+-- the beginning of a movetext is read up to its place
 record IsReadUpTo (start : Board) (h : Head) (ts : List Word) (depth : ℕ) (a : LinePlace) : Type 0 where
   head : Head
   frame : Frame
@@ -72,7 +72,7 @@ begun_read (within around opening line) start h a (b, reaches, p, has_move, shal
           ∙ sym (list_all-append is_comment (open_lines_text around) (opening ∷ text line)));
     }
 
--- the reader after some tokens stands where they do
+-- the reader after some tokens is at their place
 pub record Located (ts : List Word) (s : ReadingPlace) : Type 0 where
   pub state : State
   pub is_run : run first ts ≡ state

@@ -1,4 +1,4 @@
--- Outcomes of bytes that stand elsewhere, and of the first bytes of a game.
+-- Outcomes of bytes at another place, and of the first bytes of a game.
 use Rattle.std.proofs.Common.{◌≡◌, ◌⊎◌, ◌↔◌, ℕ, ◌+◌, ◌<◌, ◌≤◌, inl, inr, List, length, take, map, Option, Some, None, Result, Ok, Err, Bool, refl, sym, ap, ap₂, ◌∙◌, subst, arith}
 use Rattle.std.specs.Prelude.{slice_get}
 use Rattle.std.specs.Option.{option_map}
@@ -83,7 +83,7 @@ decided n start first other_first bytes other same r = (
       subst (IsRead start first bytes) (moved_once n found.0 r one) found.1,
 )
 
--- of a game that is too long the first bytes tell it
+-- the first bytes of a game that is too long are too long
 too_long : (start : ℕ) (first : Bool) (a b : List ℕ) → longest < length a → longest < length b → (r : Result Game GameFault) → IsRead start first a r → IsRead start first b r
 too_long start first a b long longer (Ok game) (short, only) = absurd (let e : length a ≤ longest = short in omega (arith, long, e))
 too_long start first a b long longer (Err f) (inl fault) = inl (record { long = longer; fault = fault.fault })

@@ -21,7 +21,7 @@ legal_not_null p q m legal =
     not_true m.null (and_left (not m.null) (nat_lt m.to 64) (and_left (not m.null && nat_lt m.to 64) (reaches p m.from m.to)
     (and_left (not m.null && nat_lt m.to 64 && reaches p m.from m.to) (promotion_is_right p m) a)))
 
--- where the null move leads, the side may pass
+-- if the null move leads from a position, the side may pass
 pub null_passes : (p q : Board) (m : Move) → m.null ≡ true → Leads p m q → in_check p.men p.side ≡ false
 null_passes p q m is (inl legal) = absurd (let e : true ≡ false = sym is ∙ legal_not_null p q m legal in cc)
 null_passes p q m is (inr passes) = passes.safe
@@ -37,7 +37,7 @@ led_by_null p m is = ap (λ b. cond b (after_pass p) (after p m)) is
 pub led_by_other : (p : Board) (m : Move) → m.null ≡ false → led_to p m ≡ after p m
 led_by_other p m is = ap (λ b. cond b (after_pass p) (after p m)) is
 
--- what is passed to, where the side may pass
+-- the position after a pass, if the side may pass
 pub passed_to : (p q : Board) (m : Move) (r : Option Board) → m.null ≡ true → Leads p m q → (IsNone r ↔ (in_check p.men p.side ≡ true)) → IfSome r (λ b. Passes p null_move b)
     → (b : Board) → ((x : Board) → r ≡ Some x → b ≡ x) → b ≡ led_to p m
 passed_to p q m None is leads none some b gives = absurd (let e : true ≡ false = sym (none.0 refl) ∙ null_passes p q m is leads in cc)

@@ -43,7 +43,7 @@ met ts k reason fault =
           fault.fault;
     }
 
--- after a faulty token the limit is passed, or reading is stuck, whatever follows
+-- after a faulty token the limit is exceeded, or reading is stuck, whatever follows
 after_fault : (ts more : List Word) (k : ℕ) (reason : Reason) (m : Met ts k reason) (w : Word) → fault_at (reading_place_of m.state) w ≡ Some reason
     → AtLeast 65536 (run first ((take k ts ++ w ∷ []) ++ more))
 after_fault ts more k reason m w why =

@@ -1,4 +1,4 @@
--- Where reading goes on, some game begins with the tokens.
+-- If reading can continue, some game begins with the tokens.
 use Rattle.std.proofs.Common.{◌≡◌, ℕ, List, [], ◌∷◌, length, Option, Some, None, Result, Ok, Err, Bool, true, false, refl, sym, ap, ◌∙◌, subst}
 use Rattle.std.specs.Prelude.{nat_lt, codes}
 use Rattle.cq_position.specs.declared.moves.Move.{Move}
@@ -30,7 +30,7 @@ pub record Opened (g : Frame) : Type 0 where
   pub before : g.before ≡ Some back
   pub led : Led back g.reached
 
--- where a line stands: it has a last move, or begins where the line around it stood before its own
+-- the place of a line: it has a last move, or begins in the position before the last move of the line around it
 abbrev pub IsLed : Option Board → Board → List Frame → Type 0
 IsLed (Some p) q k = Led p q
 IsLed None q [] = Unit {0}
@@ -118,7 +118,7 @@ run_keeps (w ∷ ts) s kept = run_keeps ts (feed s w) (step_keeps s w kept)
 pub first_keeps : Kept first
 first_keeps = record { here = tt; around = tt }
 
--- tokens after which a game is whole: it stands outside variations
+-- tokens after which a game is whole: the place is outside variations
 pub record Finish (s : State) : Type 0 where
   pub more : List Word
   pub head : Head
@@ -149,7 +149,7 @@ closed h f g k p is finish = record {
   ends = ap (λ x. run x finish.more) (end_read h f g k end_word p end_sense is) ∙ finish.ends;
 }
 
--- one without gets the move that stands before it
+-- a line without a move gets the move from the position before it
 filled : (h : Head) (f : Frame) (k : List Frame) (m : List ℕ) (move : Move) → san f.reached m ≡ Ok move → Finish (at (one_more h) (advance f move (led_to f.reached move)) k) → Finish (at h f k)
 filled h f k m move means finish = record {
   more = move_word m ∷ finish.more;

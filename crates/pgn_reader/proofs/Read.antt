@@ -1,4 +1,4 @@
--- What a line tells is what is read of its tokens.
+-- The meaning of a line is the reading of its tokens.
 use Rattle.std.proofs.Common.{◌≡◌, ℕ, ◌+◌, ◌<◌, List, [], ◌∷◌, ◌++◌, length, Option, Some, None, Bool, true, false, refl, sym, ap, ap₂, ◌∙◌, subst, arith, append_assoc, append-nil}
 use Rattle.std.proofs.Common.{cond}
 use Rattle.std.proofs.lemmas.List.Sums.{sum_by-append}
@@ -16,7 +16,7 @@ use Rattle.pgn_reader.specs.Internal.Frame.{NodeRow, rows, Frame, place, last_ro
 use Rattle.pgn_reader.specs.Internal.Machine.{Head, State, at, in_body, one_more, on_move, on_marker, on_opening, on_end, on_sense, feed, run}
 use Rattle.pgn_reader.proofs.Rows.{rows_beside}
 
--- the nodes of a line, the rest of which tells so much
+-- the nodes of a line, by the meaning of its rest
 abbrev pub wholly_by : Option Move → Frame → LineTail → List NodeRow
 wholly_by None f t = rows f.next (with_leading_notes (f.nags ++ t.nags) (f.comments ++ t.comments) t.rest)
 wholly_by (Some m) f t =
@@ -37,14 +37,14 @@ pub feed_is : (h : Head) (f : Frame) (k : List Frame) (w : Word) (s : Sense) →
 unfolding feed
 feed_is h f k w s is = ap (on_sense h f k w.kind) is
 
--- heads before and after so many moves; after comments alone tag pairs may come as before, and else no more
+-- heads before and after n moves; after comments alone tag pairs may come as before, and else no more
 pub record Grown (h : Head) (n : ℕ) (comments : Bool) (j : Head) : Type 0 where
   pub tags : j.tags ≡ h.tags
   pub start : j.start ≡ h.start
   pub moves : j.moves ≡ h.moves + n
   pub heading : j.heading ≡ (h.heading && comments)
 
--- a frame after the rest of its line, which tells so much
+-- a frame after the rest of its line, by the meaning of the rest
 pub record Reads (h : Head) (f : Frame) (k : List Frame) (ts : List Word) (t : LineTail) : Type 0 where
   pub head : Head
   pub frame : Frame
@@ -53,7 +53,7 @@ pub record Reads (h : Head) (f : Frame) (k : List Frame) (ts : List Word) (t : L
   pub place : place frame ≡ t.end
   pub whole : whole frame ≡ wholly f t
 
--- a told record by its parts
+-- the nodes of a line, by the parts of its meaning
 pub wholly_same : (f : Frame) (t u : LineTail) → t ≡ u → wholly f t ≡ wholly f u
 wholly_same f t u is = ap (wholly f) is
 
@@ -193,7 +193,7 @@ grown_twice h i j m n s t a b = record {
   heading = b.heading ∙ ap (λ x. x && t) a.heading ∙ and_assoc h.heading s t;
 }
 
--- so many moves, counted otherwise
+-- the number of moves, counted otherwise
 grown_by : (h j : Head) (m n : ℕ) (s : Bool) → Grown h m s j → n ≡ m → Grown h n s j
 grown_by h j m n s g is = record { tags = g.tags; start = g.start; moves = g.moves ∙ ap (λ x. h.moves + x) (sym is); heading = g.heading }
 
@@ -297,7 +297,7 @@ variation_grown h i j o c inner rest opening closing a b = record {
   heading = b.heading ∙ sym (and-false h.heading) ∙ ap (λ s. h.heading && (is_remark s && list_all is_comment (inner ++ c ∷ rest))) (sym opening);
 }
 
--- what a line tells is what is read of its tokens, whatever lines are open around it
+-- the meaning of a line is the reading of its tokens, whatever lines are open around it
 pub told_is_read : (l : Line) (h : Head) (f : Frame) (k : List Frame) (d : ℕ) (t : LineTail) → d ≡ length k → ParsesLine d (place f) l t → Reads h f k (text l) t
 told_is_read nothing h f k d t deep told = record {
   head = h;

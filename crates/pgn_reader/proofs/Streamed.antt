@@ -1,4 +1,4 @@
--- The loop over the tokens of a text, each of which is read off the text as it is asked for.
+-- The loop over the tokens of a text, each of which is read off the text as it is needed.
 use Rattle.std.proofs.Common.{◌≡◌, ◌≢◌, ℕ, ◌+◌, ◌-◌, ◌<◌, ◌≤◌, Bool, List, [], ◌∷◌, ◌++◌, length, take, drop, get_or, Some, None, Ok, Err, refl, sym, ap, ◌∙◌, subst, arith}
 use Rattle.std.proofs.lemmas.List.{at_drop_more, length-drop}
 use Rattle.std.proofs.lemmas.Option.{slice_get-get_or, slice_get_past}
@@ -114,7 +114,7 @@ module _ (start : ℕ) (first : Bool) (bytes : List ℕ) (place : ℕ) (r : Read
       → IsReadTo start first bytes place (state_of r) → StepsOver (state_of r) l.kind l.text.now s (Ok u) → IsReadTo start first bytes (l.at + length l.text.now) s
   read_on s u found text_is within so_far steps = on_by l.kind s u refl found text_is within so_far steps
 
-  -- or it was refused
+  -- or it failed
   refused_by : (kind : LexemeKind) (s : State) (x : Refusal Reason) (reason : Reason) → l.kind ≡ kind → IsFound → l.text.now ≡ take (length l.text.now) (drop l.at bytes) → length bytes ≤ longest
       → IsReadTo start first bytes place (state_of r) → x ≡ Fault reason → StepsOver (state_of r) kind l.text.now s (Err x)
       → HasTokenFault start first bytes (record { byte = start + l.at; reason = reason })

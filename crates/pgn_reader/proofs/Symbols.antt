@@ -1,4 +1,4 @@
--- What a symbol means.
+-- The meaning of a symbol.
 use Rattle.std.proofs.Common.{◌≡◌, ℕ, List, Option, true, false, cond, sym, ap, ◌∙◌}
 use Rattle.std.specs.List.{list_all}
 use Rattle.std.specs.Char.{is_ascii_digit}

@@ -40,7 +40,7 @@ retold d a b u t v opens wrong = absurd wrong
 retold d a b u t v closes wrong = absurd wrong
 retold d a b u t v (out_of_place r) wrong = absurd wrong
 
--- a line that goes on
+-- a line that continues
 pub record Longer (d : ℕ) (a : LinePlace) (l : Line) (e : LinePlace) : Type 0 where
   pub told : LineTail
   pub tells : ParsesLine d a l told

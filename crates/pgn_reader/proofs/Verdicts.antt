@@ -29,7 +29,7 @@ use Rattle.pgn_reader.proofs.Read.{run_append}
 use Rattle.pgn_reader.proofs.Whole.{IsEnd}
 use Rattle.pgn_reader.proofs.Answer.{fault_here, fault_of_end, read_iff}
 
--- a step goes on within the limit of positions, or has a reason and is stuck, but where the limit is passed
+-- a step continues within the limit of positions, or has a reason and is stuck, unless the limit is exceeded
 abbrev pub Passes : State → Option Reason → Type 0
 Passes next None = (next ≡ stuck → ⊥) × (moves_in next ≤ 65535)
 Passes next (Some reason) = reason ≢ TooManyPositions → next ≡ stuck

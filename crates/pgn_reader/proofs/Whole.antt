@@ -22,7 +22,7 @@ use Rattle.pgn_reader.proofs.Arranged.{arranged_all}
 use Rattle.pgn_reader.proofs.OpenLines.{Kept, run_keeps, first_keeps, Finish, finishes}
 use Rattle.pgn_reader.proofs.Pairs.{finishes_opened, finishes_named, finishes_valued}
 
--- where reading ends with a game: after the last token of its line, or after its marker
+-- the end of reading of a game: after the last token of its line, or after its marker
 abbrev pub IsEnd : State → Head → Frame → GameResult → Type 0
 IsEnd s h f result = ((s ≡ at h f []) × (result ≡ result_of_tags h.tags)) ⊎ (s ≡ ended h f result)
 
@@ -77,7 +77,7 @@ pub record Spelled (ts : List Word) : Type 0 where
   pub game : Game
   pub spells : SpellsAny ts game
 
--- what stands for one line, at the outermost level
+-- one line at the outermost level
 pub record Outermost (start : Board) (b : OpenLines) (f : Frame) : Type 0 where
   pub line : Line
   pub told : LineTail

@@ -8,7 +8,7 @@ use Rattle.pgn_reader.specs.Games.{SpellsAny}
 use Rattle.pgn_reader.specs.ReadingPlace.{ReadingPlace, IsReadingPlace, fault_at, fault_at_end, moves_before}
 use Rattle.pgn_reader.specs.Limits.{most_moves}
 
--- some game, of however many positions, begins with the tokens
+-- some game, with any number of positions, begins with the tokens
 pub record Begins (ts : List Word) : Type 0 where
   pub more : List Word
   pub game : Game
@@ -24,7 +24,8 @@ pub record IsFaultOfEnd (ts : List Word) (s : ReadingPlace) (reason : Reason) : 
   pub why : fault_at_end s ≡ Some reason
   pub dead : (g : Game) → SpellsAny ts g → ⊥
 
--- The fault of tokens, after the first k of them, with which some game of at most 65,536 positions begins: the next token, or the end.
+-- The fault of tokens: the next token after the first k of them, or the end. Some game of at most 65,536 positions
+-- begins with these k.
 pub record IsFault (ts : List Word) (k : ℕ) (reason : Reason) : Type 0 where
   pub alive : Begins (take k ts)
   pub standing : ReadingPlace

@@ -1,4 +1,4 @@
--- Which tokens spell which game (PGN standard, sections 8.1 and 8.2).
+-- The games that tokens spell (PGN standard, sections 8.1 and 8.2).
 use Rattle.std.specs.Prelude.{◌≡◌, ℕ, ◌≤◌, List, [], ◌∷◌, ◌++◌, length, None, Ok}
 use Rattle.std.specs.List.{AllByRecursion, flat_map}
 use Rattle.cq_position.specs.declared.games.GameResult.{GameResult}
@@ -16,7 +16,8 @@ AreHeading pairs = AllByRecursion IsPair pairs
 abbrev pub heading_text : List Pair → List Word
 heading_text pairs = flat_map pair_text pairs
 
--- section 8.2.6: the marker at the end of the game, which may be missing, and the result that it tells; without it that of the tags
+-- section 8.2.6: the marker at the end of the game, which may be missing, and its result; without the marker that of
+-- the tags
 abbrev pub MarksEnd : Tags → List Word → GameResult → Type 0
 MarksEnd tags [] result = result ≡ result_of_tags tags
 MarksEnd tags (w ∷ []) result = sense w ≡ ends result

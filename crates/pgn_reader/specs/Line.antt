@@ -1,4 +1,4 @@
--- What a line of moves tells (PGN standard, section 8.2).
+-- The meaning of a line of moves (PGN standard, section 8.2).
 use Rattle.std.specs.Prelude.{◌≡◌, ℕ, ◌+◌, ◌<◌, List, [], ◌∷◌, ◌++◌, Option, Some, None, Ok, if◌then◌else◌}
 use Rattle.cq_position.specs.declared.moves.Move.{Move}
 use Rattle.cq_position.specs.Board.{Board}
@@ -21,7 +21,7 @@ text nothing = []
 text (word w rest) = w ∷ text rest
 text (variation opening inner closing rest) = opening ∷ (text inner ++ closing ∷ text rest)
 
--- a place in a line: the position before the last move, none where the line has no move yet, and the position reached
+-- a place in a line: the position before the last move, none if the line has no move yet, and the position reached
 pub record LinePlace : Type 0 where
   pub before : Option Board
   pub reached : Board
@@ -36,8 +36,9 @@ led_to p m = if m.null then after_pass p else after p m
 abbrev pub moved : LinePlace → Move → LinePlace
 moved a m = record { before = Some a.reached; reached = led_to a.reached m }
 
--- What the rest of a line tells, from a place in it on: the glyphs and the comments of the move before it, or, where there is none, of the
--- line's first move; the variations that replace the move before it; what is played after it; and the place at which the line ends.
+-- The meaning of the rest of a line, from a place in it on. First the glyphs and the comments of the move before it,
+-- or, if there is none, of the line's first move. Then the variations that replace the move before it, the moves played
+-- after it, and the place at the end of the line.
 pub record LineTail : Type 0 where
   pub nags : List ℕ
   pub comments : List (List ℕ)
@@ -48,14 +49,14 @@ pub record LineTail : Type 0 where
 abbrev pub empty_tail : LinePlace → LineTail
 empty_tail a = record { nags = []; comments = []; variations = none; rest = none; end = a }
 
--- a glyph or a comment, and what stands after it
+-- the meaning of a glyph or a comment and the tokens after it
 abbrev pub tail_with_glyph : ℕ → LineTail → LineTail
 tail_with_glyph n t = record t { nags = n ∷ t.nags }
 
 abbrev pub tail_with_comment : List ℕ → LineTail → LineTail
 tail_with_comment c t = record t { comments = comment_of (words c) ++ t.comments }
 
--- a move to a place, and what stands after it: its own glyphs, comments and variations, and what is played after it
+-- a move to a place and the tokens after it: its own glyphs, comments and variations, and the moves played after it
 abbrev pub tail_with_move : Move → Board → LineTail → LineTail
 tail_with_move m q t = record {
   nags = [];
@@ -78,7 +79,7 @@ with_leading_notes nags comments (played p next others) = played (record p { nag
 abbrev pub tail_with_variation : LineTail → LineTail → LineTail
 tail_with_variation v t = record t { variations = beside (with_leading_notes v.nags v.comments v.rest) t.variations }
 
--- what a token and the rest of its line tell: `b` is the place after it, and `u` what the rest tells
+-- the meaning of a token and the rest of its line: `b` is the place after it, and `u` the meaning of the rest
 abbrev pub ParsesWord : ℕ → LinePlace → Sense → LinePlace → LineTail → LineTail → Type 0
 ParsesWord depth a (plays m) b u t = (move : Move) × (san a.reached m ≡ Ok move) × (b ≡ moved a move) × (t ≡ tail_with_move move b.reached u)
 ParsesWord depth a (annotates n) b u t = (b ≡ a) × (t ≡ tail_with_glyph n u)
@@ -89,9 +90,10 @@ ParsesWord depth a opens b u t = ⊥
 ParsesWord depth a closes b u t = ⊥
 ParsesWord depth a (out_of_place reason) b u t = ⊥
 
--- What a line tells from a place on, within so many variations. A move is the one that its token means in the position reached. Glyphs and
--- comments belong to the move before them. A variation stands somewhere after a move of its line, begins in the position before that move,
--- and has a move; it is at most the hundredth level. A result within a variation means nothing.
+-- The meaning of a line from a place on, within `depth` variations. A move is the one that its token means in the
+-- position reached. Glyphs and comments belong to the move before them. A variation comes at any place after a move of
+-- its line, begins in the position before that move, and has a move. It is at most of the hundredth level. A result
+-- within a variation means nothing.
 abbrev pub ParsesLine : ℕ → LinePlace → Line → LineTail → Type 0
 ParsesLine depth a nothing t = t ≡ empty_tail a
 ParsesLine depth a (word w rest) t = (b : LinePlace) × (u : LineTail) × ParsesWord depth a (sense w) b u t × ParsesLine depth b rest u

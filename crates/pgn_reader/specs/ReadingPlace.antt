@@ -1,4 +1,4 @@
--- Where the first tokens of a game stand, and why a token is a fault there.
+-- The places of the first tokens of a game, and the reasons of the faults of tokens there.
 use Rattle.std.specs.Prelude.{◌≡◌, ℕ, zero, suc, ◌+◌, ◌<◌, nat_lt, Bool, true, List, [], ◌∷◌, ◌++◌, count_by, Option, Some, None, Result, Ok, Err, if◌then◌else◌}
 use Rattle.std.specs.List.{list_all}
 use Rattle.cq_position.specs.declared.moves.Move.{Move}
@@ -20,7 +20,8 @@ use Rattle.pgn_reader.specs.Line.{Line, text, LinePlace, beginning, LineTail, Pa
 use Rattle.pgn_reader.specs.Games.{heading_text, AreHeading, Spells}
 use Rattle.pgn_reader.specs.Limits.{most_levels, most_moves}
 
--- The beginning of a game's movetext: a line, or what begins so, the parenthesis of a variation, and the beginning of its line.
+-- The beginning of a game's movetext: a line, or such a beginning, the parenthesis of a variation, and the beginning of
+-- its line.
 pub data OpenLines : Type 0 where
   outermost : Line → OpenLines
   within : OpenLines → (opening : Word) → Line → OpenLines
@@ -30,7 +31,7 @@ abbrev pub open_lines_text : OpenLines → List Word
 open_lines_text (outermost line) = text line
 open_lines_text (within around opening line) = open_lines_text around ++ opening ∷ text line
 
--- how many variations are open
+-- the number of open variations
 abbrev pub depth_of : OpenLines → ℕ
 depth_of (outermost line) = 0
 depth_of (within around opening line) = depth_of around + 1
@@ -42,8 +43,9 @@ Reaches start (within around opening line) a =
     (b : LinePlace) × Reaches start around b × (p : Board) × (b.before ≡ Some p) × (depth_of around < most_levels) × (sense opening ≡ opens)
     × (t : LineTail) × ParsesLine (depth_of around + 1) (beginning p) line t × (t.end ≡ a)
 
--- Where some tokens stand: after the `[` of a tag pair, its name or its value, with the tags before it; in the movetext, with the number of
--- variations that are open, that of the moves so far, the place reached, and whether tag pairs may still come; or after the game's marker.
+-- The place of some tokens: in a tag pair, in the movetext, or after the game's marker. In a tag pair it is after the
+-- `[`, the name or the value, with the tags before it. In the movetext it has the number of open variations, that of
+-- the moves so far, and the place reached; `heading` is true if tag pairs may still come.
 pub data ReadingPlace : Type 0 where
   after_opening : Tags → ReadingPlace
   after_name : Tags → List ℕ → ReadingPlace
@@ -51,13 +53,13 @@ pub data ReadingPlace : Type 0 where
   in_movetext : (heading : Bool) → (depth moves : ℕ) → LinePlace → ReadingPlace
   after_marker : ReadingPlace
 
--- the tags of pairs, where the position in which the game begins can be read
+-- the tags of pairs, if the position in which the game begins can be read
 pub record HasHeading (pairs : List Pair) (tags : Tags) (start : Board) : Type 0 where
   pub are_pairs : AreHeading pairs
   pub are_tags : tags ≡ tags_of pairs
   pub starts : start_of tags ≡ Ok start
 
--- within a tag pair, of which some tokens stand there
+-- within a tag pair, of which `part` has the tokens so far
 pub record InPair (ts : List Word) (tags : Tags) (part : List Word) : Type 0 where
   pub pairs : List Pair
   pub start : Board
@@ -66,7 +68,7 @@ pub record InPair (ts : List Word) (tags : Tags) (part : List Word) : Type 0 whe
   pub are_comments : list_all is_comment comments ≡ true
   pub joined : ts ≡ heading_text pairs ++ (comments ++ part)
 
--- in the movetext, with the number of variations that are open and of the moves so far, and the place reached
+-- in the movetext, with the number of open variations and of the moves so far, and the place reached
 pub record InMovetext (ts : List Word) (heading : Bool) (depth moves : ℕ) (a : LinePlace) : Type 0 where
   pub pairs : List Pair
   pub tags : Tags
@@ -85,7 +87,7 @@ pub record AfterMarker (ts : List Word) : Type 0 where
   pub spells : Spells ts game
   pub marked : (before : List Word) × (marker : Word) × (result : GameResult) × (ts ≡ before ++ marker ∷ []) × (sense marker ≡ ends result)
 
--- some tokens stand so
+-- some tokens are at this place
 abbrev pub IsReadingPlace : List Word → ReadingPlace → Type 0
 IsReadingPlace ts (after_opening tags) = (opening : Word) × (opening.kind ≡ Open) × InPair ts tags (opening ∷ [])
 IsReadingPlace ts (after_name tags text) =
@@ -141,7 +143,7 @@ end_of_variation_fault zero before = Some UnopenedVariation
 end_of_variation_fault (suc depth) None = Some EmptyVariation
 end_of_variation_fault (suc depth) (Some before) = None
 
--- a token that is out of place in the movetext, but that `[` may stand there while tag pairs may come
+-- a token that is out of place in the movetext, except a `[` while tag pairs may come
 abbrev pub misplaced_fault : (heading : Bool) → TokenKind → Reason → Option Reason
 misplaced_fault true Open reason = None
 misplaced_fault _ kind reason = Some reason
@@ -153,12 +155,12 @@ movetext_fault heading depth moves a kind closes = end_of_variation_fault depth 
 movetext_fault heading depth moves a kind (out_of_place reason) = misplaced_fault heading kind reason
 movetext_fault heading depth moves a kind _ = None
 
--- nothing stands after a marker
+-- nothing comes after a marker
 abbrev pub marker_fault : TokenKind → Option Reason
 marker_fault (Nag n) = Some (if nat_lt n glyph_numbers then BadTag else NagRange)
 marker_fault kind = Some (tag_reason kind)
 
--- why a token is a fault where it stands, none where a game may go on with it
+-- the reason if a token is a fault at a place, none if a game may continue with it
 abbrev pub fault_at : ReadingPlace → Word → Option Reason
 fault_at (after_opening tags) w = name_fault w.kind
 fault_at (after_name tags name) w = value_fault w.kind (start_of (with_tag tags name (value_of w.text)))
@@ -166,7 +168,7 @@ fault_at after_value w = closing_fault w.kind
 fault_at (in_movetext heading depth moves a) w = movetext_fault heading depth moves a w.kind (sense w)
 fault_at after_marker w = marker_fault w.kind
 
--- why the end is one
+-- the reason if the end is a fault
 abbrev pub variations_fault : (depth : ℕ) → Option Reason
 variations_fault zero = None
 variations_fault (suc depth) = Some UnclosedVariation
@@ -178,7 +180,7 @@ fault_at_end after_value = Some BadTag
 fault_at_end (in_movetext heading depth moves a) = variations_fault depth
 fault_at_end after_marker = None
 
--- how many moves stand before
+-- the number of moves before a place
 abbrev pub moves_before : ReadingPlace → ℕ
 moves_before (in_movetext heading depth moves a) = moves
 moves_before _ = 0

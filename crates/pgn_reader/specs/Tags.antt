@@ -29,7 +29,8 @@ pub record IsPair (p : Pair) : Type 0 where
 abbrev pub pair_text : Pair → List Word
 pair_text p = p.comments ++ (p.opening ∷ p.name ∷ p.value ∷ p.closing ∷ [])
 
--- section 7: in a string a backslash stands before a quote and before a backslash; before any other byte it stands for itself
+-- section 7: in a string a backslash comes before a quote and before a backslash; before any other byte it is a byte of
+-- the value
 unfoldable pub unescaped : List ℕ → List ℕ
 unescaped [] = []
 unescaped (b ∷ []) = b ∷ []
@@ -37,7 +38,7 @@ unescaped (b ∷ c ∷ bs) =
     if b == backslash then (if (c == quote) || (c == backslash) then c ∷ unescaped bs else b ∷ unescaped (c ∷ bs))
     else b ∷ unescaped (c ∷ bs)
 
--- the value of a string: what stands between its quotes
+-- the value of a string: the bytes between its quotes
 unfoldable pub value_of : List ℕ → List ℕ
 value_of text = unescaped (take (length text - 2) (drop 1 text))
 
@@ -49,7 +50,7 @@ Tags = List (List ℕ × List ℕ)
 abbrev pub with_pair : Tags → Pair → Tags
 with_pair ts p = with_tag ts p.name.text (value_of p.value.text)
 
--- the tags of pairs, in the order in which each name first stands
+-- the tags of pairs, in the order in which each name first comes
 abbrev pub tags_of : List Pair → Tags
 tags_of pairs = fold with_pair [] pairs
 
@@ -61,7 +62,7 @@ start_by (Some text) = fen_meaning text
 unfoldable pub start_of : Tags → Result Board FenFault
 start_of ts = start_by (tag_value (codes "FEN") ts)
 
--- the result that the tag Result tells, where it is the text of one
+-- the result of the tag Result, if it is the text of one
 abbrev pub result_or : Option GameResult → GameResult
 result_or None = Undecided
 result_or (Some result) = result

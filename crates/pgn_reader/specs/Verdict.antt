@@ -1,4 +1,4 @@
--- What the bytes of a game spell, and their fault.
+-- The games that the bytes of a game spell, and their fault.
 use Rattle.std.specs.Prelude.{◌≡◌, ℕ, ◌+◌, ◌<◌, ◌≤◌, ◌⊎◌, Bool, List, length, slice_get, Option, Some, None, Result, Ok, Err}
 use Rattle.cq_common.specs.declared.faults.Refusal.{Refusal}
 use Rattle.cq_common.specs.declared.faults.Refusal.TheVariants.{Fault, NoMemory}
@@ -27,7 +27,7 @@ pub record IsTooLong (start : ℕ) (bytes : List ℕ) (f : GameFault) : Type 0 w
   pub long : longest < length bytes
   pub fault : f ≡ record { byte = start + longest; reason = GameTooLong }
 
--- or their tokens have a fault
+-- the tokens of the bytes, which are not too long, have a fault
 pub record HasTokenFault (start : ℕ) (first : Bool) (bytes : List ℕ) (f : GameFault) : Type 0 where
   pub short : length bytes ≤ longest
   pub index : ℕ
@@ -37,12 +37,12 @@ pub record HasTokenFault (start : ℕ) (first : Bool) (bytes : List ℕ) (f : Ga
 abbrev pub IsGameFault : ℕ → Bool → List ℕ → GameFault → Type 0
 IsGameFault start first bytes f = IsTooLong start bytes f ⊎ HasTokenFault start first bytes f
 
--- What the bytes of a game are read as: the one game that they spell, where there are at most so many of them, or their fault.
+-- The outcome of the bytes of a game: the one game that they spell, if they are not too long, or their fault.
 abbrev pub IsRead : ℕ → Bool → List ℕ → Result Game GameFault → Type 0
 IsRead start first bytes (Ok game) = (length bytes ≤ longest) × IsOnlyGame (words_of start first bytes) game
 IsRead start first bytes (Err fault) = IsGameFault start first bytes fault
 
--- the same of an answer that may also be out of memory
+-- the same of a result that may also be out of memory
 abbrev pub IsVerdict : ℕ → Bool → List ℕ → Result Game (Refusal GameFault) → Type 0
 IsVerdict start first bytes (Ok game) = IsRead start first bytes (Ok game)
 IsVerdict start first bytes (Err (Fault fault)) = IsRead start first bytes (Err fault)

@@ -1,4 +1,4 @@
--- The tokens of a game with their bytes, and what each means in the movetext (PGN standard, section 8.2).
+-- The tokens of a game with their bytes, and the meaning of each in the movetext (PGN standard, section 8.2).
 use Rattle.std.specs.Prelude.{ℕ, ◌-◌, ◌==◌, Bool, true, false, List, length, take, drop, map, nat_lt, codes, Option, Some, None, if◌then◌else◌}
 use Rattle.std.specs.List.{list_all}
 use Rattle.std.specs.Str.{bytes_eq}
@@ -35,8 +35,8 @@ result_of_text text =
     else (if bytes_eq text (codes "1/2-1/2") then Some Draw
     else (if bytes_eq text (codes "*") then Some Undecided else None)))
 
--- What a token means in the movetext: a move, a numeric annotation glyph, a comment, a game's result, the beginning or the end of a
--- variation, or nothing. A token that may not stand there is out of place, for a reason.
+-- The meaning of a token in the movetext: a move, a numeric annotation glyph, a comment, a game's result, the beginning
+-- or the end of a variation, or nothing. A token that may not come there is out of place, for a reason.
 pub data Sense : Type 0 where
   plays : List ℕ → Sense
   annotates : ℕ → Sense
@@ -59,11 +59,11 @@ sense_of_symbol text = if list_all is_ascii_digit text then means_nothing else s
 unfoldable pub sense_of_glyph : ℕ → Sense
 sense_of_glyph n = if nat_lt n glyph_numbers then annotates n else out_of_place NagRange
 
--- what stands between the braces of a comment
+-- the text between the braces of a comment
 unfoldable pub body_of : List ℕ → List ℕ
 body_of text = without_braces (take (length text - 2) (drop 1 text))
 
--- what stands after the semicolon of a line comment
+-- the text after the semicolon of a line comment
 unfoldable pub line_body_of : List ℕ → List ℕ
 line_body_of text = without_braces (drop 1 text)
 
@@ -87,7 +87,7 @@ sense_of UnclosedText text = out_of_place UnclosedString
 unfoldable pub sense : Word → Sense
 sense w = sense_of w.kind w.text
 
--- whether a token is a comment
+-- true if a token is a comment
 abbrev pub is_remark : Sense → Bool
 is_remark (remarks text) = true
 is_remark _ = false
@@ -95,7 +95,7 @@ is_remark _ = false
 abbrev pub is_comment : Word → Bool
 is_comment w = is_remark (sense w)
 
--- whether a token is a move of the movetext
+-- true if a token is a move of the movetext
 abbrev pub is_move_sense : Sense → Bool
 is_move_sense (plays text) = true
 is_move_sense _ = false

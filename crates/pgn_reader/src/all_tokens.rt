@@ -1,4 +1,4 @@
-//! Reading the tokens of a game.
+//! The reading of the tokens of a game.
 ghost use Rattle.std.specs.Prelude.{◌≡◌, ◌<◌, ◌≤◌, ◌^◌, ℕ, Bool, List, length, IfOk, MatchOption};
 ghost use Rattle.pgn_reader.specs.Limits.{longest, most_moves};
 ghost use Rattle.pgn_reader.specs.ReadingPlace.{fault_at_end};
@@ -15,7 +15,7 @@ use cq_common::{NoMemory, Refusal};
 use pgn_lexer::{Lexeme, LexemeKind, next_lexeme};
 use std::alloc::Global;
 
-// Why the end is a fault, where it is one.
+// The reason of the fault at the end, if it is one.
 fn fault_at_end(reader: &Reader) -> Option<Reason>
     ensures { result ≡ fault_at_end (reading_place_of (state_of reader.now)) }
 {
@@ -32,7 +32,7 @@ fn fault_at_end(reader: &Reader) -> Option<Reason>
     }
 }
 
-// Reads a lexeme; an escape line is passed over.
+// Reads a lexeme; an escape line is skipped.
 fn read_lexeme(reader: &mut Reader, alloc: Global, lexeme: &Lexeme) -> Result<(), Refusal<Reason>>
     requires low { IsLow (state_of reader.old) }
     requires few { moves_in (state_of reader.old) ≤ most_moves }
@@ -44,7 +44,12 @@ fn read_lexeme(reader: &mut Reader, alloc: Global, lexeme: &Lexeme) -> Result<()
     }
 }
 
-/// What the tokens of a game tell, or their first fault. Each is read off the bytes as it is asked for.
+/// Returns the reader after the tokens of a game, or their first fault. Each token is read off the bytes as it is
+/// needed.
+///
+/// # Errors
+///
+/// Fails only if out of memory.
 pub fn read_tokens(
     alloc: Global,
     bytes: &[u8],
@@ -60,7 +65,7 @@ pub fn read_tokens(
     game_or_fault(reader, fault)
 }
 
-// A reader, or the fault that it met.
+// A reader, or its fault.
 fn game_or_fault(
     reader: Reader,
     fault: Result<Option<GameFault>, NoMemory>,
@@ -75,7 +80,8 @@ fn game_or_fault(
     }
 }
 
-// Reads the tokens of a game up to their first fault, with a reader that has read none.
+// Reads the tokens of a game up to their first fault, with a reader that has read none. Returns the fault, if there is
+// one.
 fn read_all(
     reader: &mut Reader,
     alloc: Global,

@@ -1,4 +1,4 @@
-//! Building a game of the rows of its line.
+//! The construction of a game from the rows of its line.
 ghost use Rattle.std.specs.Prelude.{◌≡◌, ◌<◌, [], ◌∷◌, ◌++◌, length, slice_index, IfOk, OnOk};
 ghost use Rattle.cq_position.specs.Games.{IsTree};
 ghost use Rattle.cq_position.specs.Continuations.{node_of};
@@ -13,7 +13,11 @@ use pgn_tree::{Game, Tags};
 use std::alloc::Global;
 use std::vec::IntoIter;
 
-/// The game of rows in preorder, of which the first is the root's.
+/// Returns the game of rows in preorder, of which the first is the root's.
+///
+/// # Errors
+///
+/// Fails only if out of memory.
 pub fn game_of_rows(
     alloc: Global,
     tags: Tags,
@@ -37,7 +41,7 @@ pub fn game_of_rows(
     }
 }
 
-// The game of the root alone, which takes comments and no glyphs.
+// The game of the root alone, which has comments and no glyphs.
 fn game_at_root(
     alloc: Global,
     tags: Tags,
@@ -55,7 +59,7 @@ fn game_at_root(
     Game::of_root(alloc, tags, ending, start, notes)
 }
 
-// Adds the rows below the root. `way` has the numbers of the nodes on the way down from the root to the last node.
+// Adds the rows below the root. `way` has the numbers of the nodes on the path down from the root to the last node.
 fn add_rows(alloc: Global, game: &mut Game, rows: IntoIter<NodeRow>) -> Result<(), NoMemory>
     requires root { length game.old.nodes ≡ 1 }
     requires tree { IsTree (game.old.nodes ++ nodes_by (0 ∷ []) 1 rows.rest.items) }

@@ -1,8 +1,8 @@
-//! Why a text is no game.
+//! The faults of a text that is no game.
 
 use cq_common::Shared;
 
-/// Where a game's first fault stands, counted from the archive's first byte, and what it is.
+/// The first fault of a game: the place of its byte, counted from the archive's first byte, and its reason.
 #[derive(Clone, Copy, Debug, PartialEq, Eq)]
 pub struct GameFault {
     pub byte: u64,
@@ -11,12 +11,12 @@ pub struct GameFault {
 
 impl Shared for GameFault {}
 
-/// What is wrong at a token of a game, or at its end.
+/// The reason of a fault at a token of a game, or at its end.
 #[derive(Clone, Copy, Debug, PartialEq, Eq)]
 pub enum Reason {
     /// A byte that begins no token; also `$` without digits.
     BadByte,
-    /// A comment whose `}` never comes.
+    /// A comment without its `}`.
     UnclosedComment,
     /// A string that a line's end, or the end of the bytes, cuts short.
     UnclosedString,

@@ -1,4 +1,4 @@
-//! Reading a game: its tags and its tree, or its first fault.
+//! The reading of a game: its tags and its tree, or its first fault.
 #![tactic(auto)]
 
 mod all_tokens;

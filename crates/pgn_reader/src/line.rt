@@ -12,11 +12,11 @@ use std::alloc::Global;
 use std::marker::Model;
 use std::mem;
 
-/// Most games have no more moves than this.
+/// A number of moves that most games don't exceed.
 const MOVES_OF_MOST_GAMES: usize = 120;
 
-/// Where a line stands, and its nodes: those of its moves but the last, those of the variations after the last move, and those of the
-/// variations after each earlier move.
+/// The place reached in a line, and the line's nodes. They are those of its moves but the last, those of the variations
+/// after the last move, and those of the variations after each earlier move.
 #[derive(Drop)]
 pub struct Line {
     before: Option<Position>,
@@ -57,56 +57,64 @@ impl Line {
         }
     }
 
-    /// The line of a variation from a position, whose first move has this level.
+    /// Returns the line of a variation from a position, whose first move has this level.
     pub fn new(alloc: Global, level: u32, reached: Position) -> Line
         ensures { result ≡ begin level reached }
     {
         Line::empty(alloc, reached, level, None)
     }
 
-    /// The line of a game from a position.
+    /// Returns the line of a game from a position.
     pub fn of_game(alloc: Global, reached: Position) -> Line
         ensures { result ≡ begin_game reached }
     {
         Line::empty(alloc, reached, 0, Some(Move::default()))
     }
 
-    /// The position before the last move.
+    /// Returns the position before the last move.
     pub fn before(&self) -> Option<Position>
         ensures { result ≡ self.now.before }
     {
         self.before
     }
 
-    /// The position reached.
+    /// Returns the position reached.
     pub fn reached(&self) -> &Position
         ensures { result.now ≡ self.now.reached }
     {
         &self.reached
     }
 
-    /// The level of the last move.
+    /// Returns the level of the last move.
     pub fn level(&self) -> u32
         ensures { result ≡ self.now.level }
     {
         self.level
     }
 
-    /// One glyph more.
+    /// Adds a glyph.
+    ///
+    /// # Errors
+    ///
+    /// Fails only if out of memory.
     pub fn add_nag(&mut self, nag: u8) -> Result<(), NoMemory>
         ensures { OnOk result (self.new ≡ with_glyph self.old nag) }
     {
         self.notes.add_nag(nag)
     }
 
-    /// One comment more.
+    /// Adds a comment.
+    ///
+    /// # Errors
+    ///
+    /// Fails only if out of memory.
     pub fn add_comment(&mut self, text: &[u8]) -> Result<(), NoMemory>
         ensures { OnOk result (self.new ≡ with_remark self.old (without_braces text.now)) }
     {
         self.notes.add_comment(text)
     }
 
-    // Room for most games at a game's first move, so that their nodes are seldom moved.
+    // Reserves memory for most games at a game's first move, so that their nodes are seldom copied.
     fn make_room(&mut self) -> Result<(), NoMemory>
         ensures { self.new ≡ self.old }
     {
@@ -116,7 +124,8 @@ impl Line {
         Ok(())
     }
 
-    // The last move goes to the earlier ones with its glyphs and comments. Those that wait for the first move go on waiting.
+    // Appends the last move to the earlier ones, with its glyphs and comments. Before the first move of a variation
+    // there is none, and the glyphs and comments stay.
     fn keep_last(&mut self, alloc: Global) -> Result<(), NoMemory>
         ensures { OnOk result (self.new ≡ with_last_kept self.old) }
     {
@@ -129,7 +138,7 @@ impl Line {
         Ok(())
     }
 
-    // The variations after the last move go to those after the earlier ones.
+    // Appends the variations after the last move to those after the earlier ones.
     fn keep_variations(&mut self, alloc: Global) -> Result<(), NoMemory>
         ensures { OnOk result (self.new ≡ with_variations_kept self.old) }
     {
@@ -141,7 +150,11 @@ impl Line {
         Ok(())
     }
 
-    /// A move to a position.
+    /// Adds a move to a position.
+    ///
+    /// # Errors
+    ///
+    /// Fails only if out of memory.
     pub fn advance(&mut self, alloc: Global, step: Move, position: Position) -> Result<(), NoMemory>
         requires { self.old.next + 1 < 2 ^ 32 }
         ensures { OnOk result (self.new ≡ advance self.old step position) }
@@ -156,7 +169,11 @@ impl Line {
         Ok(())
     }
 
-    /// A variation after the last move.
+    /// Adds a variation after the last move.
+    ///
+    /// # Errors
+    ///
+    /// Fails only if out of memory.
     pub fn add_variation(&mut self, variation: Line) -> Result<(), NoMemory>
         ensures { OnOk result (self.new ≡ with_variation self.old variation) }
     {
@@ -164,7 +181,11 @@ impl Line {
         push_all(&mut self.here, rows)
     }
 
-    /// Its nodes in preorder.
+    /// Returns its nodes in preorder.
+    ///
+    /// # Errors
+    ///
+    /// Fails only if out of memory.
     pub fn into_rows(self) -> Result<Vec<NodeRow>, NoMemory>
         ensures { IfOk result (λ rows. rows.items ≡ whole self) }
     {

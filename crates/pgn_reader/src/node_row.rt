@@ -6,7 +6,7 @@ use pgn_tree::Notes;
 use std::marker::Model;
 
 /// A node, and the level of its parent in the tree; that of the root's children is 0.
-// The position stands first, where it is copied in whole words.
+// The position is the first field, so that it is copied in whole words.
 #[derive(Drop)]
 pub struct NodeRow {
     position: Position,
@@ -26,7 +26,7 @@ impl Model for NodeRow {
 }
 
 impl NodeRow {
-    /// The node of a move to a position, with its glyphs and comments.
+    /// Returns the node of a move to a position, with its glyphs and comments.
     pub fn new(level: u32, step: Move, position: Position, notes: Notes) -> NodeRow
         ensures { result ≡ record {
           level = level;
@@ -41,28 +41,28 @@ impl NodeRow {
         }
     }
 
-    /// The level of its parent.
+    /// Returns the level of its parent.
     pub fn level(&self) -> u32
         ensures { result ≡ self.now.level }
     {
         self.level
     }
 
-    /// The move.
+    /// Returns the move.
     pub fn step(&self) -> Move
         ensures { result ≡ self.now.move.move }
     {
         self.step
     }
 
-    /// The position after it.
+    /// Returns the position after it.
     pub fn position(&self) -> &Position
         ensures { result.now ≡ self.now.move.position }
     {
         &self.position
     }
 
-    /// Its glyphs and comments alone.
+    /// Returns its glyphs and comments alone.
     pub fn into_notes(self) -> Notes
         ensures { result ≡ record { nags = self.move.nags; comments = self.move.comments } }
     {

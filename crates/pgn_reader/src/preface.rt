@@ -11,7 +11,7 @@ use pgn_tree::Tags;
 use std::alloc::Global;
 use std::marker::Model;
 
-/// The tags so far, and the position in which the game begins by them. The tag FEN is read once, as it is added.
+/// The tags so far, and the position in which the game begins by them. The tag FEN is read once, when it is added.
 #[derive(Drop)]
 pub struct Preface {
     tags: Tags,
@@ -33,7 +33,7 @@ impl Model for Preface {
 }
 
 impl Preface {
-    /// No tags: the game begins in the position of the initial array. Takes no memory.
+    /// Returns no tags: the game begins in the position of the initial array. Takes no memory.
     #[tactic(auto, using(crate::proofs::Whole::start_none))]
     pub fn new(alloc: Global) -> Preface
         ensures { result ≡ record { tags = []; start = start_board } }
@@ -44,28 +44,28 @@ impl Preface {
         }
     }
 
-    /// The tags.
+    /// Returns the tags.
     pub fn tags(&self) -> &Tags
         ensures { result.now ≡ self.now.tags }
     {
         &self.tags
     }
 
-    /// The position in which the game begins.
+    /// Returns the position in which the game begins.
     pub fn start(&self) -> &Position
         ensures { result.now ≡ self.now.start }
     {
         &self.start
     }
 
-    /// The tags alone.
+    /// Returns the tags alone.
     pub fn into_tags(self) -> Tags
         ensures { result ≡ self.tags }
     {
         self.tags
     }
 
-    // The position in which the game begins with one tag more: it is that of the first tag FEN.
+    // The position in which the game begins with one more tag: it is that of the first tag FEN.
     #[tactic(auto, using(crate::proofs::FirstFen::same_without_fen, crate::proofs::FirstFen::same_after_fen, crate::proofs::FirstFen::first_fen))]
     fn start_with(&self, name: &[u8], value: &[u8]) -> Result<Position, FenFault>
         ensures { result ≡ start_of (with_tag self.now.tags name.now value.now) }
@@ -79,7 +79,12 @@ impl Preface {
         Ok(self.start)
     }
 
-    /// Adds a tag; a name that is there keeps its value.
+    /// Adds a tag; a name that is present keeps its value.
+    ///
+    /// # Errors
+    ///
+    /// - `FenFault`: the value of the first tag FEN is no position.
+    /// - `NoMemory`: out of memory.
     pub fn add(&mut self, name: Vec<u8>, value: Vec<u8>) -> Result<(), Refusal<FenFault>>
         ensures { IsAdded (with_tag self.old.tags name.items value.items) self.new result }
     {

@@ -1,4 +1,4 @@
-//! What the bytes of a token tell.
+//! The meanings of the bytes of a token.
 ghost use Rattle.std.specs.Prelude.{◌≡◌, ◌<◌, ◌≤◌, ◌+◌, ◌-◌, ◌∷◌, length, take, drop, slice_index, IfOk};
 ghost use Rattle.std.specs.List.{list_all};
 ghost use Rattle.std.specs.Char.{is_ascii_digit};
@@ -9,14 +9,14 @@ use cq_common::NoMemory;
 use cq_position::GameResult;
 use std::alloc::Global;
 
-/// Whether all bytes are digits.
+/// Returns true if all bytes are digits.
 pub fn are_digits(text: &[u8]) -> bool
     ensures { result ≡ list_all is_ascii_digit text.now }
 {
     text.iter().all(|b| b.is_ascii_digit())
 }
 
-/// The result of which this is the text.
+/// Returns the result with this text.
 #[tactic(auto, unfolding(crate::specs::Words::result_of_text))]
 pub fn result_of_text(text: &[u8]) -> Option<GameResult>
     ensures { result ≡ result_of_text text.now }
@@ -34,7 +34,7 @@ pub fn result_of_text(text: &[u8]) -> Option<GameResult>
     }
 }
 
-/// What stands between the first byte and the last.
+/// Returns the bytes between the first one and the last.
 pub fn inside(text: &[u8]) -> &[u8]
     ensures { result.now ≡ take (length text.now - 2) (drop 1 text.now) }
 {
@@ -45,14 +45,14 @@ pub fn inside(text: &[u8]) -> &[u8]
     }
 }
 
-/// What stands after the first byte.
+/// Returns the bytes after the first one.
 pub fn after_first(text: &[u8]) -> &[u8]
     ensures { result.now ≡ drop 1 text.now }
 {
     if text.is_empty() { b"" } else { &text[1..] }
 }
 
-// The place of the next byte that stands for itself: a backslash before a quote or a backslash is passed over.
+// The place of the next byte of the value: a backslash before a quote or a backslash is skipped.
 #[tactic(auto, unfolding(crate::specs::Tags::unescaped))]
 fn next_byte(text: &[u8], at: usize) -> usize
     requires { at < length text.now }
@@ -66,7 +66,11 @@ fn next_byte(text: &[u8], at: usize) -> usize
     }
 }
 
-/// The value of a string: what stands between its quotes, without the backslashes before quotes and backslashes.
+/// Returns the value of a string: the bytes between its quotes, without the backslashes before quotes and backslashes.
+///
+/// # Errors
+///
+/// Fails only if out of memory.
 #[tactic(auto, unfolding(crate::specs::Tags::value_of))]
 pub fn value_of(alloc: Global, text: &[u8]) -> Result<Vec<u8>, NoMemory>
     ensures { IfOk result (λ v. v.items ≡ value_of text.now) }

@@ -1,4 +1,4 @@
-//! Reading a game token by token.
+//! The reading of a game token by token.
 ghost use Rattle.std.specs.Prelude.{◌≡◌, ◌≢◌, ◌≤◌, ◌<◌, ◌+◌, ◌^◌, ◌==◌, nat_lt, [], length, reverse, Ok, Some, None, OnOk, IfOk};
 ghost use Rattle.std.specs.List.{All};
 ghost use Rattle.cq_position.specs.Board.{Board};
@@ -28,16 +28,16 @@ use pgn_lexer::TokenKind;
 use std::alloc::Global;
 use std::mem;
 
-/// How many variations may be open.
+/// The largest number of open variations.
 const MOST_LEVELS: usize = 100;
 
 /// The greatest number of a glyph.
 const GREATEST_GLYPH: u32 = 255;
 
-/// How many moves a game may have, as it has at most 65,536 positions.
+/// The largest number of moves of a game, as it has at most 65,536 positions.
 const MOST_MOVES: u32 = 65535;
 
-/// Where reading stands: in the movetext, after the bracket, the name or the value of a tag pair, or after the marker.
+/// The phase of reading: in the movetext, after the bracket, the name or the value of a tag pair, or after the marker.
 #[derive(Clone, Copy)]
 pub enum Phase {
     Movetext,
@@ -47,16 +47,16 @@ pub enum Phase {
     Ended(GameResult),
 }
 
-/// What was read of a game.
+/// The part of a game that was read.
 #[derive(Drop)]
 pub struct Reader {
     /// The tags, and the position in which the game begins by them.
     pub preface: Preface,
     /// The name of the tag pair that is open.
     pub name: Vec<u8>,
-    /// Whether tag pairs may still come.
+    /// True if tag pairs may still come.
     pub heading: bool,
-    /// How many moves were read.
+    /// The number of moves that were read.
     pub moves: u32,
     /// The innermost line, and those around it, the outermost first.
     pub line: Line,
@@ -77,7 +77,7 @@ fn position_after(position: &Position, step: &Move) -> Position
     }
 }
 
-// Why a text means no move.
+// The reason of the fault of a text that means no move.
 fn reason_of(fault: SanFault) -> Reason
     ensures { result ≡ san_reason fault }
 {
@@ -111,7 +111,7 @@ fn marker_reason(kind: TokenKind) -> Reason
 }
 
 impl Reader {
-    /// Nothing is read yet.
+    /// Returns a reader that has read nothing.
     pub fn new(alloc: Global) -> Reader
         ensures { state_of result ≡ first }
     {
@@ -128,7 +128,7 @@ impl Reader {
         }
     }
 
-    // A move.
+    // Reads a move.
     fn read_move(&mut self, alloc: Global, text: &[u8]) -> Result<(), Refusal<Reason>>
         requires next { self.old.line.next ≤ self.old.moves }
         requires phase { self.old.phase ≡ Phase.Movetext }
@@ -148,7 +148,7 @@ impl Reader {
         Ok(())
     }
 
-    // A glyph.
+    // Reads a glyph.
     #[tactic(auto, unfolding(crate::specs::Words::sense_of_glyph))]
     fn read_glyph(&mut self, glyph: u32) -> Result<(), Refusal<Reason>>
         requires phase { self.old.phase ≡ Phase.Movetext }
@@ -163,7 +163,7 @@ impl Reader {
         Ok(())
     }
 
-    // A comment.
+    // Reads a comment.
     fn read_comment(&mut self, body: &[u8]) -> Result<(), Refusal<Reason>>
         requires phase { self.old.phase ≡ Phase.Movetext }
         requires few { self.old.moves ≤ most_moves }
@@ -173,7 +173,7 @@ impl Reader {
         Ok(())
     }
 
-    // A result: within a variation it means nothing, else the game ends with it.
+    // Reads a result: within a variation it means nothing, else the game ends with it.
     fn read_result(&mut self, ending: GameResult) -> Result<(), Refusal<Reason>>
         requires phase { self.old.phase ≡ Phase.Movetext }
         requires few { self.old.moves ≤ most_moves }
@@ -187,7 +187,7 @@ impl Reader {
         Ok(())
     }
 
-    // What means nothing.
+    // Reads a token that means nothing.
     fn pass_over(&mut self) -> Result<(), Refusal<Reason>>
         requires phase { self.old.phase ≡ Phase.Movetext }
         requires few { self.old.moves ≤ most_moves }
@@ -197,7 +197,7 @@ impl Reader {
         Ok(())
     }
 
-    // The parenthesis that opens a variation.
+    // Reads the parenthesis that opens a variation.
     fn open_variation(&mut self, alloc: Global) -> Result<(), Refusal<Reason>>
         requires phase { self.old.phase ≡ Phase.Movetext }
         requires few { self.old.moves ≤ most_moves }
@@ -216,7 +216,7 @@ impl Reader {
         Ok(())
     }
 
-    // The parenthesis that ends one.
+    // Reads the parenthesis that ends a variation.
     fn end_variation(&mut self) -> Result<(), Refusal<Reason>>
         requires phase { self.old.phase ≡ Phase.Movetext }
         requires few { self.old.moves ≤ most_moves }
@@ -239,7 +239,7 @@ impl Reader {
         }
     }
 
-    // A symbol: digits number a move, a marker ends the game, and any other is a move.
+    // Reads a symbol: digits number a move, a marker ends the game, and any other is a move.
     #[tactic(auto, unfolding(crate::specs::Words::sense_of_symbol))]
     fn read_symbol(&mut self, alloc: Global, text: &[u8]) -> Result<(), Refusal<Reason>>
         requires next { self.old.line.next ≤ self.old.moves }
@@ -256,7 +256,7 @@ impl Reader {
         }
     }
 
-    // A token that is out of place in the movetext, but that a bracket may open a tag pair.
+    // Reads a token that is out of place in the movetext, except a bracket that may open a tag pair.
     fn read_misplaced(&mut self, kind: TokenKind, reason: Reason) -> Result<(), Refusal<Reason>>
         requires phase { self.old.phase ≡ Phase.Movetext }
         ensures { IsSenseStep self.old kind (out_of_place reason) self.new result }
@@ -270,7 +270,7 @@ impl Reader {
         }
     }
 
-    // A token of the movetext, or a bracket that opens a tag pair.
+    // Reads a token of the movetext, or a bracket that opens a tag pair.
     #[tactic(auto, unfolding(crate::specs::Words::body_of, crate::specs::Words::line_body_of))]
     fn read_movetext(
         &mut self,
@@ -302,7 +302,7 @@ impl Reader {
         }
     }
 
-    // The name of a tag pair.
+    // Reads the name of a tag pair.
     fn read_name(
         &mut self,
         alloc: Global,
@@ -322,7 +322,7 @@ impl Reader {
         }
     }
 
-    // The value of a tag pair.
+    // Reads the value of a tag pair.
     fn read_value(
         &mut self,
         alloc: Global,
@@ -350,7 +350,7 @@ impl Reader {
         }
     }
 
-    // The bracket that closes a tag pair. The comments before it are dropped.
+    // Reads the bracket that closes a tag pair. The comments before it are dropped.
     fn read_closing(&mut self, alloc: Global, kind: TokenKind) -> Result<(), Refusal<Reason>>
         requires phase { self.old.phase ≡ Phase.Valued }
         ensures { Steps (on_closing self.old.preface.tags self.old.preface.start kind) (closing_fault kind) (state_of self.new) result }
@@ -368,7 +368,12 @@ impl Reader {
         }
     }
 
-    /// Reads a token, or answers why no game goes on with it.
+    /// Reads a token.
+    ///
+    /// # Errors
+    ///
+    /// - A [`Reason`]: no game continues with the token, or its move makes one position too many.
+    /// - `NoMemory`: out of memory.
     #[tactic(auto, unfolding(crate::specs::Internal::Machine::feed, crate::specs::Words::sense))]
     pub fn feed(
         &mut self,

@@ -1,4 +1,4 @@
-//! Reading a game.
+//! The reading of a whole game.
 ghost use Rattle.std.specs.Prelude.{◌≡◌, ◌<◌, ◌+◌, ◌^◌, List, length, Err, IfOk};
 ghost use Rattle.pgn_reader.specs.Words.{Word};
 ghost use Rattle.pgn_reader.specs.Tags.{result_of_tags};
@@ -18,7 +18,7 @@ use cq_position::GameResult;
 use pgn_tree::{Game, Tags};
 use std::alloc::Global;
 
-/// How many bytes a game may have.
+/// The largest size of a game in bytes.
 const LONGEST: usize = 1 << 24;
 
 // The result of the marker, or without one that of the tags.
@@ -31,7 +31,7 @@ fn ending_of(reader: &Reader) -> GameResult
     }
 }
 
-// The result that the tag Result tells, where it is the text of one.
+// The result of the tag Result, if it is the text of one.
 #[tactic(auto, unfolding(crate::specs::Tags::result_of_tags))]
 fn result_of_tags(tags: &Tags) -> GameResult
     ensures { result ≡ result_of_tags tags.now }
@@ -48,21 +48,24 @@ fn into_game(alloc: Global, reader: Reader) -> Result<Game, NoMemory>
     ensures { IfOk result (λ g. g ≡ game_of reader) }
 {
     let ending = ending_of(&reader);
-    // What every position meets: the moves of the game lead from it.
+    // A property of every position: the moves of the game lead from it.
     prove!(reader.preface.start().is_position());
     let rows = reader.line.into_rows()?;
     game_of_rows(alloc, reader.preface.into_tags(), ending, rows)
 }
 
-/// The game that its bytes spell (PGN standard, sections 8.1 and 8.2), or their first fault.
+/// Returns the game that the bytes spell (PGN standard, sections 8.1 and 8.2).
 ///
-/// `start` is the place of the first byte in the archive, from which the fault's byte counts, and `first` says whether that byte stands
-/// in the first column. Bytes that spell a game spell no other. Its nodes stand in preorder: a move, what is played after it, and then
-/// the variations that replace it.
+/// `start` is the place of the first byte in the archive, from which the place of a fault counts. `first` is true
+/// if that byte is in the first column. Bytes that spell a game spell no other. The nodes of the game are in preorder:
+/// a move, the moves played after it, and then the variations that replace it.
 ///
-/// A fault stands at the first token such that no game begins with the tokens up to it, at the move that makes one position too many,
-/// or at the game's end where the tokens only begin one. A game of more than 2^24 bytes is refused before all other faults, by that
-/// fault alone, as this takes no memory.
+/// # Errors
+///
+/// - A [`GameFault`]: the first fault of the bytes. It is at the first token such that no game begins with the tokens
+///   up to it, or at the move that makes one position too many. It is at the game's end if the tokens only begin a
+///   game. A game of more than 2^24 bytes has the fault of its length before all others, as this takes no memory.
+/// - `NoMemory`: out of memory.
 pub fn read_game(
     alloc: Global,
     bytes: &[u8],

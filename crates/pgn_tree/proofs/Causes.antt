@@ -1,4 +1,4 @@
--- When a step from a node leads nowhere, and between which numbers it leads.
+-- The steps from a node that lead nowhere, and the numbers of the nodes to which the others lead.
 use Rattle.std.proofs.Common.{◌≡◌, ℕ, zero, suc, ◌+◌, ◌<◌, ◌↔◌, Bool, true, false, cond, List, [], ◌∷◌, length, get_or, Option, Some, None, refl, sym, ap, ap₂, ◌∙◌, subst, arith, ⊎_elim, ◌⊎◌}
 use Rattle.std.specs.Prelude.{IfSome, IsNone, nat_lt, ◌&&◌}
 use Rattle.std.specs.Option.{is_some}
@@ -109,7 +109,7 @@ module _ (nodes : List Node) (tree : IsTree nodes) where
             (λ k low high. false_from_ne_true (is_later_sibling nodes o n k) (λ is. let later = later_is o n k is in last.other k later.0 later.2 later.1))),
       )
 
--- what is read at a node
+-- a node as the code reads it
 module _ (items : List LinkedNode) (nodes : List Node) (same : nodes_of items ≡ nodes) (kept : IsLinkedTree items) (k : ℕ) (h : k < length nodes) (y : LinkedNode) (y_is : y ≡ get_or items k y) where
   tree_is : IsTree nodes
   tree_is = subst IsTree same kept.tree

@@ -1,4 +1,4 @@
--- The way up from a node to an ancestor, turned round, is the path down.
+-- The way up from a node to an ancestor, reversed, is the path down.
 use Rattle.std.proofs.Common.{◌≡◌, ℕ, ◌<◌, Bool, true, false, List, [], ◌∷◌, ◌++◌, length, Option, Some, None, refl, sym, ap, ap₂, ◌∙◌, subst, arith, eqb-true}
 use Rattle.std.specs.Prelude.{reverse, ◌||◌, ◌==◌, Contains, IsNone, ◌↔◌}
 use Rattle.std.specs.Option.{is_some}

@@ -237,7 +237,7 @@ default_free (y ∷ ys) (suc n) d e h = default_free ys n d e (omega (arith, h))
 pub read_at : (items : List LinkedNode) (n : ℕ) (y : LinkedNode) → n < length items → y ≡ get_or items n y → y ≡ linked_at items n
 read_at items n y h is = is ∙ default_free items n y _ h
 
--- what `add_node` leaves
+-- the nodes after `add_node`
 pub record IsGrown (new : List LinkedNode) (nodes : List Node) : Type 0 where
   pub kept : IsLinkedTree new
   pub nodes_are : nodes_of new ≡ nodes

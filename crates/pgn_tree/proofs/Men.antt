@@ -1,4 +1,4 @@
--- The set of the men that stand somewhere.
+-- The set of the men in some positions.
 use Rattle.std.proofs.Common.{◌≡◌, ℕ, ◌+◌, ◌<◌, ◌≤◌, ⊎_elim, Bool, true, false, cond, List, [], ◌∷◌, length, take, get_or, refl, sym, ap, ap₂, ◌∙◌, arith, eqb-true}
 use Rattle.std.specs.Prelude.{◌||◌, ◌&&◌, ◌==◌, ◌^◌, max}
 use Rattle.std.specs.Int.{bit_at}

@@ -26,7 +26,7 @@ noted_at items k old h old_is notes =
 pub set_notes : (items : List LinkedNode) (k : ℕ) (new : LinkedNode) → HasNotes new.node → HaveNotes (nodes_of items) → HaveNotes (nodes_of (slice_set items k new))
 set_notes items k new has notes = subst HaveNotes (sym (nodes_of_set items k new)) (All-set HasNotes (nodes_of items) k new.node has notes)
 
--- a node after a change that may have been refused
+-- a node after a change that may have failed
 noted_after : {A E : Type 0} (r : Result A E) (old new grown : LinkedNode) → OnOk r (new ≡ grown) → OnErr r (new ≡ old) → HasNotes old.node → HasNotes grown.node → HasNotes new.node
 noted_after (Ok x) old new grown ok err has more = subst (λ y. HasNotes y.node) (sym ok) more
 noted_after (Err x) old new grown ok err has more = subst (λ y. HasNotes y.node) (sym err) has

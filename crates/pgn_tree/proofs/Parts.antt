@@ -104,7 +104,7 @@ pub no_parts : (text : List ℕ) → parts text 0 [] ≡ []
 unfolding parts
 no_parts text = refl
 
--- what a call that wasn't refused gives
+-- the result of a call that didn't fail
 pub when_ok : {A E P : Type 0} (r : Result A E) → false ≡ is_err r → OnOk r P → P
 when_ok (Ok x) is p = p
 when_ok (Err x) is p = absurd cc
@@ -113,7 +113,7 @@ pub pushed : {A E B : Type 0} (r : Result A E) (xs more less : List B) → false
 pushed (Ok x) xs more less is e = e
 pushed (Err x) xs more less is e = absurd cc
 
--- where a part stands, by numbers that the code reads
+-- the place of a part, by numbers that the code reads
 module _ (text ends : List ℕ) (are : AreEnds 0 ends (length text)) (i start end : ℕ) (low : i < length ends) (start_is : start ≡ start_of 0 ends i) (end_is : end ≡ get_or ends i end) where
   ends_there : end ≡ get_or ends i 0
   ends_there = end_is ∙ any_default ends i end 0 low

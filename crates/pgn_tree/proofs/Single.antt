@@ -1,4 +1,4 @@
--- A path down is the way up turned round, so there is one at most, and it lies in the tree in which it ends.
+-- A path down is the way up reversed, so there is at most one, and it is in the tree in which it ends.
 use Rattle.std.proofs.Common.{◌≡◌, ℕ, Bool, true, false, List, [], ◌∷◌, ◌++◌, Some, None, refl, sym, ap, ◌∙◌, append_assoc}
 use Rattle.std.specs.Prelude.{reverse}
 use Rattle.std.specs.List.{last_or, list_all}

@@ -50,7 +50,7 @@ shorter_after t i e =
     let four = ap length (take-append-drop i t) in
     omega (arith, some_, one, two, three, four)
 
--- a word and what comes after it stand in the text one after the other
+-- a word and the rest after it are in the text one after the other
 pub cut_here : (t : List ℕ) (i n : ℕ) → (k : ℕ) × (drop k t ≡ take n (drop i t) ++ drop n (drop i t))
 cut_here t i n = (i, sym (take-append-drop n (drop i t)))
 
@@ -97,7 +97,7 @@ words_clean : (t : List ℕ) → words (without_braces t) ≡ map without_braces
 unfolding words
 words_clean t = ap (filter is_not_empty) (parts_clean t) ∙ kept_clean (slice_split is_white t)
 
--- what is left to be added after the first words
+-- the text that is still to be added after the first words
 abbrev pub left : List ℕ → List ℕ
 left rest = spaced (map without_braces (words rest))
 
@@ -123,7 +123,7 @@ next_joined now next t word rest is grown =
 pub all_joined : (now all t : List ℕ) → words t ≡ [] → now ++ left t ≡ all → now ≡ all
 all_joined now all t none is = sym (append-nil now) ∙ ap (λ x. now ++ x) (sym (none_left t none)) ∙ is
 
--- a text that begins with another goes on doing so
+-- a text that begins with another still does so when it grows
 pub begins_on : (front text more : List ℕ) → Begins front text → Begins text more → Begins front more
 begins_on front text more a b = (a.0 ++ b.0, b.1 ∙ ap (λ x. x ++ b.0) a.1 ∙ append_assoc front a.0 b.0)
 
@@ -142,7 +142,7 @@ no_brace_left (b ∷ bs) = All-cons (λ b. b ≢ 125) (without_brace b) (without
     by true is e = absurd (omega (arith, e))
     by false is e = absurd (let f : true ≡ false = sym (eq-eqb b 125 e) ∙ is in cc)
 
--- where there is none, nothing changes
+-- a text without a closing brace does not change
 pub brace_free : (t : List ℕ) → All (λ b. b ≢ 125) t → without_braces t ≡ t
 brace_free [] free = refl
 brace_free (b ∷ bs) free =

@@ -1,4 +1,4 @@
--- What contracts see of a game.
+-- The view of a game in contracts.
 use Rattle.cq_position.specs.Games.{Game}
 use Rattle.pgn_tree.specs.declared.game.Game.TheInside.{Inside}
 use Rattle.pgn_tree.specs.Links.{nodes_of}

@@ -1,4 +1,4 @@
--- What contracts see of the types of this crate.
+-- The views of this crate's types in contracts.
 use Rattle.std.specs.Prelude.{ℕ, List, map}
 use Rattle.pgn_tree.specs.declared.tags.Tags.TheInside.{Inside as TagsInside}
 use Rattle.pgn_tree.specs.declared.node.Node.TheInside.{Inside as NodeInside}

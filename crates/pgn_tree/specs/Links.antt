@@ -1,8 +1,8 @@
--- What a game keeps beside each node, so that every step from it is taken at once.
+-- The links of the nodes of a game, by which every step from a node takes constant time.
 use Rattle.std.specs.Prelude.{◌≡◌, ℕ, ◌<◌, ◌≤◌, Bool, true, false, List, [], ◌∷◌, ◌++◌, length, map, slice_set, slice_index_or, Option, Some, None}
 use Rattle.cq_position.specs.Games.{Node, no_node, IsSamePlace, IsTree, HaveNotes, is_child_of, first_child, next_sibling, is_main}
 
--- a node with its first and its last child, its next sibling, and whether it is of the main line
+-- a node with its first and its last child and its next sibling; `main` is true if it is of the main line
 pub record LinkedNode : Type 0 where
   pub node : Node
   pub first_child : Option ℕ
@@ -20,7 +20,7 @@ linked_at items n = slice_index_or items n (unlinked no_node false)
 abbrev pub nodes_of : List LinkedNode → List Node
 nodes_of items = map (λ x. x.node) items
 
--- the same but for numeric annotation glyphs and comments
+-- the same except for numeric annotation glyphs and comments
 pub record IsSameLinked (a b : LinkedNode) : Type 0 where
   pub place : IsSamePlace a.node b.node
   pub first_child : a.first_child ≡ b.first_child
@@ -40,17 +40,17 @@ pub record AreLinks (items : List LinkedNode) : Type 0 where
   pub next_sibling : (n : ℕ) → n < length items → (linked_at items n).next_sibling ≡ next_sibling (nodes_of items) n
   pub main : (n : ℕ) → n < length items → (linked_at items n).main ≡ is_main (nodes_of items) n
 
--- the nodes are a tree, and the links theirs
+-- the nodes are a tree, and the links are theirs
 pub record IsLinkedTree (items : List LinkedNode) : Type 0 where
   pub tree : IsTree (nodes_of items)
   pub links : AreLinks items
 
--- and the notes of each node are those that a game keeps
+-- a linked tree, whose nodes have the notes of a game
 pub record HasKeptAnnotations (items : List LinkedNode) : Type 0 where
   pub linked : IsLinkedTree items
   pub notes : HaveNotes (nodes_of items)
 
--- one node changes
+-- the nodes with one of them changed
 abbrev pub with_linked : List LinkedNode → ℕ → (LinkedNode → LinkedNode) → List LinkedNode
 with_linked items n change = slice_set items n (change (linked_at items n))
 

@@ -9,7 +9,7 @@ pub record Annotations : Type 0 where
   pub nags : List ℕ
   pub comments : List (List ℕ)
 
--- what a game keeps of them
+-- the properties of a game's notes
 pub record AreKeptAnnotations (n : Annotations) : Type 0 where
   pub nags : All (λ nag. nag < glyph_numbers) n.nags
   pub comments : All IsComment n.comments

@@ -1,4 +1,4 @@
--- The text of a comment, and how a text grows by it.
+-- The text of a comment, and the growth of a text by it.
 use Rattle.std.specs.Prelude.{◌≡◌, ℕ, List, ◌++◌, map, ◌==◌, if◌then◌else◌}
 use Rattle.cq_position.specs.Comments.{closing_brace}
 
@@ -13,7 +13,7 @@ closing_parenthesis = 41
 abbrev pub without_brace : ℕ → ℕ
 without_brace b = if b == closing_brace then closing_parenthesis else b
 
--- A comment is kept between braces, so that a closing brace in it becomes a closing parenthesis.
+-- A comment is written between braces, so that a closing brace in it becomes a closing parenthesis.
 abbrev pub without_braces : List ℕ → List ℕ
 without_braces text = map without_brace text
 

@@ -8,8 +8,12 @@ ghost use Rattle.pgn_tree.specs.Words.{space, without_brace, without_braces, Beg
 use cq_common::{Bytes, NoMemory, is_white};
 use std::alloc::Global;
 
-/// The words of a text with single spaces between them, in which a closing brace becomes a closing parenthesis: the comment that a node
-/// keeps of the text. A text without a word has none, and gives no bytes.
+/// Returns the comment that a node keeps of a text: its words with single spaces between them, and closing parentheses
+/// for closing braces. A text without words has no comment, and gives no bytes.
+///
+/// # Errors
+///
+/// Fails only if out of memory.
 pub fn single_spaced(alloc: Global, comment: &[u8]) -> Result<Bytes, NoMemory>
     ensures { IfOk result (λ spaced. spaced ≡ join_with_byte space (words (without_braces comment.now))) }
 {
@@ -18,8 +22,11 @@ pub fn single_spaced(alloc: Global, comment: &[u8]) -> Result<Bytes, NoMemory>
     Ok(Bytes::from_vec(spaced))
 }
 
-/// Adds the words of a comment to a text, with single spaces between them, in which a closing brace becomes a closing parenthesis. Where it
-/// fails, some of that may stand there.
+/// Adds the words of a comment to a text, with single spaces between them, and closing parentheses for closing braces.
+///
+/// # Errors
+///
+/// Fails only if out of memory. A part of the words may then be in the text.
 pub fn push_words(text: &mut Vec<u8>, comment: &[u8]) -> Result<(), NoMemory>
     ensures ok { OnOk result (text.new.items ≡ text.old.items ++ join_with_byte space (words (without_braces comment.now))) }
     ensures front { Begins text.old.items text.new.items }
@@ -36,7 +43,8 @@ pub fn push_words(text: &mut Vec<u8>, comment: &[u8]) -> Result<(), NoMemory>
     Ok(())
 }
 
-/// The first word of a text, which white space ends, and what comes after it in the text; None where the text has no word.
+/// Returns the first word of a text, which white space ends, and the rest of the text after it. None if the text has no
+/// word.
 #[tactic(auto, using(crate::proofs::Words::white_alone, crate::proofs::Words::first_of_words, crate::proofs::Words::shorter_after, crate::proofs::Words::cut_here, std::proofs::lemmas::List::take_rest))]
 pub fn first_word(text: &[u8]) -> Option<(&[u8], &[u8])>
     ensures words { MatchOption result (words text.now ≡ []) (λ cut. words text.now ≡ cut.0.now ∷ words cut.1.now) }
@@ -83,7 +91,7 @@ fn push_word(text: &mut Vec<u8>, word: &[u8]) -> Result<(), NoMemory>
     Ok(())
 }
 
-// A byte of a comment: a closing brace would end it, and becomes a closing parenthesis.
+// A byte of a comment. A closing brace would end the comment, and becomes a closing parenthesis.
 fn without_brace(b: u8) -> u8
     ensures { result ≡ without_brace b }
 {

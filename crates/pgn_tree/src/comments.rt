@@ -10,7 +10,7 @@ use cq_common::NoMemory;
 use std::alloc::Global;
 use std::marker::Model;
 
-/// Comments, one after the other in one text, and where each ends. None take no memory.
+/// Comments, one after the other in one text, and the end of each. No comments take no memory.
 #[derive(Drop)]
 pub struct Comments {
     text: Vec<u8>,
@@ -30,7 +30,7 @@ impl Model for Comments {
 }
 
 impl Comments {
-    /// No comments.
+    /// Returns no comments.
     pub fn new(alloc: Global) -> Comments
         ensures { result ≡ [] }
     {
@@ -40,7 +40,7 @@ impl Comments {
         }
     }
 
-    /// How many there are.
+    /// Returns the number of comments.
     pub fn len(&self) -> usize
         ensures len { result ≡ length self.now }
         ensures kept { All IsComment self.now }
@@ -48,7 +48,7 @@ impl Comments {
         self.ends.len()
     }
 
-    /// Comment number `i`, counted from 0.
+    /// Returns comment number `i`, counted from 0.
     pub fn get(&self, i: usize) -> &[u8]
         requires { i < length self.now }
         ensures { result.now ≡ slice_index_or self.now i [] }
@@ -58,6 +58,10 @@ impl Comments {
     }
 
     /// Adds the comment of a text, if it has a word.
+    ///
+    /// # Errors
+    ///
+    /// Fails only if out of memory, and then changes nothing.
     pub fn add(&mut self, text: &[u8]) -> Result<(), NoMemory>
         ensures ok { OnOk result (self.new ≡ self.old ++ comment_of (words (without_braces text.now))) }
         ensures err { OnErr result (self.new ≡ self.old) }
@@ -77,7 +81,11 @@ impl Comments {
         Ok(())
     }
 
-    /// The same comments again.
+    /// Returns a copy.
+    ///
+    /// # Errors
+    ///
+    /// Fails only if out of memory.
     pub fn copy(&self, alloc: Global) -> Result<Comments, NoMemory>
         ensures { IfOk result (λ c. c ≡ self.now) }
     {
@@ -88,7 +96,7 @@ impl Comments {
     }
 }
 
-// Where comment number `i` begins: where the one before it ends.
+// The beginning of comment number `i`: the end of the one before it.
 fn start_of(ends: &[usize], i: usize) -> usize
     requires { i < length ends.now }
     ensures { result ≡ start_of 0 ends.now i }

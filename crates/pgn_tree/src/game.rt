@@ -49,7 +49,11 @@ impl Model for Game {
 }
 
 impl Game {
-    /// A game of the starting position alone.
+    /// Returns a game of the starting position alone.
+    ///
+    /// # Errors
+    ///
+    /// Fails only if out of memory.
     pub fn new(
         alloc: Global,
         tags: Tags,
@@ -61,7 +65,11 @@ impl Game {
         Game::of_root(alloc, tags, ending, start, Notes::new(alloc))
     }
 
-    /// A game of the starting position alone, with its notes.
+    /// Returns a game of the starting position alone, with its notes.
+    ///
+    /// # Errors
+    ///
+    /// Fails only if out of memory.
     pub fn of_root(
         alloc: Global,
         tags: Tags,
@@ -82,7 +90,11 @@ impl Game {
         })
     }
 
-    /// The same game again, which shares nothing with this one.
+    /// Returns a copy, which shares nothing with this game.
+    ///
+    /// # Errors
+    ///
+    /// Fails only if out of memory.
     pub fn copy(&self, alloc: Global) -> Result<Game, NoMemory>
         ensures { IfOk result (λ g. g ≡ self.now) }
     {
@@ -94,7 +106,7 @@ impl Game {
         })
     }
 
-    /// How many nodes there are.
+    /// Returns the number of nodes.
     pub fn len(&self) -> u32
         ensures len { result ≡ length self.now.nodes }
         ensures kept { IsTree self.now.nodes }
@@ -103,7 +115,7 @@ impl Game {
         self.nodes.len() as u32
     }
 
-    /// Whether the nodes have a root: they always do. The clauses are what every game keeps.
+    /// Returns true, as the nodes always have a root. The clauses are the properties of every game.
     pub fn is_tree(&self) -> bool
         ensures value { result ≡ true }
         ensures tree { IsTree self.now.nodes }
@@ -114,21 +126,21 @@ impl Game {
         self.len() > 0
     }
 
-    /// The result.
+    /// Returns the result.
     pub fn result(&self) -> GameResult
         ensures { result ≡ self.now.result }
     {
         self.result
     }
 
-    /// The tags.
+    /// Returns the tags.
     pub fn tags(&self) -> &Tags
         ensures { result.now ≡ self.now.tags }
     {
         &self.tags
     }
 
-    /// The number of a node's parent; None at the root, and nowhere else.
+    /// Returns the number of a node's parent; None at the root, and nowhere else.
     pub fn parent(&self, k: u32) -> Option<u32>
         requires { k < length self.now.nodes }
         ensures value { result ≡ (node_at self.now.nodes k).parent }
@@ -138,7 +150,7 @@ impl Game {
         self.nodes[k as usize].parent()
     }
 
-    /// The number of a node's first child; None where it has no child.
+    /// Returns the number of a node's first child; None if it has no child.
     pub fn first_child(&self, k: u32) -> Option<u32>
         requires { k < length self.now.nodes }
         ensures value { result ≡ first_child self.now.nodes k }
@@ -148,7 +160,7 @@ impl Game {
         self.nodes[k as usize].first_child()
     }
 
-    /// The number of a node's next sibling; None where no sibling comes later.
+    /// Returns the number of a node's next sibling; None if no sibling comes later.
     pub fn next_sibling(&self, k: u32) -> Option<u32>
         requires { k < length self.now.nodes }
         ensures value { result ≡ next_sibling self.now.nodes k }
@@ -158,7 +170,7 @@ impl Game {
         self.nodes[k as usize].next_sibling()
     }
 
-    /// Whether a node is of the main line: the root, or a first child of a node of the main line.
+    /// Returns true if a node is of the main line: the root, or a first child of a node of the main line.
     pub fn is_main(&self, k: u32) -> bool
         requires { k < length self.now.nodes }
         ensures { result ≡ is_main self.now.nodes k }
@@ -166,7 +178,7 @@ impl Game {
         self.nodes[k as usize].is_main()
     }
 
-    /// The position of a node.
+    /// Returns the position of a node.
     pub fn position(&self, k: u32) -> &Position
         requires { k < length self.now.nodes }
         ensures { result.now ≡ (node_at self.now.nodes k).position }
@@ -174,7 +186,7 @@ impl Game {
         self.nodes[k as usize].position()
     }
 
-    /// The move that led to a node; None at the root, and nowhere else.
+    /// Returns the move that led to a node; None at the root, and nowhere else.
     pub fn move_to(&self, k: u32) -> Option<Move>
         requires { k < length self.now.nodes }
         ensures value { result ≡ (node_at self.now.nodes k).led_by }
@@ -183,7 +195,7 @@ impl Game {
         self.nodes[k as usize].led_by()
     }
 
-    /// The numeric annotation glyphs of a node, in order.
+    /// Returns the numeric annotation glyphs of a node, in order.
     pub fn nags(&self, k: u32) -> &[u8]
         requires { k < length self.now.nodes }
         ensures { result.now ≡ (node_at self.now.nodes k).nags }
@@ -191,7 +203,7 @@ impl Game {
         self.nodes[k as usize].nags()
     }
 
-    /// How many comments a node has.
+    /// Returns the number of comments of a node.
     pub fn comments(&self, k: u32) -> usize
         requires { k < length self.now.nodes }
         ensures { result ≡ length (node_at self.now.nodes k).comments }
@@ -199,7 +211,7 @@ impl Game {
         self.nodes[k as usize].comments()
     }
 
-    /// Comment number `i` of a node, counted from 0: words with single spaces between them.
+    /// Returns comment number `i` of a node, counted from 0: words with single spaces between them.
     pub fn comment(&self, k: u32, i: usize) -> &[u8]
         requires node { k < length self.now.nodes }
         requires comment { i < length (node_at self.now.nodes k).comments }
@@ -208,10 +220,14 @@ impl Game {
         self.nodes[k as usize].comment(i)
     }
 
-    /// Adds a node after all others, and answers its number.
+    /// Adds a node after all others, and returns its number.
     ///
-    /// Its parent is the last node or an ancestor of that. The move is legal, or an allowed null move, in the parent's position, and leads
-    /// to the position.
+    /// Its parent is the last node or an ancestor of that. The move is legal, or an allowed null move, in the parent's
+    /// position, and leads to the position.
+    ///
+    /// # Errors
+    ///
+    /// Fails only if out of memory, and then changes nothing.
     pub fn add_node(&mut self, parent: u32, m: Move, p: Position) -> Result<u32, NoMemory>
         requires node { parent < length self.old.nodes }
         requires preorder { Contains (way_up self.old.nodes (length self.old.nodes - 1)) parent }
@@ -224,7 +240,11 @@ impl Game {
         self.add_noted_node(parent, m, p, Notes::new(self.alloc))
     }
 
-    /// The same of a node with its notes.
+    /// Adds a node with its notes after all others, and returns its number.
+    ///
+    /// # Errors
+    ///
+    /// Fails only if out of memory, and then changes nothing.
     pub fn add_noted_node(
         &mut self,
         parent: u32,
@@ -249,7 +269,11 @@ impl Game {
         Ok(number)
     }
 
-    /// Makes room for so many more nodes, so that none moves as they are added. Fails only when out of memory.
+    /// Reserves memory for `nodes` more nodes, so that no node is copied when they are added.
+    ///
+    /// # Errors
+    ///
+    /// Fails only if out of memory.
     pub fn reserve(&mut self, nodes: usize) -> Result<(), NoMemory>
         ensures { self.new ≡ self.old }
     {
@@ -258,6 +282,10 @@ impl Game {
     }
 
     /// Adds a numeric annotation glyph to a node. The first four of a node take no memory.
+    ///
+    /// # Errors
+    ///
+    /// Fails only if out of memory, and then changes nothing.
     pub fn add_nag(&mut self, k: u32, nag: u8) -> Result<(), NoMemory>
         requires { k < length self.old.nodes }
         ensures ok { OnOk result (self.new ≡ record self.old { nodes = with_node self.old.nodes k (with_nag nag) }) }
@@ -267,7 +295,12 @@ impl Game {
         self.nodes[k as usize].add_nag(nag)
     }
 
-    /// Adds a comment to a node: the words of the text with single spaces between them. A text without words adds nothing.
+    /// Adds a comment to a node: the words of the text with single spaces between them. A text without words adds
+    /// nothing.
+    ///
+    /// # Errors
+    ///
+    /// Fails only if out of memory, and then changes nothing.
     pub fn add_comment(&mut self, k: u32, text: &[u8]) -> Result<(), NoMemory>
         requires node { k < length self.old.nodes }
         requires brace { All (λ b. b ≢ closing_brace) text.now }
@@ -277,7 +310,11 @@ impl Game {
         self.nodes[k as usize].add_comment(text)
     }
 
-    /// The numbers of the nodes of the main line: the root, and the first children that follow it.
+    /// Returns the numbers of the nodes of the main line: the root, and the first children that follow it.
+    ///
+    /// # Errors
+    ///
+    /// Fails only if out of memory.
     pub fn main_line(&self) -> Result<Vec<u32>, NoMemory>
         ensures { IfOk result (λ line. line.items ≡ main_line self.now.nodes) }
     {
@@ -290,8 +327,12 @@ impl Game {
         Ok(line)
     }
 
-    /// The path down from a node to another, both included, over all nodes; None exactly where `to` is neither `from` nor a
-    /// descendant of it.
+    /// Returns the path down from a node to another, both included, over all nodes. None exactly if `to` is neither
+    /// `from` nor a descendant of it.
+    ///
+    /// # Errors
+    ///
+    /// Fails only if out of memory.
     pub fn down_path(&self, from: u32, to: u32) -> Result<Option<Vec<u32>>, NoMemory>
         requires from { from < length self.now.nodes }
         requires to { to < length self.now.nodes }
@@ -315,8 +356,8 @@ impl Game {
         Ok(Some(path))
     }
 
-    /// The men that stand in some position of the main line, or with `variations` in some position of the game: bit k is set exactly where
-    /// man number k of [`Man`] does, the empty square included. Takes no memory.
+    /// Returns the set of the men in the positions of the main line, or with `variations` in all positions of the game.
+    /// Bit k is set exactly if man number k of [`Man`] is in some of them, the empty square included. Takes no memory.
     pub fn men(&self, variations: bool) -> u16
         ensures { (k : ℕ) → (bit_at result k == 1) ≡ has_man_in (record { game = self.now; variations = variations }) k }
     {
@@ -327,7 +368,7 @@ impl Game {
         men
     }
 
-    // The men, and those of a node where it is searched. To all of them no position adds one.
+    // The men, with those of a node if it is searched. No position adds a man to all of them.
     #[tactic(auto, using(crate::proofs::Men::nothing_new))]
     fn with_men_at(&self, men: u16, variations: bool, k: u32) -> u16
         requires { k < length self.now.nodes }
@@ -341,7 +382,7 @@ impl Game {
     }
 }
 
-// The same nodes again.
+// A copy of the nodes.
 fn copy_nodes(alloc: Global, nodes: &[Node]) -> Result<Vec<Node>, NoMemory>
     ensures { IfOk result (λ copied. copied.items ≡ nodes.now) }
 {
@@ -352,7 +393,7 @@ fn copy_nodes(alloc: Global, nodes: &[Node]) -> Result<Vec<Node>, NoMemory>
     Ok(copied)
 }
 
-// The men, and those of a position.
+// The men, with those of a position.
 fn with_men_of(men: u16, position: &Position) -> u16
     ensures { (b : ℕ) → (bit_at result b == 1) ≡ ((bit_at men b == 1) || has_man position.now b) }
 {
@@ -370,14 +411,14 @@ fn bit_of(man: Man) -> u16
     1 << (man as u8)
 }
 
-// Whether the next child of a node is of the main line.
+// True if the next child of a node is of the main line.
 fn begins_main_line(parent: &Node) -> bool
     ensures { result ≡ (parent.now.main && not (is_some parent.now.first_child)) }
 {
     parent.is_main() && parent.first_child().is_none()
 }
 
-// Ties the last node, number `k`, to the last child of its parent, or as first child to the parent itself.
+// Links the last node, number `k`, to the last child of its parent, or as first child to the parent itself.
 fn link(nodes: &mut Vec<Node>, parent: u32, k: u32)
     requires parent { parent < length nodes.old.items }
     requires last { IfSome (linked_at nodes.old.items parent).last_child (λ l. l < length nodes.old.items) }

@@ -3,7 +3,7 @@ ghost use Rattle.std.specs.Prelude.{◌≡◌, ℕ, true, false, List};
 ghost use Rattle.cq_position.specs.Games.{Game as GameValue, IsTree, is_searched};
 ghost use Rattle.cq_position.specs.Search.{SearchedTree, IsPath, IsDownPath};
 
-/// From a node at most one path leads down to another.
+/// At most one path leads down from a node to another.
 #[tactic(auto, using(crate::proofs::Single::single_law))]
 pub fn down_paths_are_single()
     ensures { (g : GameValue) → IsTree g.nodes → (from to : ℕ) (v w : List ℕ) →

@@ -1,6 +1,6 @@
 //! Whole games: the tags of a game and the tree of its positions.
 //!
-//! `cq_position/specs/Games` has what contracts see of a game, `specs/Links` what a game keeps besides.
+//! `cq_position/specs/Games` has the view of a game in contracts, `specs/Links` its further properties.
 #![tactic(auto)]
 
 mod comment_words;

@@ -12,7 +12,7 @@ use std::alloc::Global;
 use std::marker::Model;
 
 /// A node and its links.
-// The position stands first, where it is copied in whole words.
+// The position is the first field, so that it is copied in whole words.
 #[derive(Drop)]
 pub struct Node {
     position: Position,
@@ -36,7 +36,7 @@ impl Model for Node {
 }
 
 impl Node {
-    /// A node without children and siblings.
+    /// Returns a node without children and siblings.
     pub fn new(
         parent: Option<u32>,
         led_by: Option<Move>,
@@ -58,70 +58,70 @@ impl Node {
         }
     }
 
-    /// The number of its parent; None at the root.
+    /// Returns the number of its parent; None at the root.
     pub fn parent(&self) -> Option<u32>
         ensures { result ≡ self.now.node.parent }
     {
         self.parent
     }
 
-    /// The number of its first child.
+    /// Returns the number of its first child.
     pub fn first_child(&self) -> Option<u32>
         ensures { result ≡ self.now.first_child }
     {
         self.first_child
     }
 
-    /// The number of its last child.
+    /// Returns the number of its last child.
     pub fn last_child(&self) -> Option<u32>
         ensures { result ≡ self.now.last_child }
     {
         self.last_child
     }
 
-    /// The number of its next sibling.
+    /// Returns the number of its next sibling.
     pub fn next_sibling(&self) -> Option<u32>
         ensures { result ≡ self.now.next_sibling }
     {
         self.next_sibling
     }
 
-    /// Whether it is of the main line.
+    /// Returns true if it is of the main line.
     pub fn is_main(&self) -> bool
         ensures { result ≡ self.now.main }
     {
         self.main
     }
 
-    /// The move that led to it; None at the root.
+    /// Returns the move that led to it; None at the root.
     pub fn led_by(&self) -> Option<Move>
         ensures { result ≡ self.now.node.led_by }
     {
         self.led_by
     }
 
-    /// Its position.
+    /// Returns its position.
     pub fn position(&self) -> &Position
         ensures { result.now ≡ self.now.node.position }
     {
         &self.position
     }
 
-    /// Its numeric annotation glyphs.
+    /// Returns its numeric annotation glyphs.
     pub fn nags(&self) -> &[u8]
         ensures { result.now ≡ self.now.node.nags }
     {
         self.notes.nags()
     }
 
-    /// How many comments it has.
+    /// Returns the number of its comments.
     pub fn comments(&self) -> usize
         ensures { result ≡ length self.now.node.comments }
     {
         self.notes.comments()
     }
 
-    /// Comment number `i`, counted from 0.
+    /// Returns comment number `i`, counted from 0.
     pub fn comment(&self, i: usize) -> &[u8]
         requires { i < length self.now.node.comments }
         ensures { result.now ≡ slice_index_or self.now.node.comments i [] }
@@ -151,6 +151,10 @@ impl Node {
     }
 
     /// Adds a numeric annotation glyph; the first four take no memory.
+    ///
+    /// # Errors
+    ///
+    /// Fails only if out of memory, and then changes nothing.
     pub fn add_nag(&mut self, nag: u8) -> Result<(), NoMemory>
         ensures ok { OnOk result (self.new ≡ record self.old { node = with_nag nag self.old.node }) }
         ensures err { OnErr result (self.new ≡ self.old) }
@@ -161,6 +165,10 @@ impl Node {
     }
 
     /// Adds the comment of a text, if it has a word; a closing brace becomes a closing parenthesis.
+    ///
+    /// # Errors
+    ///
+    /// Fails only if out of memory, and then changes nothing.
     pub fn add_comment(&mut self, text: &[u8]) -> Result<(), NoMemory>
         ensures ok { OnOk result (self.new ≡ record self.old { node = with_comment (without_braces text.now) self.old.node }) }
         ensures err { OnErr result (self.new ≡ self.old) }
@@ -169,7 +177,11 @@ impl Node {
         self.notes.add_comment(text)
     }
 
-    /// The same node again.
+    /// Returns a copy.
+    ///
+    /// # Errors
+    ///
+    /// Fails only if out of memory.
     pub fn copy(&self, alloc: Global) -> Result<Node, NoMemory>
         ensures { IfOk result (λ n. n ≡ self.now) }
     {

@@ -30,7 +30,7 @@ impl Model for Notes {
 }
 
 impl Notes {
-    /// No glyphs and no comments.
+    /// Returns no glyphs and no comments.
     pub fn new(alloc: Global) -> Notes
         ensures { result ≡ record { nags = []; comments = [] } }
     {
@@ -40,7 +40,7 @@ impl Notes {
         }
     }
 
-    /// The clause is what notes always keep.
+    /// Returns true. The clause is a property of all notes.
     pub fn are_kept(&self) -> bool
         ensures value { result ≡ true }
         ensures kept { AreKeptAnnotations self.now }
@@ -50,21 +50,21 @@ impl Notes {
         true
     }
 
-    /// The glyphs.
+    /// Returns the glyphs.
     pub fn nags(&self) -> &[u8]
         ensures { result.now ≡ self.now.nags }
     {
         self.nags.as_slice()
     }
 
-    /// How many comments there are.
+    /// Returns the number of comments.
     pub fn comments(&self) -> usize
         ensures { result ≡ length self.now.comments }
     {
         self.comments.len()
     }
 
-    /// Comment number `i`, counted from 0.
+    /// Returns comment number `i`, counted from 0.
     pub fn comment(&self, i: usize) -> &[u8]
         requires { i < length self.now.comments }
         ensures { result.now ≡ slice_index_or self.now.comments i [] }
@@ -72,7 +72,11 @@ impl Notes {
         self.comments.get(i)
     }
 
-    /// One glyph more; the first four take no memory.
+    /// Adds a glyph; the first four take no memory.
+    ///
+    /// # Errors
+    ///
+    /// Fails only if out of memory, and then changes nothing.
     pub fn add_nag(&mut self, nag: u8) -> Result<(), NoMemory>
         ensures ok { OnOk result (self.new ≡ record self.old { nags = self.old.nags ++ nag ∷ [] }) }
         ensures err { OnErr result (self.new ≡ self.old) }
@@ -82,8 +86,12 @@ impl Notes {
         Ok(())
     }
 
-    /// The comment of a text more: its words with single spaces between them, in which a closing brace becomes a closing parenthesis. A
-    /// text without words adds nothing.
+    /// Adds the comment of a text: its words with single spaces between them, and closing parentheses for closing
+    /// braces. A text without words adds nothing.
+    ///
+    /// # Errors
+    ///
+    /// Fails only if out of memory, and then changes nothing.
     pub fn add_comment(&mut self, text: &[u8]) -> Result<(), NoMemory>
         ensures ok { OnOk result (self.new ≡ record self.old {
           comments = self.old.comments ++ comment_of (words (without_braces text.now));
@@ -93,7 +101,7 @@ impl Notes {
         self.comments.add(text)
     }
 
-    /// The comments alone.
+    /// Returns the comments alone.
     pub fn without_nags(self, alloc: Global) -> Notes
         ensures { result ≡ record self { nags = [] } }
     {
@@ -103,7 +111,11 @@ impl Notes {
         }
     }
 
-    /// The same glyphs and comments again.
+    /// Returns a copy.
+    ///
+    /// # Errors
+    ///
+    /// Fails only if out of memory.
     pub fn copy(&self, alloc: Global) -> Result<Notes, NoMemory>
         ensures { IfOk result (λ n. n ≡ self.now) }
     {

@@ -4,7 +4,7 @@ ghost use Rattle.pgn_tree.specs.Results as markers;
 
 use cq_position::GameResult;
 
-/// The marker of a result, which ends the movetext (PGN standard, section 8.2.6).
+/// Returns the marker of a result, which ends the movetext (PGN standard, section 8.2.6).
 pub fn result_text(ending: GameResult) -> &'static [u8]
     ensures { result.now ≡ markers.result_text ending }
 {

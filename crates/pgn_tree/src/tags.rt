@@ -10,7 +10,7 @@ use std::marker::Model;
 
 /// The tags of a game (PGN standard, section 8.1), which contracts see as the list of their names and values.
 ///
-/// They stand in the order in which each name first stood, and no name stands twice.
+/// They are in the order in which each name first came, and names are distinct.
 #[derive(Drop)]
 pub struct Tags {
     alloc: Global,
@@ -33,7 +33,7 @@ impl Model for Tags {
 }
 
 impl Tags {
-    /// No tags. Takes no memory.
+    /// Returns no tags. Takes no memory.
     #[tactic(auto, using(crate::proofs::TagPairs::no_names))]
     pub fn new(alloc: Global) -> Tags
         ensures { result ≡ [] }
@@ -44,7 +44,7 @@ impl Tags {
         }
     }
 
-    /// How many tags there are.
+    /// Returns the number of tags.
     pub fn len(&self) -> usize
         ensures len { result ≡ length self.now }
         ensures kept { HaveDistinctNames self.now }
@@ -52,7 +52,7 @@ impl Tags {
         self.pairs.len()
     }
 
-    /// No name stands twice: the clause is what tags always keep.
+    /// Returns true. The clause is a property of all tags: names are distinct.
     pub fn have_distinct_names(&self) -> bool
         ensures value { result ≡ true }
         ensures names { HaveDistinctNames self.now }
@@ -62,7 +62,7 @@ impl Tags {
         true
     }
 
-    /// The value of the tag with a name; None where no tag has it.
+    /// Returns the value of the tag with a name; None if no tag has it.
     pub fn get(&self, name: &[u8]) -> Option<&[u8]>
         ensures { option_copied result ≡ tag_value name.now self.now }
     {
@@ -72,7 +72,7 @@ impl Tags {
         }
     }
 
-    /// The name of tag number `i`, counted from 0.
+    /// Returns the name of tag number `i`, counted from 0.
     pub fn name(&self, i: usize) -> &[u8]
         requires { i < length self.now }
         ensures { result.now ≡ (tag_at self.now i).0 }
@@ -83,7 +83,7 @@ impl Tags {
         }
     }
 
-    /// The value of tag number `i`, counted from 0.
+    /// Returns the value of tag number `i`, counted from 0.
     pub fn value(&self, i: usize) -> &[u8]
         requires { i < length self.now }
         ensures { result.now ≡ (tag_at self.now i).1 }
@@ -94,7 +94,11 @@ impl Tags {
         }
     }
 
-    /// Adds a tag; a name that is there keeps its value.
+    /// Adds a tag; a name that is present keeps its value.
+    ///
+    /// # Errors
+    ///
+    /// Fails only if out of memory, and then changes nothing.
     pub fn add(&mut self, name: &[u8], value: &[u8]) -> Result<(), NoMemory>
         ensures ok { OnOk result (self.new ≡ with_tag self.old name.now value.now) }
         ensures err { OnErr result (self.new ≡ self.old) }
@@ -108,7 +112,11 @@ impl Tags {
         Ok(())
     }
 
-    /// The same of bytes that are handed over and not copied.
+    /// Adds a tag of bytes that are moved and not copied; a name that is present keeps its value.
+    ///
+    /// # Errors
+    ///
+    /// Fails only if out of memory, and then changes nothing.
     pub fn add_owned(&mut self, name: Vec<u8>, value: Vec<u8>) -> Result<(), NoMemory>
         ensures ok { OnOk result (self.new ≡ with_tag self.old name.items value.items) }
         ensures err { OnErr result (self.new ≡ self.old) }
@@ -120,7 +128,11 @@ impl Tags {
         Ok(())
     }
 
-    /// The same tags again.
+    /// Returns a copy.
+    ///
+    /// # Errors
+    ///
+    /// Fails only if out of memory.
     pub fn copy(&self, alloc: Global) -> Result<Tags, NoMemory>
         ensures { IfOk result (λ t. t ≡ self.now) }
     {

@@ -1,4 +1,5 @@
--- Tag pairs: a bracket, words, a string and a bracket. An open game that has more before it, and no movetext, passes one at once.
+-- Tag pairs: a bracket, words, a string and a bracket. An open game that has more before it, and no movetext, passes
+-- one in one step.
 use Rattle.std.specs.Prelude.{◌≡◌, ℕ, ◌<◌, ◌&&◌, ◌||◌, ◌⊎◌, not, Bool, true, false, List, ◌∷◌, ◌++◌, length}
 use Rattle.std.specs.List.{AllByRecursion}
 use Rattle.cq_common.specs.Text.{is_white}
@@ -29,11 +30,12 @@ pub record IsPair (run : List ℕ) : Type 0 where
   pub closes : IsSettledAs (Token Close) (first_at (first_at false name (length name)) text (length text)) closing
   pub some : 0 < length closing
 
--- whether a tag pair leaves what is kept of a game as it is: there is more than comments, no movetext, and no pair is open
+-- true if a tag pair leaves the progress of a game as it is: there is more than comments, no movetext, and no pair is
+-- open
 abbrev pub passes_pairs : OpenGame → Bool
 passes_pairs game = game.has_more && not (game.has_movetext || game.in_pair)
 
--- white space, words that leave what is kept of a game as it is, or such a tag pair
+-- white space, words that leave the progress of a game as it is, or such a tag pair
 abbrev pub IsQuietRun : OpenGame → List ℕ → Type 0
 IsQuietRun game run = AllByRecursion (λ b. is_white b ≡ true) run
     ⊎ (((passes_words game ≡ true) × AreWords run) ⊎ ((passes_pairs game ≡ true) × IsPair run))

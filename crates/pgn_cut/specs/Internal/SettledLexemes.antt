@@ -10,7 +10,7 @@ use Rattle.pgn_lexer.specs.declared.token.TokenKind.TheVariants.{Open, Close, Te
 use Rattle.pgn_cut.specs.Cut.{marks}
 use Rattle.pgn_cut.specs.declared.settled_lexeme.SettledLexeme.{SettledLexeme}
 
--- whether no byte goes on with a lexeme of this kind
+-- true if no byte continues a lexeme of this kind
 abbrev pub is_whole : LexemeKind → Bool
 is_whole (Token Open) = true
 is_whole (Token Close) = true
@@ -23,7 +23,8 @@ is_whole (Token Null) = true
 is_whole (Token Comment) = true
 is_whole _ = false
 
--- a reading of some bytes ends there whatever follows them, and so many bytes are taken: with white space after it, or none is wanted
+-- a reading of some bytes ends there whatever follows them, and `taken` bytes are taken, with white space after it
+-- unless none is needed
 abbrev pub IsSettled : List ℕ → Reading → ℕ → Type 0
 IsSettled bytes r taken =
     ((taken ≡ r.len + 1) × (r.len < length bytes) × (is_white (slice_index bytes r.len) ≡ true) × (runs_on r.kind ≡ false))

@@ -1,4 +1,5 @@
--- Words: symbols that mark no result, and periods, with white space between them. An open game with movetext passes them many at once.
+-- Words: symbols that mark no result, and periods, with white space between them. An open game with movetext passes
+-- many in one step.
 use Rattle.std.specs.Prelude.{◌≡◌, ℕ, Bool, true, false, ◌==◌, ◌||◌, ◌&&◌, List, [], ◌∷◌, codes, if◌then◌else◌}
 use Rattle.std.specs.Char.{is_ascii_alphanumeric}
 use Rattle.std.specs.List.{AllByRecursion, list_any}
@@ -10,7 +11,7 @@ use Rattle.pgn_cut.specs.declared.game.OpenGame.{OpenGame}
 abbrev pub is_plain : ℕ → Bool
 is_plain b = is_white b || is_ascii_alphanumeric b || list_any (λ c. b == c) (codes "._+#=:")
 
--- whether a symbol is open after some bytes; `open_` says so of the place before them
+-- true if a symbol is open after some bytes; `open_` is the value before them
 abbrev pub ends_in_symbol : (open_ : Bool) → List ℕ → Bool
 ends_in_symbol open_ [] = open_
 ends_in_symbol open_ (b ∷ bs) = ends_in_symbol (if open_ then continues_symbol b else is_ascii_alphanumeric b) bs
@@ -19,6 +20,6 @@ ends_in_symbol open_ (b ∷ bs) = ends_in_symbol (if open_ then continues_symbol
 abbrev pub AreWords : List ℕ → Type 0
 AreWords run = AllByRecursion (λ b. is_plain b ≡ true) run × (ends_in_symbol false run ≡ false)
 
--- whether words leave what is kept of a game as it is: it has movetext, or a tag pair is open
+-- true if words leave the progress of a game as it is: it has movetext, or a tag pair is open
 abbrev pub passes_words : OpenGame → Bool
 passes_words game = game.has_more && (game.has_movetext || game.in_pair)

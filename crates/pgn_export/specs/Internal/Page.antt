@@ -1,17 +1,17 @@
--- How the text of a game grows by words, as the private functions give it.
+-- The growth of the text of a game by words, as the private functions give it.
 use Rattle.std.specs.Prelude.{ℕ, ◌+◌, ◌-◌, nat_le, List, ◌∷◌, ◌++◌, length, slice_set, if◌then◌else◌}
 use Rattle.std.specs.List.{fold}
 use Rattle.pgn_lexer.specs.Bytes.{line_feed}
 use Rattle.pgn_export.specs.Internal.Column.{gap, next_column}
 use Rattle.pgn_export.specs.Lines.{widest}
 
--- what is written, how many bytes its last line has, and the place of the byte before its last word
+-- the text, the number of bytes of its last line, and the place of the byte before its last word
 pub record Page : Type 0 where
   pub text : List ℕ
   pub column : ℕ
   pub gap : ℕ
 
--- after whole lines the first word begins a new one
+-- after complete lines the first word begins a new one
 abbrev pub after_lines : List ℕ → Page
 after_lines text = record { text = text; column = widest; gap = 0 }
 
@@ -27,7 +27,7 @@ abbrev pub with_last_in_new_line : Page → Page
 with_last_in_new_line p =
     record { text = slice_set p.text p.gap line_feed; column = length p.text - p.gap - 1; gap = p.gap }
 
--- more bytes at the end of the last word, which stands in a new line where there is no room for them
+-- more bytes at the end of the last word, which moves to a new line if there is no room for them
 unfoldable pub with_longer_word : Page → List ℕ → Page
 with_longer_word p more =
     if nat_le (p.column + length more) widest then record { text = p.text ++ more; column = p.column + length more; gap = p.gap }

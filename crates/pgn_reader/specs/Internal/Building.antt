@@ -1,4 +1,4 @@
--- How a game is built of the rows of its line.
+-- The construction of a game from the rows of its line.
 use Rattle.std.specs.Prelude.{ℕ, ◌-◌, ◌<◌, List, length, Contains}
 use Rattle.cq_position.specs.Games.{Node, most_positions, node_at, way_up}
 use Rattle.cq_position.specs.Legal.{Leads}

@@ -18,9 +18,10 @@ unfoldable pub rows : ℕ → Continuations → List NodeRow
 rows level none = []
 rows level (played move next others) = record { level = level; move = move } ∷ (rows (level + 1) next ++ rows level others)
 
--- Where a line stands, the levels of its last move and of the next, and the last move, none before the first of a variation; at the root
--- the null move stands for it. The glyphs and comments are the last move's, or wait for the first. Then the nodes of its earlier moves, of
--- the variations after its last move, and of those after the earlier moves.
+-- The place reached in a line, the levels of its last move and of the next, and the last move. Before the first move of
+-- a variation there is none; at the root the null move takes its place. The glyphs and comments are the last move's, or
+-- are kept for the first. Then the nodes of its earlier moves, of the variations after its last move, and of those
+-- after the earlier moves.
 pub record Frame : Type 0 where
   pub before : Option Board
   pub reached : Board
@@ -81,7 +82,7 @@ begin_game p = record {
   earlier = [];
 }
 
--- what waits for the first move goes over to it
+-- the glyphs or comments that are kept for the first move
 abbrev pub carried_notes : {A : Type 0} → Option Move → List A → List A
 carried_notes None xs = xs
 carried_notes (Some m) xs = []
@@ -101,7 +102,7 @@ advance f m q = record {
   earlier = f.here ++ f.earlier;
 }
 
--- the first two steps of that
+-- the first two steps of `advance`
 abbrev pub with_last_kept : Frame → Frame
 with_last_kept f = record f { nags = carried_notes f.last f.nags; comments = carried_notes f.last f.comments; moves = f.moves ++ last_row f }
 

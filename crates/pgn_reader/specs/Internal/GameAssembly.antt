@@ -8,11 +8,12 @@ use Rattle.pgn_reader.specs.ReadingPlace.{ReadingPlace, after_opening, after_nam
 use Rattle.pgn_reader.specs.Internal.Frame.{NodeRow, Frame, place, whole}
 use Rattle.pgn_reader.specs.Internal.Machine.{Head, State, opened, named, valued, at, ended, stuck}
 
--- the way down to a node at a level, and then that node
+-- the path down to a node at a level, and then that node
 abbrev pub path_down : List ℕ → ℕ → ℕ → List ℕ
 path_down way level k = take (level + 1) way ++ k ∷ []
 
--- nodes numbered from k on; `way` has the numbers on the way down from the root to the node before, of which a row's level picks its parent
+-- nodes numbered from k on; `way` has the numbers on the path down from the root to the node before, and a row's level
+-- selects its parent there
 unfoldable pub nodes_by : (way : List ℕ) → (k : ℕ) → List NodeRow → List Node
 nodes_by way k [] = []
 nodes_by way k (r ∷ rs) = node_of (slice_index way r.level) r.move ∷ nodes_by (path_down way r.level k) (k + 1) rs
@@ -22,11 +23,11 @@ abbrev pub nodes_of_rows : List NodeRow → List Node
 nodes_of_rows [] = []
 nodes_of_rows (r ∷ rs) = root r.move.position r.move.comments ∷ nodes_by (0 ∷ []) 1 rs
 
--- the game that a line at the outermost level gives
+-- the game of a line at the outermost level
 abbrev pub game_of_frame : Head → Frame → GameResult → Game
 game_of_frame h f result = record { tags = h.tags; result = result; nodes = nodes_of_rows (whole f) }
 
--- where the tokens stand of which a state is reached
+-- the place of the tokens that lead to a state
 abbrev pub reading_place_of : State → ReadingPlace
 reading_place_of (opened tags) = after_opening tags
 reading_place_of (named tags name) = after_name tags name

@@ -1,4 +1,4 @@
--- What contracts see of a line that is being read.
+-- The view of a line, while it is read, in contracts.
 use Rattle.std.specs.Prelude.{List, flat_map, reverse}
 use Rattle.pgn_reader.specs.declared.line.Line.TheInside.{Inside}
 use Rattle.pgn_reader.specs.Internal.Frame.{NodeRow, Frame}

@@ -15,15 +15,16 @@ use Rattle.pgn_reader.specs.Line.{led_to}
 use Rattle.pgn_reader.specs.Internal.Frame.{Frame, begin, begin_game, advance, with_glyph, with_remark, with_variation}
 use Rattle.pgn_reader.specs.Limits.{most_levels}
 
--- the tags, the position in which the game begins, whether tag pairs may still come, and the number of the moves so far
+-- the tags, the position in which the game begins, and the number of the moves so far; `heading` is true if tag pairs
+-- may still come
 pub record Head : Type 0 where
   pub tags : Tags
   pub start : Board
   pub heading : Bool
   pub moves : ℕ
 
--- within a tag pair; or in the movetext, in a line, with the lines that are open around it, the innermost first; or after the marker; or
--- stuck
+-- The state of reading: within a tag pair, in the movetext, after the marker, or stuck. In the movetext it has the
+-- line, and the lines that are open around it, the innermost first.
 pub data State : Type 0 where
   opened : Tags → State
   named : Tags → List ℕ → State
@@ -44,7 +45,7 @@ one_more h = record h { heading = false; moves = h.moves + 1 }
 abbrev pub after_pairs : Tags → Board → State
 after_pairs tags start = at (record { tags = tags; start = start; heading = true; moves = 0 }) (begin_game start) []
 
--- what the next token leads to where it is to be a tag's name, its value, or the `]` after that
+-- the state after the next token if it must be a tag's name, its value, or the `]` after that
 abbrev pub on_name : Tags → TokenKind → List ℕ → State
 on_name tags Symbol text = named tags text
 on_name tags _ text = stuck
@@ -61,8 +62,8 @@ abbrev pub on_closing : Tags → Board → TokenKind → State
 on_closing tags start Close = after_pairs tags start
 on_closing tags start _ = stuck
 
--- what a token of the movetext leads to: a move, a marker, the beginning or the end of a variation, which may be at most the hundredth
--- level, a `[`, and any other token
+-- The state after a token of the movetext: a move, a marker, the beginning or the end of a variation, a `[`, and any
+-- other token. A variation may be at most of the hundredth level.
 abbrev pub on_move : Head → Frame → List Frame → Result Move SanFault → State
 on_move h f k (Err fault) = stuck
 on_move h f k (Ok m) = at (one_more h) (advance f m (led_to f.reached m)) k

@@ -1,4 +1,4 @@
--- What contracts see of a node that is being read.
+-- The view of a node, while it is read, in contracts.
 use Rattle.pgn_reader.specs.declared.node_row.NodeRow.TheInside.{Inside}
 use Rattle.pgn_reader.specs.Internal.Frame.{NodeRow}
 

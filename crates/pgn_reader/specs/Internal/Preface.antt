@@ -11,7 +11,7 @@ pub record Preface : Type 0 where
   pub tags : Tags
   pub start : Board
 
--- what adding a tag answers, where these are the tags with it: the text of the tag FEN may be no position
+-- the result of adding a tag, if these are the tags with it: the text of the tag FEN may be no position
 abbrev pub IsAdded : Tags → Preface → Result (Unit {0}) (Refusal FenFault) → Type 0
 IsAdded tags p (Ok done) = (p.tags ≡ tags) × (start_of tags ≡ Ok p.start)
 IsAdded tags p (Err (Fault fault)) = start_of tags ≡ Err fault

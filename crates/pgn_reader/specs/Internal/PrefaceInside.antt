@@ -1,4 +1,4 @@
--- What contracts see of the tags that are being read.
+-- The view of the tags, while they are read, in contracts.
 use Rattle.pgn_reader.specs.declared.preface.Preface.TheInside.{Inside}
 use Rattle.pgn_reader.specs.Internal.Preface.{Preface}
 

@@ -1,4 +1,4 @@
--- What contracts see of a game that is being read.
+-- The view of a game, while it is read, in contracts.
 use Rattle.std.specs.Prelude.{◌≡◌, ◌≢◌, ℕ, ◌≤◌, List, [], ◌∷◌, length, reverse, Option, Some, Result, Ok, Err}
 use Rattle.cq_common.specs.declared.faults.Refusal.{Refusal}
 use Rattle.cq_common.specs.declared.faults.Refusal.TheVariants.{Fault, NoMemory}
@@ -30,14 +30,14 @@ state_by_phase (Ended result) r = ended (head_of r) r.line result
 abbrev pub state_of : Reader → State
 state_of r = state_by_phase r.phase r
 
--- how many moves were read
+-- the number of moves that were read
 abbrev pub moves_in : State → ℕ
 moves_in (at h f k) = h.moves
 moves_in (ended h f result) = h.moves
 moves_in _ = 0
 
--- A step of the reader: it goes on to a state, or it is refused. A refusal gives the reason, and there the state would be stuck, but where
--- the limit of positions is passed.
+-- A step of the reader: it reaches a state, or fails. A failure gives the reason. The state would then be stuck, unless
+-- the limit of positions is exceeded.
 abbrev pub Steps : State → Option Reason → State → Result (Unit {0}) (Refusal Reason) → Type 0
 Steps next reason s (Ok done) = (next ≡ s) × (moves_in s ≤ most_moves)
 Steps next reason s (Err (Fault found)) = (reason ≡ Some found) × (found ≢ TooManyPositions → next ≡ stuck)
@@ -50,7 +50,7 @@ StepsOver before EscapeLine text s (Err found) = ⊥
 StepsOver before (Token kind) text s result =
     Steps (feed before (record { kind = kind; text = text })) (fault_at (reading_place_of before) (record { kind = kind; text = text })) s result
 
--- a step of the movetext, by what a token means there
+-- a step of the movetext, by the meaning of a token there
 abbrev pub IsSenseStep : Reader → TokenKind → Sense → Reader → Result (Unit {0}) (Refusal Reason) → Type 0
 IsSenseStep r kind s t result =
     Steps (on_sense (head_of r) r.line (reverse r.around.items) kind s)

@@ -1,4 +1,4 @@
--- What reading the tokens of a game answers, as the private functions give it.
+-- The result of reading the tokens of a game, as the private functions give it.
 use Rattle.std.specs.Prelude.{◌≡◌, ◌≤◌, ℕ, Bool, List, None, Result, Ok, Err}
 use Rattle.cq_position.specs.declared.games.GameResult.{GameResult}
 use Rattle.cq_position.specs.Games.{Game}
@@ -21,7 +21,7 @@ pub record IsWhole (ts : List Word) (r : Reader) : Type 0 where
   pub few : moves_in (state_of r) ≤ most_moves
   pub ends : fault_at_end (reading_place_of (state_of r)) ≡ None
 
--- what is read of the bytes of a game, of which there are not too many
+-- the reading of the bytes of a game, if they are not too many
 abbrev pub IsReading : (start : ℕ) → (first : Bool) → (bytes : List ℕ) → Result Reader GameFault → Type 0
 IsReading start first bytes (Ok r) = IsWhole (words_of start first bytes) r
 IsReading start first bytes (Err f) = HasTokenFault start first bytes f

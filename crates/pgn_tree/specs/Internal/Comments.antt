@@ -1,14 +1,14 @@
--- Comments that stand one after the other in one text.
+-- Comments, one after the other in one text.
 use Rattle.std.specs.Prelude.{◌≡◌, ℕ, ◌≤◌, List, [], ◌∷◌, length, slice_index_or, slice_range, All}
 use Rattle.cq_position.specs.Games.{IsComment}
 use Rattle.pgn_tree.specs.declared.comments.Comments.TheInside.{Inside}
 
--- the parts of a text from a place on, by where they end
+-- the parts of a text from a place on, by their ends
 unfoldable pub parts : List ℕ → (from : ℕ) → (ends : List ℕ) → List (List ℕ)
 parts text from [] = []
 parts text from (end ∷ ends) = slice_range text from end ∷ parts text end ends
 
--- where a part begins: where the one before it ends
+-- the beginning of a part: the end of the one before it
 abbrev pub start_of : (from : ℕ) → (ends : List ℕ) → ℕ → ℕ
 start_of from ends i = slice_index_or (from ∷ ends) i 0
 

@@ -48,7 +48,7 @@ link-requires-clause-parent c =
     let longer = ap length c.in_ok-push.ensures.items ∙ length-append items (c.new.result ∷ []) in
     omega (arith, c.requires.node, length_nodes_of items, ap (λ g. length g.nodes) c.self.view_is, longer)
 
--- where there was no memory, nothing has changed
+-- out of memory nothing has changed
 pub invariant_of-self : goal.invariant_of-self
 invariant_of-self c = subst HasKeptAnnotations (sym c.in_err-push.ensures.items) c.self.invariant
 
