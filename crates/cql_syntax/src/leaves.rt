@@ -4,7 +4,7 @@ ghost use Rattle.cql_syntax.specs.Kinds.{plain_kind, unary_kind, chain_kind, pai
 
 use cq_symmetry::SquarePart;
 
-/// What a filter gives at a position of a game.
+/// The kind of a filter's value at a position of a game.
 #[derive(Clone, Copy, Debug, PartialEq, Eq)]
 pub enum Kind {
     /// A truth value.
@@ -49,7 +49,7 @@ impl Plain {
     }
 }
 
-/// Whose tag or rating is meant.
+/// The player whose tag or rating is meant.
 #[derive(Clone, Copy, Debug, PartialEq, Eq)]
 pub enum Of {
     Either,
@@ -57,7 +57,7 @@ pub enum Of {
     Black,
 }
 
-/// A tag of the game whose text is searched.
+/// A tag of the game in whose value a text is searched for.
 #[derive(Clone, Copy, Debug, PartialEq, Eq)]
 pub enum Field {
     Player(Of),
@@ -85,15 +85,15 @@ pub enum Way {
     Northwest,
     Southeast,
     Southwest,
-    /// The four slanted directions.
+    /// The four diagonal directions.
     Diagonal,
     /// Up, down, left and right.
     Orthogonal,
-    /// All eight.
+    /// All eight directions.
     AnyDirection,
 }
 
-/// A filter's word or mark that stands before one part.
+/// A filter's word or mark before its one part.
 #[derive(Clone, Copy, Debug, PartialEq, Eq)]
 pub enum Unary {
     Not,
@@ -175,7 +175,7 @@ impl Pair {
     }
 }
 
-/// How often a part of a line stands.
+/// The number of times that a part of a line occurs.
 #[derive(Clone, Copy, Debug, PartialEq, Eq)]
 pub enum Mark {
     Once,
