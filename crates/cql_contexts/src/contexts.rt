@@ -1,4 +1,5 @@
-//! What stands for a leaf of a query in a context: each mapping of the context maps it in turn, the innermost first.
+//! The image of a leaf of a query in a context. Each mapping of the context maps the leaf in turn, the innermost
+//! first.
 ghost use Rattle.std.specs.Prelude.{◌≡◌, ◌∷◌, IfOk, if◌then◌else◌};
 ghost use Rattle.cql_syntax.specs.Contexts as spec;
 
@@ -8,7 +9,11 @@ use cq_symmetry::{Mapping, changes_light, image, image_compass};
 use cql_syntax::{Designator, Field, Of, Outcome, Plain, Unary, Way};
 use std::alloc::Global;
 
-/// A context with one more mapping inside.
+/// Returns a context with one more mapping inside.
+///
+/// # Errors
+///
+/// Returns `NoMemory` if memory runs out.
 pub fn inside(alloc: Global, first: Mapping, context: &[Mapping]) -> Result<Vec<Mapping>, NoMemory>
     ensures { IfOk result (λ g. g.items ≡ first ∷ context.now) }
 {
@@ -18,7 +23,7 @@ pub fn inside(alloc: Global, first: Mapping, context: &[Mapping]) -> Result<Vec<
     Ok(longer)
 }
 
-/// The image of a designator, where its squares have one.
+/// Returns the image of a designator. There is none once all its squares have left the board.
 #[tactic(auto, unfolding(cql_syntax::specs::Contexts::designator_image))]
 pub fn designator_image(context: &[Mapping], d: &Designator) -> Option<Designator>
     ensures { result ≡ spec.designator_image context.now d.now }
@@ -38,7 +43,7 @@ fn image_of_designator(m: Mapping, d: Designator) -> Option<Designator>
     Some(Designator { men, part })
 }
 
-// The men, with their colours exchanged where that is asked.
+// The men, with their colours exchanged if the flag is true.
 fn image_of_men(exchange: bool, men: u16) -> u16
     ensures { result ≡ (if exchange then spec.men_exchanged men else men) }
 {

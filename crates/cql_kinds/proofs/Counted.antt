@@ -1,4 +1,4 @@
--- A walk finds the same where `square` are counted to one more than may be nested.
+-- A walk has the same result if `square` are counted up to one more than may be nested.
 use Rattle.std.proofs.Common.{◌≡◌, ℕ, ◌+◌, Bool, true, false, cond, List, [], ◌∷◌, ◌++◌, map, filter, None, refl, sym, ◌∙◌, ap, ap₂, arith}
 use Rattle.std.proofs.lemmas.List.{map-append}
 use Rattle.std.specs.Prelude.{min, nat_eq}
