@@ -54,6 +54,7 @@ fn image_of_men(exchange: bool, men: u16) -> u16
     }
 }
 
+/// Returns the image of a word: an exchange of colours exchanges the sides to move.
 pub fn word_image(context: &[Mapping], word: Plain) -> Plain
     ensures { result ≡ spec.word_image context.now word }
 {
@@ -74,6 +75,7 @@ fn word_under(exchange: bool, word: Plain) -> Plain
     }
 }
 
+/// Returns the image of a player: an exchange of colours exchanges White and Black.
 pub fn of_image(context: &[Mapping], of: Of) -> Of
     ensures { result ≡ spec.of_image context.now of }
 {
@@ -94,6 +96,7 @@ fn of_under(exchange: bool, of: Of) -> Of
     }
 }
 
+/// Returns the image of a tag: an exchange of colours exchanges the players.
 pub fn field_image(context: &[Mapping], field: Field) -> Field
     ensures { result ≡ spec.field_image context.now field }
 {
@@ -114,6 +117,7 @@ fn field_under(exchange: bool, field: Field) -> Field
     }
 }
 
+/// Returns the image of a result: an exchange of colours exchanges the wins.
 pub fn outcome_image(context: &[Mapping], outcome: Outcome) -> Outcome
     ensures { result ≡ spec.outcome_image context.now outcome }
 {
@@ -134,6 +138,7 @@ fn outcome_under(exchange: bool, outcome: Outcome) -> Outcome
     }
 }
 
+/// Returns the image of a word before a part: some mappings exchange `light` and `dark`.
 pub fn unary_image(context: &[Mapping], word: Unary) -> Unary
     ensures { result ≡ spec.unary_image context.now word }
 {
@@ -154,6 +159,7 @@ fn unary_under(exchange: bool, word: Unary) -> Unary
     }
 }
 
+/// Returns the image of a direction. The words for several directions stay as they are.
 pub fn way_image(context: &[Mapping], way: Way) -> Way
     ensures { result ≡ spec.way_image context.now way }
 {

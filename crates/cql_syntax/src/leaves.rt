@@ -37,6 +37,7 @@ pub enum Plain {
 }
 
 impl Plain {
+    /// Returns the kind of the filter's value.
     pub fn kind(self) -> Kind
         ensures { result ≡ plain_kind self }
     {
@@ -112,6 +113,7 @@ pub enum Unary {
 }
 
 impl Unary {
+    /// Returns the kind of the filter's value.
     pub fn kind(self) -> Kind
         ensures { result ≡ unary_kind self }
     {
@@ -139,6 +141,7 @@ pub enum Chain {
 }
 
 impl Chain {
+    /// Returns the kind of the filter's value.
     pub fn kind(self) -> Kind
         ensures { result ≡ chain_kind self }
     {
@@ -164,6 +167,7 @@ pub enum Pair {
 }
 
 impl Pair {
+    /// Returns the kind of the filter's value.
     pub fn kind(self) -> Kind
         ensures { result ≡ pair_kind self }
     {
