@@ -43,12 +43,12 @@ token_at expected at text =
       | Err reason ↦ Err (record { byte = at; reason = reason })
     ]
 
--- the result of a function of a value; a fault stays
+-- the result of a function applied to a value; a fault stays
 abbrev pub result_and_then : {X Y E : Type 0} → (X → Result Y E) → Result X E → Result Y E
 result_and_then f (Ok x) = f x
 result_and_then f (Err e) = Err e
 
--- the tokens with these before them
+-- the tokens with other tokens before them, or the fault
 abbrev pub with_front : List QueryToken → Result (List QueryToken) QueryFault → Result (List QueryToken) QueryFault
 with_front front (Ok tokens) = Ok (front ++ tokens)
 with_front front (Err fault) = Err fault

@@ -36,7 +36,7 @@ IsTableOf table Reach (joined p q) (joined r s) = IsTableOf table Reach p r × I
 IsTableOf table Reach (repeated l m p) (repeated k o r) = (l ≡ k) × (m ≡ o) × IsTableOf table Reach p r
 IsTableOf table Reach p r = ⊥
 
--- At a searched node, the value of a line is a greatest length: of the ways that the table's pattern spells and the extent allows.
+-- The value of a line at a searched node is the greatest length of those ways that the table's pattern spells and the extent allows.
 abbrev pub TablesGiveLines : Type 0
 TablesGiveLines =
     (tree : SearchedTree) → IsTree tree.game.nodes → (back primary : Bool) (above : ℕ → Option ℕ) → AreParents tree primary above
