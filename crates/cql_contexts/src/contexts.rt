@@ -1,4 +1,5 @@
-//! What stands for a leaf of a query in a context: each mapping of the context maps it in turn, the innermost first.
+//! The image of a leaf of a query in a context. Each mapping of the context maps the leaf in turn, the innermost
+//! first.
 ghost use Rattle.std.specs.Prelude.{◌≡◌, ◌∷◌, IfOk, if◌then◌else◌};
 ghost use Rattle.cql_syntax.specs.Contexts as spec;
 
@@ -8,7 +9,11 @@ use cq_symmetry::{Mapping, changes_light, image, image_compass};
 use cql_syntax::{Designator, Field, Of, Outcome, Plain, Unary, Way};
 use std::alloc::Global;
 
-/// A context with one more mapping inside.
+/// Returns a context with one more mapping inside.
+///
+/// # Errors
+///
+/// Returns `NoMemory` if memory runs out.
 pub fn inside(alloc: Global, first: Mapping, context: &[Mapping]) -> Result<Vec<Mapping>, NoMemory>
     ensures { IfOk result (λ g. g.items ≡ first ∷ context.now) }
 {
@@ -18,7 +23,7 @@ pub fn inside(alloc: Global, first: Mapping, context: &[Mapping]) -> Result<Vec<
     Ok(longer)
 }
 
-/// The image of a designator, where its squares have one.
+/// Returns the image of a designator. There is none once all its squares have left the board.
 #[tactic(auto, unfolding(cql_syntax::specs::Contexts::designator_image))]
 pub fn designator_image(context: &[Mapping], d: &Designator) -> Option<Designator>
     ensures { result ≡ spec.designator_image context.now d.now }
@@ -38,7 +43,7 @@ fn image_of_designator(m: Mapping, d: Designator) -> Option<Designator>
     Some(Designator { men, part })
 }
 
-// The men, with their colours exchanged where that is asked.
+// The men, with their colours exchanged if the flag is true.
 fn image_of_men(exchange: bool, men: u16) -> u16
     ensures { result ≡ (if exchange then spec.men_exchanged men else men) }
 {
@@ -49,6 +54,7 @@ fn image_of_men(exchange: bool, men: u16) -> u16
     }
 }
 
+/// Returns the image of a word: an exchange of colours exchanges the sides to move.
 pub fn word_image(context: &[Mapping], word: Plain) -> Plain
     ensures { result ≡ spec.word_image context.now word }
 {
@@ -69,6 +75,7 @@ fn word_under(exchange: bool, word: Plain) -> Plain
     }
 }
 
+/// Returns the image of a player: an exchange of colours exchanges White and Black.
 pub fn of_image(context: &[Mapping], of: Of) -> Of
     ensures { result ≡ spec.of_image context.now of }
 {
@@ -89,6 +96,7 @@ fn of_under(exchange: bool, of: Of) -> Of
     }
 }
 
+/// Returns the image of a tag: an exchange of colours exchanges the players.
 pub fn field_image(context: &[Mapping], field: Field) -> Field
     ensures { result ≡ spec.field_image context.now field }
 {
@@ -109,6 +117,7 @@ fn field_under(exchange: bool, field: Field) -> Field
     }
 }
 
+/// Returns the image of a result: an exchange of colours exchanges the wins.
 pub fn outcome_image(context: &[Mapping], outcome: Outcome) -> Outcome
     ensures { result ≡ spec.outcome_image context.now outcome }
 {
@@ -129,6 +138,7 @@ fn outcome_under(exchange: bool, outcome: Outcome) -> Outcome
     }
 }
 
+/// Returns the image of a word before a part: some mappings exchange `light` and `dark`.
 pub fn unary_image(context: &[Mapping], word: Unary) -> Unary
     ensures { result ≡ spec.unary_image context.now word }
 {
@@ -149,6 +159,7 @@ fn unary_under(exchange: bool, word: Unary) -> Unary
     }
 }
 
+/// Returns the image of a direction. The words for several directions stay as they are.
 pub fn way_image(context: &[Mapping], way: Way) -> Way
     ensures { result ≡ spec.way_image context.now way }
 {

@@ -1,4 +1,4 @@
-//! Whether a filter fits a context.
+//! The test of a filter against a context.
 ghost use Rattle.std.specs.Prelude.{◌≡◌, ◌∷◌, IfOk};
 ghost use Rattle.std.specs.List.{list_any};
 ghost use Rattle.cq_symmetry.specs.Families.{members};
@@ -11,8 +11,12 @@ use cq_symmetry::{Family, Mapping, member, size};
 use cql_syntax::{Body, Constituents, Filter, Filters, Form, Played, Terms};
 use std::alloc::Global;
 
-/// Whether a filter fits a context: each designator in it that stands in no family has an image, and each family in it that stands in no
-/// other has a member with which its part fits.
+/// Returns true if a filter fits a context. Each designator in it outside of families must have an image, and each outermost family in
+/// it must have a member with which its part fits.
+///
+/// # Errors
+///
+/// Returns `NoMemory` if memory runs out.
 #[cycle(fit)]
 #[tactic(auto, unfolding(cql_syntax::specs::Meaning::fits))]
 pub fn fits(alloc: Global, f: &Filter, context: &[Mapping]) -> Result<bool, NoMemory>
@@ -41,7 +45,7 @@ pub fn fits(alloc: Global, f: &Filter, context: &[Mapping]) -> Result<bool, NoMe
     }
 }
 
-// Whether a filter fits with some member of a family inside of the context.
+// True if a filter fits with some member of a family inside of the context.
 #[cycle(fit)]
 fn member_fits(
     alloc: Global,

@@ -1,6 +1,7 @@
-//! Contexts of mappings: what stands for a leaf of a query inside of the families around it, and whether a filter fits there.
+//! Contexts of mappings: the image of a leaf of a query inside of the families around it, and the test of a filter against a
+//! context.
 //!
-//! `cql_syntax/specs/Contexts` has the images, `cql_syntax/specs/Meaning` what fits.
+//! `cql_syntax/specs/Contexts` defines the images, and `cql_syntax/specs/Meaning` the filters that fit.
 #![tactic(auto)]
 
 pub mod contexts;

@@ -1,4 +1,4 @@
--- What a walk finds in the forms that have several parts.
+-- The results of a walk in the forms that have several parts.
 use Rattle.std.proofs.Common.{◌≡◌, Bool, ℕ, List, ◌++◌, refl, ◌∙◌, ap, ap₂}
 use Rattle.cq_symmetry.specs.declared.families.Family.{Family}
 use Rattle.cql_syntax.specs.Kinds.{chain_kind}
@@ -19,7 +19,7 @@ use Rattle.cql_kinds.specs.Internal.TypingContexts.{counted}
 use Rattle.cql_kinds.specs.Internal.Walks.{walk_result}
 use Rattle.cql_kinds.proofs.Counted.{both_counted}
 
--- the same filter that stands alike
+-- the same filter in the same context
 pub same_place : {s t : TypingContext} {f g : Filter} → s ≡ t → f ≡ g → occurrences s (filter_tree f) ≡ occurrences t (filter_tree g)
 same_place p q = ap₂ (λ s f. occurrences s (filter_tree f)) p q
 

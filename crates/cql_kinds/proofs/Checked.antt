@@ -1,4 +1,4 @@
--- The fault of a query from what is found in its filters.
+-- The fault of a query, from the results of the walks over its filters.
 use Rattle.std.proofs.Common.{◌≡◌, ℕ, Bool, true, false, List, [], ◌∷◌, ◌++◌, map, nat_lt, unwrap_or, Option, Some, None, Ok, Err, refl, ◌∙◌, ap, ap₂}
 use Rattle.std.specs.List.{flat_map}
 use Rattle.std.specs.Option.{option_or}

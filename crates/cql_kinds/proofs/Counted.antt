@@ -1,4 +1,4 @@
--- A walk finds the same where `square` are counted to one more than may be nested.
+-- A walk has the same result if `square` are counted up to one more than may be nested.
 use Rattle.std.proofs.Common.{◌≡◌, ℕ, ◌+◌, Bool, true, false, cond, List, [], ◌∷◌, ◌++◌, map, filter, None, refl, sym, ◌∙◌, ap, ap₂, arith}
 use Rattle.std.proofs.lemmas.List.{map-append}
 use Rattle.std.specs.Prelude.{min, nat_eq}
@@ -52,7 +52,7 @@ walked_seen : (firsts : FirstBreaches) (os : List Occurrence) → walk_result fi
 unfolding walk_result
 walked_seen firsts os = ap₂ (λ found faults. ok_unless found (first faults)) (firsts_seen firsts os) (faults_seen os)
 
--- filters of two standings that are counted alike are seen alike
+-- filters in two contexts that are counted alike have the same results
 
 counted_more : (n : ℕ) → min (n + 1) 5 ≡ min (min n 5 + 1) 5
 counted_more n = grind arith

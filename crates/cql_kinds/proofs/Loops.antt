@@ -1,4 +1,4 @@
--- What a walk finds in lists, item by item.
+-- The results of a walk in lists, item by item.
 use Rattle.std.proofs.Common.{◌≡◌, ◌≤◌, ◌<◌, ℕ, ◌+◌, List, ◌∷◌, ◌++◌, drop, get_or, length, Ok, sym, ◌∙◌, ap}
 use Rattle.std.proofs.lemmas.List.{drop_more, drop_all}
 use Rattle.cql_syntax.specs.Occurrences.{TypingContext, top_item, occurrences, all_of, of_terms, of_parts, of_body, of_items, sorts_with}
@@ -47,7 +47,7 @@ pub parts_end : (s : TypingContext) (found : FirstBreaches) (cs : List Constitue
 unfolding of_parts
 parts_end s found cs i past = ap (λ xs. walk_result found (of_parts s (part_trees xs))) (drop_all i cs past) ∙ walked_none found
 
--- what a loop over the top items keeps: the sort items so far, the items so far, and what is found with the others
+-- the invariant of a loop over the top items: the sort items so far, the items so far, and the result with the others
 pub record IsItemsLeft (sorts items : ℕ) (found : FirstBreaches) (rest whole : FilterTrees) : Type 0 where
   pub bounded : sorts ≤ items
   pub joined : walk_result found (of_items sorts rest) ≡ walk_result (no_breaches) (of_items 0 whole)

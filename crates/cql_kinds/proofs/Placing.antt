@@ -1,4 +1,4 @@
--- What a loop over the parts of a line keeps of their places.
+-- The invariant of a loop over the parts of a line: their places.
 use Rattle.std.proofs.Common.{◌≡◌, ℕ, ◌+◌, ◌≤◌, min}
 
 -- the total so far, the places of the parts that are left, and the places of all of them

@@ -1,4 +1,4 @@
--- What is found in filters in a row is found in the first of them and then in the others.
+-- The result of a walk over filters in a row is that of the first one and then of the others.
 use Rattle.std.proofs.Common.{◌≡◌, ℕ, Bool, List, [], ◌∷◌, ◌++◌, map, filter, Option, Some, None, Result, Ok, Err, refl, sym, ◌∙◌, ap, ap₂}
 use Rattle.std.proofs.lemmas.List.{map-append}
 use Rattle.std.proofs.lemmas.List.Elements.{filter-append}
@@ -123,7 +123,7 @@ refused_at (Fault fault) firsts xs ys here all is found same =
     is ∙ walked_failed firsts fault xs ys (ap (walk_result firsts) (sym same) ∙ found)
 refused_at NoMemory firsts xs ys here all is found same = tt
 
--- what is found in the second of two rows
+-- the result in the second of two rows
 pub found_after : (firsts found : FirstBreaches) (xs ys here : List Occurrence) (all : Result FirstBreaches QueryFault) →
     all ≡ walk_result firsts (xs ++ ys) → walk_result firsts here ≡ Ok found → here ≡ xs → all ≡ walk_result found ys
 found_after firsts found xs ys here all is done same = is ∙ walked_done firsts found xs ys (ap (walk_result firsts) (sym same) ∙ done)

@@ -12,7 +12,7 @@ pub enum BoundNames<'a> {
 }
 
 impl BoundNames<'_> {
-    /// Whether a name is among them.
+    /// Returns true if the name is bound.
     pub fn binds(&self, name: &[u8]) -> bool
         ensures { result ≡ list_any (λ bound. bytes_eq bound name.now) (names_in self.now) }
     {

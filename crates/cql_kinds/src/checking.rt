@@ -19,7 +19,7 @@ use cql_syntax::{
 };
 use std::alloc::Global;
 
-// How many sort items there are, with one item more.
+// The number of sort items, with one item more.
 fn sorts_with(sorts: usize, item: &Filter) -> usize
     requires { sorts + 1 < 2 ^ 64 }
     ensures value { result ≡ sorts_with sorts (filter_tree item.now) }
@@ -31,7 +31,8 @@ fn sorts_with(sorts: usize, item: &Filter) -> usize
     }
 }
 
-// The first of each kind in the top items, or the first fault of a filter that breaks a rule.
+// The first filter of each kind in the top items, or the first fault of a filter that breaks a
+// rule.
 fn walk_items(alloc: Global, items: &Filters) -> Result<FirstBreaches, Refusal<QueryFault>>
     ensures { Gives (λ found. found) result (walk_result no_breaches (of_items 0 (filters_tree items.now))) }
 {
@@ -55,7 +56,7 @@ fn walk_items(alloc: Global, items: &Filters) -> Result<FirstBreaches, Refusal<Q
     Ok(found)
 }
 
-// A limit that the query passes.
+// The fault of the first limit that the query exceeds.
 fn limit_fault(firsts: FirstBreaches, heavy: bool) -> Option<QueryFault>
     ensures { result ≡ limit_fault firsts heavy }
 {
@@ -68,21 +69,27 @@ fn limit_fault(firsts: FirstBreaches, heavy: bool) -> Option<QueryFault>
     Some(QueryFault { byte, reason })
 }
 
-// Whether the weight of a query is above the greatest.
+// True if the weight of a query is above the limit.
 fn is_too_heavy(query: &Query) -> bool
     ensures { result ≡ nat_lt most_weight (query_weight (query_tree query.now)) }
 {
     weight(query) > WEIGHT_LIMIT
 }
 
-/// The query again, where its tree has no fault, else the fault. Faults are looked for in this order:
+/// Returns a copy of the query as a typed query, if its tree has no fault.
+///
+/// # Errors
+///
+/// Returns a `Refusal::Fault` with the first fault, in this order:
 ///
 /// 1. `TextHoldsBrace` in the match string, at the word `matchstring` before it.
-/// 2. The first filter that breaks a rule, outer before inner and left before right, at its first byte; at one filter in
-///    the order `KindMismatch`, `NotAtTop`, `TooManySorts`, `UnknownName`, `TextHoldsBrace`.
+/// 2. The first filter that breaks a rule, outer before inner and left before right, at its first byte.
+///    The rules of one filter have the order `KindMismatch`, `NotAtTop`, `TooManySorts`, `UnknownName`, `TextHoldsBrace`.
 /// 3. `LineTooLong` at the first line of more than 64 places.
 /// 4. `TooManySquares` at the first `square` with four around it.
-/// 5. `TooManyMembers` where the weight is above 2^18, at the first family, and at byte 0 where there is none.
+/// 5. `TooManyMembers` if the weight is above 2^18, at the first family, or at byte 0 if there is none.
+///
+/// Returns `Refusal::NoMemory` if memory runs out.
 pub fn check(query: &Query) -> Result<TypedQuery, Refusal<QueryFault>>
     requires { has_any (query_tree query.now) ≡ false }
     ensures { Gives (λ typed. query_tree typed.query) result (checked (query_tree query.now)) }

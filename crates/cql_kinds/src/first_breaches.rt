@@ -1,4 +1,4 @@
-//! What is noted of the filters of a query.
+//! The first filters of a query that a limit depends on.
 ghost use Rattle.std.specs.Prelude.{◌≡◌, ◌∷◌, []};
 
 use crate::places::{PLACES_LIMIT, places_of};
@@ -20,7 +20,7 @@ impl FirstBreaches {
     ghost use Rattle.cql_kinds.specs.Internal.Walks.{with_breaches};
     ghost use Rattle.cql_kinds.specs.Internal.TypingContexts.{occurrence};
 
-    /// The same after one filter more.
+    /// Returns the same with one filter more.
     pub fn with(self, filter: &Filter, standing: TypingContext) -> FirstBreaches
         ensures { result ≡ with_breaches self (occurrence standing.entry filter.now ∷ []) }
     {

@@ -1,4 +1,4 @@
-//! Whether the tree of a query has a fault: its kinds, names, places and sorts, and its limits.
+//! The check of a query's tree for faults: its kinds, names, places and sorts, and its limits.
 #![tactic(auto)]
 
 mod bound_names;

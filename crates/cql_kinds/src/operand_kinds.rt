@@ -1,10 +1,10 @@
-//! The kinds that filters want of their parts.
+//! The kinds that filters require of their parts.
 ghost use Rattle.std.specs.Prelude.{◌≡◌};
 ghost use Rattle.cql_syntax.specs.OperandKinds.{unary_operand_kind, pair_operand_kind};
 
 use cql_syntax::{Kind, Pair, Unary};
 
-/// What stands after a word or mark.
+/// Returns the kind required after a word or mark.
 pub fn unary_operand_kind(unary: Unary) -> Kind
     ensures { result ≡ unary_operand_kind unary }
 {
@@ -14,7 +14,7 @@ pub fn unary_operand_kind(unary: Unary) -> Kind
     }
 }
 
-/// Both parts of a filter of two parts.
+/// Returns the kind required of both parts of a filter of two parts.
 pub fn pair_operand_kind(pair: Pair) -> Kind
     ensures { result ≡ pair_operand_kind pair }
 {

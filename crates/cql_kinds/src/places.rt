@@ -9,14 +9,14 @@ use cql_syntax::{Body, Constituents, Line, Mark};
 /// The greatest number of places that a line may have.
 pub const PLACES_LIMIT: u64 = 64;
 
-/// The places of a line, or one more than the greatest number where it has more.
+/// Returns the number of places of a line, or 65 if it has more than 64.
 pub fn places_of(line: &Line) -> u64
     ensures { result ≡ min (places (line_tree line.now)) (most_places + 1) }
 {
     places_of_parts(&line.parts)
 }
 
-// The places of a part with its mark.
+// The number of places of a part with its mark.
 fn places_marked(mark: Mark, places: u64) -> u64
     ensures { result ≡ min (copies mark * places) (most_places + 1) }
 {

@@ -1,4 +1,4 @@
-//! The rules that a filter may break where it stands.
+//! The rules that a filter may break in its context.
 ghost use Rattle.std.specs.Prelude.{◌≡◌, ◌++◌, ℕ, Bool, List, IfOk};
 ghost use Rattle.cql_syntax.specs.Kinds.{filter_kind};
 ghost use Rattle.cql_syntax.specs.TreeFaults.{first, holds_brace, wrong_kind, below_top, past_four_sorts, unbound_name, brace_in_comment, broken_rules};
@@ -15,14 +15,14 @@ use std::alloc::Global;
 // The greatest number of sort items.
 const SORTS_LIMIT: usize = 4;
 
-/// Whether a text holds a closing brace, which would end the comment that it is written in.
+/// Returns true if a text has a closing brace, which would end the comment that has the text.
 pub fn holds_brace(text: &[u8]) -> bool
     ensures { result ≡ holds_brace text.now }
 {
     text.iter().any(|byte| *byte == b'}')
 }
 
-// A filter of another kind than is wanted. As a position each kind is taken.
+// A filter of another kind than the required one. A filter of any kind may be a position.
 fn wrong_kind(filter: &Filter, wanted: Kind) -> Option<QueryReason>
     ensures { result ≡ first (wrong_kind wanted (filter_kind (filter_tree filter.now))) }
 {
@@ -36,7 +36,7 @@ fn wrong_kind(filter: &Filter, wanted: Kind) -> Option<QueryReason>
     Some(QueryReason::KindMismatch(wanted, found))
 }
 
-// A sort that is no top item, or that four or more sort items stand before.
+// A sort that is no top item, or that comes after four or more sort items.
 fn misplaced_sort(item: Option<usize>) -> Option<QueryReason>
     ensures { (least : Bool) (text : List ℕ) (f : FilterTree) →
         result ≡ first (below_top item (sort least text f) ++ past_four_sorts item (sort least text f)) }
@@ -48,7 +48,7 @@ fn misplaced_sort(item: Option<usize>) -> Option<QueryReason>
     }
 }
 
-// A comment that is no top item, or that holds a closing brace.
+// A comment that is no top item, or that has a closing brace.
 fn faulty_comment(item: Option<usize>, text: &[u8]) -> Option<QueryReason>
     ensures { result ≡ first (below_top item (comment text.now) ++ brace_in_comment (comment text.now)) }
 {
@@ -75,7 +75,11 @@ fn unbound_name(
     Ok(Some(QueryReason::UnknownName(Bytes::from_slice(alloc, name)?)))
 }
 
-/// The first rule that a filter breaks where it stands.
+/// Returns the first rule that a filter breaks in its context.
+///
+/// # Errors
+///
+/// Returns `NoMemory` if memory runs out.
 pub fn broken_rule(
     alloc: Global,
     filter: &Filter,

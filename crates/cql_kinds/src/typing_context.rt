@@ -1,4 +1,4 @@
-//! How a filter stands in its query.
+//! The context of a filter in its query.
 ghost use Rattle.std.specs.Prelude.{◌≡◌};
 ghost use Rattle.cql_syntax.specs.Occurrences.{part_of, part_of_square};
 ghost use Rattle.cql_syntax.specs.declared.leaves.Kind.TheVariants.{Position};
@@ -7,24 +7,24 @@ ghost use Rattle.cql_kinds.specs.Internal.TypingContexts.{typing_context_of, nam
 use crate::bound_names::BoundNames;
 use cql_syntax::Kind;
 
-/// How many `square` may be nested.
+/// The greatest number of nested `square`.
 pub const SQUARES_LIMIT: u8 = 4;
 
-/// How a filter stands in its query.
+/// The context of a filter in its query.
 #[derive(Clone, Copy)]
 pub struct TypingContext<'a> {
-    /// The kind that is wanted of it.
+    /// The kind that is required of the filter.
     pub wanted: Kind,
-    /// The names that are bound there.
+    /// The names that are bound at the filter.
     pub names: &'a BoundNames<'a>,
-    /// How many `square` are around it, counted to one more than may be nested.
+    /// The number of `square` around the filter, counted up to `SQUARES_LIMIT + 1`.
     pub squares: u8,
-    /// Where it is a top item, how many sort items stand before it.
+    /// For a top item, the number of sort items before it.
     pub item: Option<usize>,
 }
 
 impl<'a> TypingContext<'a> {
-    /// A part of the filter, of which a kind is wanted.
+    /// Returns the context of a part of the filter, with its required kind.
     pub fn part(self, wanted: Kind) -> TypingContext<'a>
         ensures { typing_context_of result ≡ part_of (typing_context_of self.entry) wanted }
     {
@@ -35,7 +35,7 @@ impl<'a> TypingContext<'a> {
         }
     }
 
-    /// A part of a `square`, of which a kind is wanted.
+    /// Returns the context of a part of a `square`, with its required kind.
     pub fn part_of_square(self, wanted: Kind) -> TypingContext<'a>
         ensures { typing_context_of result ≡ counted (part_of_square (typing_context_of self.entry) wanted) }
     {
@@ -45,7 +45,7 @@ impl<'a> TypingContext<'a> {
         }
     }
 
-    /// What a `square` asks of each square, where these names are bound.
+    /// Returns the context of the condition of a `square`, in which these names are bound.
     pub fn square_condition<'b>(self, names: &'b BoundNames<'b>) -> TypingContext<'b>
         ensures { typing_context_of result ≡ counted (with_names (part_of_square (typing_context_of self.entry) Position) (names_in names.now)) }
     {

@@ -15,6 +15,11 @@ use cq_common::Refusal;
 use cql_syntax::{Body, Constituents, Filter, Filters, Form, Kind, Played, QueryFault, Terms};
 use std::alloc::Global;
 
+/// Returns the first breaches with a filter and all in it added.
+///
+/// # Errors
+///
+/// Returns a `Refusal::Fault` with the first fault of a filter that breaks a rule. Returns `Refusal::NoMemory` if memory runs out.
 #[tactic(auto, using(crate::proofs::Walking::walk_on, crate::proofs::Walking::walk_stop))]
 #[cycle(walk)]
 pub fn walk(

@@ -1,4 +1,4 @@
--- The designator of a text has men, squares, and flags that tell of these.
+-- The designator of a text has men, squares, and flags that are right for the squares.
 use Rattle.std.proofs.Common.{◌≡◌, ℕ, zero, ◌^◌, ◌<◌, ◌≤◌, min, max, Bool, true, false, cond, List, [], ◌∷◌, length, take, drop, Option, None, Some, refl, subst, arith, bit_or}
 use Rattle.std.specs.Prelude.{◌&&◌, ◌||◌, ◌==◌, not, nat_le, nat_lt, option_and_then}
 use Rattle.std.specs.Int.{is_in_range}
@@ -23,7 +23,7 @@ use Rattle.cql_lexer.proofs.Rectangles.{all_on, at_one}
 abbrev AreSome : ℕ → ℕ → Type 0
 AreSome k set = (0 < set) × (set < 2 ^ k)
 
--- where the value of an option comes from
+-- the source of an option's value
 
 by_or : {X P : Type 0} (a b : Option X) (x : X) → (a ≡ Some x → P) → (b ≡ Some x → P) → option_or a b ≡ Some x → P
 by_or None b x f g e = g e

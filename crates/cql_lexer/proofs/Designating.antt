@@ -135,7 +135,7 @@ first_high t s e =
     (λ some. let begins = specification_begins t some.0 some.1 in omega (arith, begins.high))
     (some_or_none (specification t))
 
--- the length of the men, by what stands at the front
+-- the length of the men, by the front of the text
 men_plain_len : (text : List ℕ) (men n : ℕ) → group text ≡ None → Within men_of (length text) text men n → n ≡ 1
 men_plain_len text men n plain w = ⊎_elim (λ e. e) (λ e. absurd (none_some men (sym (men_plain-other text n plain w.fits e) ∙ w.reads))) (cases_eq n 1)
 
@@ -153,7 +153,7 @@ not_both text squares k m s v above e =
     let other = get_or-take k (drop 1 text) 0 0 v.positive ∙ get_or-drop 1 text 0 0 in
     absurd (omega (arith, begins.low, high, one, other))
 
--- where squares follow the men, no squares are longer than the men
+-- no squares are longer than the men if squares follow the men
 no_squares : (text : List ℕ) (men n squares k m : ℕ) → Within men_of (length text) text men n
     → Within squares_of (length (drop n text)) (drop n text) squares k → n < m → m ≤ length text → squares_of (take m text) ≡ None
 no_squares text men n squares k m w v above h =
@@ -169,7 +169,7 @@ no_squares text men n squares k m w v above h =
     squares_group-other text found.0 m o h (λ same. absurd (omega arith)))
     (some_or_none (group text))
 
--- where there are both, the squares are no shorter than the men
+-- the squares are no shorter than the men if there are both
 not_shorter : (text : List ℕ) (men n squares k : ℕ) → Within men_of (length text) text men n → Within squares_of (length text) text squares k → n ≤ k
 not_shorter text men n squares k w v =
     ⊎_elim
@@ -272,7 +272,7 @@ men_front text men n e = let w = longest_parts men_of text men n (sym e) in (w.p
 pub squares_front : (text : List ℕ) (squares k : ℕ) → Some (squares, k) ≡ longest squares_of text → (0 < k) × (k ≤ length text)
 squares_front text squares k e = let w = longest_parts squares_of text squares k (sym e) in (w.positive, w.fits)
 
--- what is not found is none
+-- an option without a value is none
 pub none_from : {X : Type 0} (o : Option X) → ((x : X) → o ≡ Some x → ⊥) → None ≡ o
 none_from None h = refl
 none_from (Some x) h = absurd (h x refl)

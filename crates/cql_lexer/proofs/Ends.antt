@@ -28,7 +28,7 @@ use Rattle.cql_lexer.specs.Tokens.{IsProper, IsProperDesignator, EndOnce, tokens
 use Rattle.cql_lexer.proofs.Designated.{designator_proper}
 use Rattle.cql_lexer.proofs.Longest.{longest_parts}
 
--- where a lexeme is found, it is proper
+-- a lexeme that is found is proper
 abbrev Finds : Option Lexeme → Type 0
 Finds None = Unit {0}
 Finds (Some lexeme) = IsProper lexeme.kind

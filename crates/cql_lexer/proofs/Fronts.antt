@@ -146,7 +146,7 @@ specification_none text m h six four two =
     (λ some. ⊎_elim (λ e. absurd (two (len ∙ e))) (λ rest. ⊎_elim (λ e. absurd (four (len ∙ e))) (λ e. absurd (six (len ∙ e))) rest) (specification_size (take m text) some.0 some.1))
     (some_or_none (specification (take m text)))
 
--- where no group stands at the front, squares are a specification
+-- squares are a specification if no group is at the front
 plain_front : (n : ℕ) (text : List ℕ) → group text ≡ None → front specification n text ≡ front squares_of n text
 plain_front n text plain = ap (λ o. cond (leb n (length text)) (option_map {U = ℕ × ℕ} (λ x. (x, n)) o) None) (sym (squares_plain text n plain))
 

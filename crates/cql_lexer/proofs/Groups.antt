@@ -73,13 +73,13 @@ pub opens : (text inside : List ℕ) → group text ≡ Some inside → Opens te
 opens [] inside e = absurd (cc)
 opens (b ∷ rest) inside e = opened (eqb b 91) b rest inside (eqb-true b 91) e
 
--- how many bytes the group takes
+-- the group's bytes fit in the text
 pub group_fits : (text inside : List ℕ) → Opens text inside → length inside + 2 ≤ length text
 group_fits text inside o =
     let place = position-Some is_closing_bracket o.rest o.end 0 o.closes in
     omega (arith, ap length o.is, ap length (sym o.inside_is), length-take-le o.end o.rest (omega (arith, place.0)), place.0)
 
--- the group in fronts of the text: it stands in those that have its last byte
+-- the group in fronts of the text: those that have its last byte have the group
 group_front : (text inside : List ℕ) (m : ℕ) → Opens text inside → length inside + 2 ≤ m → group (take m text) ≡ Some inside
 group_front text inside zero o h = absurd (omega arith)
 group_front text inside (suc k) o h =
@@ -113,7 +113,7 @@ group_none text zero e = refl
 group_none [] (suc k) e = refl
 group_none (b ∷ rest) (suc k) e = still_none (eqb b 91) rest k e
 
--- what stands between the brackets of a front
+-- the bytes between the brackets of a front
 pub in_brackets-whole : (text inside : List ℕ) → Opens text inside → in_brackets (take (length inside + 2) text) ≡ Some inside
 in_brackets-whole text inside o =
     let fits = group_fits text inside o in

@@ -1,4 +1,4 @@
--- The longest front of a text that reads as something.
+-- The longest front of a text that has a reading.
 use Rattle.std.proofs.Common.{◌≡◌, ◌⊎◌, ℕ, zero, suc, ◌<◌, ◌≤◌, List, length, take, Bool, true, false, cond, leb, ◌≢◌, Option, None, Some, inl, inr, ⊎_elim, refl, sym, ap, subst, ◌∙◌, arith}
 use Rattle.std.specs.Option.{option_map, option_or}
 use Rattle.std.proofs.str.Laws.{order}
@@ -44,7 +44,7 @@ within_some read (suc n) text x k w =
     ∙ within_some read n text x k (record { positive = w.positive; fits = below; reads = w.reads; last = λ m a b. w.last m a (omega arith) }))
     (equal_or_below k n w.fits)
 
--- what holds of each front of at most n bytes, and of the front of one byte more
+-- a property of each front of at most n bytes, and of the front of one byte more
 either : {X : Type 0} (read : List ℕ → Option X) (n : ℕ) (text : List ℕ) → read (take (suc n) text) ≡ None → (m : ℕ) → (m ≤ n → read (take m text) ≡ None) → m ≤ suc n → read (take m text) ≡ None
 either read n text none m below h =
     ⊎_elim (λ same. subst (λ j. read (take j text) ≡ None) (sym same) none) below (equal_or_below m n h)
@@ -137,7 +137,7 @@ front_last read n text x positive e last =
       last = λ m a b. last m (omega (arith, here.0)) b;
     })
 
--- what is no front of some length
+-- fronts of some length that have no reading
 module _ {X : Type 0} (read : List ℕ → Option X) (text : List ℕ) (a b c : ℕ) (pc : 0 < c) (pb : c < b) (pa : b < a)
     (other : (m : ℕ) → m ≤ length text → m ≢ a → m ≢ b → m ≢ c → read (take m text) ≡ None) where
   at_length : (n m : ℕ) → front read n text ≡ None → m ≤ length text → m ≡ n → read (take m text) ≡ None
@@ -154,7 +154,7 @@ module _ {X : Type 0} (read : List ℕ → Option X) (text : List ℕ) (a b c : 
   not_c m h nota notb notc =
       ⊎_elim (λ e. at_length a m nota h e) (λ x. ⊎_elim (λ e. at_length b m notb h e) (λ y. ⊎_elim (λ e. at_length c m notc h e) (λ z. other m h x y z) (cases_eq m c)) (cases_eq m b)) (cases_eq m a)
 
-  -- where a front that reads is of one of three lengths
+  -- the longest front, if each front with a reading has one of three lengths
   pub longest_of_three : option_or (option_or (front read a text) (front read b text)) (front read c text) ≡ longest read text
   longest_of_three =
       ⊎_elim

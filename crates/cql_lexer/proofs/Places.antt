@@ -12,7 +12,7 @@ place_none test hay e = grind (arith, nat_tests)
 place_some : (test : ℕ → Bool) (hay : List ℕ) (k : ℕ) → position_or_len test hay ≡ k → k < length hay → Some k ≡ position test hay
 place_some test hay k e h = grind (arith, nat_tests)
 
--- what is found as the first place that passes is the first place that passes
+-- the place that is found as the first one that passes is the first place that passes
 pub position-from_first : (test : ℕ → Bool) (hay : List ℕ) (r : Option ℕ) → IsFirstByte test hay r → r ≡ position test hay
 position-from_first test hay None nowhere =
     place_none test hay (position_or_len_is test hay (length hay) 0 (omega arith) (λ k h. false_from_ne_true _ (nowhere k (omega arith) h)) (λ h. absurd (omega arith)))

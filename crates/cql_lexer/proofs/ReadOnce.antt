@@ -30,7 +30,7 @@ use Rattle.cql_lexer.proofs.Longest.{longest_parts}
 use Rattle.cql_lexer.proofs.Rectangles.{first_or_above}
 use Rattle.cql_lexer.proofs.Steps.{pass_separator, pass_token, stop}
 
--- where a lexeme is found, it takes some bytes of the text, and no more than there are
+-- a lexeme that is found takes some bytes of the text, and no more than there are
 
 abbrev Finds : List ℕ → Option Lexeme → Type 0
 Finds text None = Unit {0}

@@ -23,7 +23,7 @@ at_one test first (suc len) all k low high =
     (λ above. at_one test (first + 1) len (and_parts _ _ all).1 k above (omega arith))
     (first_or_above first k low)
 
--- what the code computes
+-- the value that the code computes
 abbrev computed : ℕ → ℕ → ℕ → ℕ → ℕ
 computed file last_file rank last_rank =
     bit_and (bit_and ((2 * 2 ^ (last_file - 97) % 2 ^ 64 - 1 * 2 ^ (file - 97) % 2 ^ 64) * 0x0101010101010101)

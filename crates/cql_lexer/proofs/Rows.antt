@@ -100,7 +100,7 @@ comments : tokens_of (codes "// \"$" ++ 10 ∷ codes "R//") ≡ Ok (token 6 (men
 unfolding tokens_of tokens_from separator_len first_lexeme file_name outcome named_or_squares longest longest_within designator men_on is_whole board.squares squares_within
 comments = refl
 
--- after `input` the name of a file, in which `//` begins no comment; a text may stand there instead
+-- after `input` the name of a file, in which `//` begins no comment; a text may follow instead
 file_names : tokens_of (codes "input a//b output \"c d\"") ≡ Ok (token 0 (Word 1) ∷ token 6 (FileName (codes "a//b")) ∷ token 11 (Word 2) ∷ token 18 (Text (codes "c d")) ∷ token 23 End ∷ [])
 unfolding tokens_of tokens_from separator_len first_lexeme file_name outcome quoted named named_or_squares longest longest_within designator word_of
 file_names = refl

@@ -1,4 +1,4 @@
--- The tokens of what is left of a query, step by step.
+-- The tokens of the rest of a query, step by step.
 use Rattle.std.proofs.Common.{◌≡◌, ℕ, zero, suc, ◌+◌, ◌-◌, ◌<◌, ◌≤◌, ltb, List, [], ◌∷◌, ◌++◌, length, take, drop, Result, Ok, Err, refl, sym, ap, ◌∙◌, arith, append_assoc, length-drop}
 use Rattle.std.proofs.lemmas.Bool.{cond-true, cond-false, lt-ltb, le-ltb}
 use Rattle.std.proofs.lemmas.List.{drop-drop, drop_all, take_rest}
@@ -14,7 +14,7 @@ use Rattle.cql_lexer.specs.declared.expected.Expected.{Expected}
 use Rattle.cql_lexer.specs.declared.expected.Expected.TheVariants.{Token}
 use Rattle.cql_lexer.specs.Tokens.{tokens_from, tokens_of, separator_len, token_at, with_front, expected_after, result_and_then}
 
--- bytes that belong to what stands before are passed
+-- bytes that belong to the token before are skipped
 passes : (n at : ℕ) (expected : Expected) (text : List ℕ) → n ≤ length text → tokens_from n at expected text ≡ tokens_from 0 (at + n) expected (drop n text)
 unfolding tokens_from
 passes zero at expected text h = let e : at ≡ at + 0 = omega arith in ap (λ k. tokens_from 0 k expected text) e
@@ -69,7 +69,7 @@ with_no_front : (r : Result (List QueryToken) QueryFault) → with_front [] r �
 with_no_front (Ok c) = refl
 with_no_front (Err fault) = refl
 
--- these tokens stand before byte `at`, and what is left gives the others
+-- these tokens are before byte `at`, and the rest gives the others
 pub record TokensLeft (query : List ℕ) (tokens : List QueryToken) (expected : Expected) (at : ℕ) : Type 0 where
   pub within : at ≤ length query
   pub limit : length query ≤ most_bytes
@@ -87,7 +87,7 @@ pub too_long : (query : List ℕ) → most_bytes < length query → tokens_of qu
 unfolding tokens_of
 too_long query h = cond-true (ltb most_bytes (length query)) _ _ (lt-ltb _ _ h)
 
--- what is left of the query, as the code has it
+-- the rest of the query, as the code has it
 left : (query : List ℕ) (at s : ℕ) → s ≡ separator_len (take (length query - at) (drop at query)) → separator_len (drop at query) ≡ s
 left query at s e = sym (ap separator_len (take_rest query at)) ∙ sym e
 

@@ -1,4 +1,4 @@
--- A set is whole lines where each square of the board is in it exactly as the first square of its line is.
+-- A set is whole lines if each square of the board is in it exactly as the first square of its line is.
 use Rattle.std.proofs.Common.{◌≡◌, ℕ, zero, suc, ◌+◌, ◌*◌, ◌<◌, ◌≤◌, Bool, true, false, cond, drop, inl, inr, refl, sym, ap, subst, ◌∙◌, arith}
 use Rattle.std.specs.Prelude.{◌&&◌, ◌==◌, not}
 use Rattle.std.specs.List.{list_all, range_with_len}

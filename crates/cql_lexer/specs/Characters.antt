@@ -5,15 +5,15 @@ use Rattle.std.specs.Char.{is_ascii_alphabetic, is_ascii_alphanumeric}
 abbrev pub is_line_feed : ℕ → Bool
 is_line_feed b = b == 10
 
--- what names are made of: letters, digits and `_`
+-- the bytes of names: letters, digits and `_`
 abbrev pub is_name_byte : ℕ → Bool
 is_name_byte b = is_ascii_alphanumeric b || b == 95
 
--- where a name or a designator may begin: a letter, `_`, `.` or `[`
+-- the first byte of a name or a designator: a letter, `_`, `.` or `[`
 abbrev pub begins_name_or_squares : ℕ → Bool
 begins_name_or_squares b = is_ascii_alphabetic b || b == 95 || b == 46 || b == 91
 
--- what names of files are made of: the bytes after the space, other than `"`, `(` and `)`
+-- the bytes of file names: those after the space, other than `"`, `(` and `)`
 abbrev pub is_file_byte : ℕ → Bool
 is_file_byte b = nat_le 33 b && not (b == 34 || b == 40 || b == 41)
 

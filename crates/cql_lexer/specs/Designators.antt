@@ -11,17 +11,17 @@ use Rattle.std.specs.Int.{is_in_range}
 use Rattle.cql_lexer.specs.Characters.{hyphen, is_comma, is_closing_bracket}
 use Rattle.cql_lexer.specs.Longest.{longest}
 
--- the union of the sets that the items stand for and of those so far; none where an item stands for none
+-- the union of the sets that the items represent and of those so far; none if an item represents none
 abbrev pub union_of_designators : {X : Type 0} → (X → Option ℕ) → ℕ → List X → Option ℕ
 union_of_designators read so_far [] = Some so_far
 union_of_designators read so_far (item ∷ items) = option_and_then (λ set. union_of_designators read (bit_or so_far set) items) (read item)
 
--- what stands between a `[` at the front of a text and the first `]`
+-- the bytes between a `[` at the front of a text and the first `]`
 abbrev pub group : List ℕ → Option (List ℕ)
 group [] = None
 group (b ∷ text) = if b == 91 then option_map (λ end. take end text) (position is_closing_bracket text) else None
 
--- what stands between the brackets of a text that is `[`, other bytes, and the first `]` as its last byte
+-- the bytes between the brackets of a text that is `[`, other bytes, and the first `]` as its last byte
 abbrev pub in_brackets : List ℕ → Option (List ℕ)
 in_brackets text = option_and_then (λ inside. if length inside + 2 == length text then Some inside else None) (group text)
 
@@ -53,7 +53,7 @@ unfoldable pub squares_within : ℕ → ℕ → ℕ → ℕ → ℕ
 squares_within file last_file rank last_rank =
     squares_below (λ square. is_in_range file last_file (97 + file_of square) && is_in_range rank last_rank (49 + rank_of square)) 64
 
--- the same with ranges in either order; none where the letters are not `a` to `h` or the digits not `1` to `8`
+-- the same with ranges in either order; none if the letters are not `a` to `h` or the digits not `1` to `8`
 abbrev pub rectangle : ℕ → ℕ → ℕ → ℕ → Option ℕ
 rectangle file last_file rank last_rank =
     if is_in_range 97 104 file && is_in_range 97 104 last_file && is_in_range 49 56 rank && is_in_range 49 56 last_rank
@@ -78,7 +78,7 @@ specifications text = union_of_designators specification 0 (slice_split is_comma
 abbrev pub squares_of : List ℕ → Option ℕ
 squares_of text = option_or (specification text) (option_and_then specifications (in_brackets text))
 
--- both squares stand in a set, or neither does
+-- both squares are in a set, or neither is
 abbrev pub are_alike : ℕ → ℕ → ℕ → Bool
 are_alike squares one other = if is_in squares one then is_in squares other else not (is_in squares other)
 
@@ -95,11 +95,11 @@ any_men = 0x1fff
 abbrev pub all_squares : ℕ
 all_squares = 2 ^ 64 - 1
 
--- men on squares, where the text is men and then squares
+-- men on squares, for a text that is men and then squares
 abbrev pub men_then_squares : List ℕ → Option Designator
 men_then_squares text = option_and_then (λ men. option_map (men_on men.0) (squares_of (drop men.1 text))) (longest men_of text)
 
--- the designator that a whole text is: men on squares, any men on squares, or men on all squares
+-- the designator that is a whole text: men on squares, any men on squares, or men on all squares
 unfoldable pub designator : List ℕ → Option Designator
 designator text =
     option_or (men_then_squares text)

@@ -65,8 +65,7 @@ named name =
       | None ↦ if is_some (place_of name reserved_names) then Reserved name else Name name
     ]
 
--- 5. at a letter, `_`, `.` or `[`: the longest designator, where it reaches the end of the run of letters, digits and
--- `_`; else that run
+-- 5. at a letter, `_`, `.` or `[`: the longest designator, if it reaches the end of the run of letters, digits and `_`; otherwise that run
 unfoldable pub named_or_squares : List ℕ → Option Lexeme
 named_or_squares text =
     let run = prefix_len is_name_byte text in
@@ -76,7 +75,7 @@ named_or_squares text =
     then (elim squares [ Some found ↦ if nat_le run found.1 then Some (of_len found.1 (Squares found.0)) else name | None ↦ name ])
     else None
 
--- the number of the mark that a whole text is
+-- the number of the mark that is the whole text
 unfoldable pub mark_number : List ℕ → Option ℕ
 mark_number text = place_of text marks
 
@@ -84,7 +83,7 @@ mark_number text = place_of text marks
 unfoldable pub mark : List ℕ → Option Lexeme
 mark text = option_map (λ found. of_len found.1 (Mark found.0)) (longest mark_number text)
 
--- the one found, or else the other
+-- the first lexeme if there is one, else the other result
 abbrev pub found_or : Option Lexeme → Result Lexeme QueryReason → Result Lexeme QueryReason
 found_or (Some lexeme) other = Ok lexeme
 found_or None other = other

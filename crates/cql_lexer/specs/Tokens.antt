@@ -18,19 +18,19 @@ use Rattle.cq_common.specs.Text.{is_white}
 use Rattle.cql_lexer.specs.Characters.{is_line_feed}
 use Rattle.cql_lexer.specs.Lexemes.{first_lexeme}
 
--- what may stand directly after a word, beside the tokens that may stand anywhere
+-- the tokens that may directly follow a word, besides those that may occur anywhere
 abbrev pub expected_after_word : Option Meaning → Expected
 expected_after_word (Some meanings.Input) = FileName
 expected_after_word (Some meanings.Output) = FileName
 expected_after_word (Some meanings.Result) = Outcome
 expected_after_word word = Token
 
--- what may stand directly after a token, beside the tokens that may stand anywhere
+-- the tokens that may directly follow a token, besides those that may occur anywhere
 abbrev pub expected_after : QueryTokenKind → Expected
 expected_after (Word word) = expected_after_word (word_of word)
 expected_after kind = Token
 
--- how many bytes at the front only separate tokens: white space, or `//` and what follows it on its line
+-- the number of bytes at the front that only separate tokens: white space, or `//` and the rest of its line
 unfoldable pub separator_len : List ℕ → ℕ
 separator_len text =
     if starts_with nat_eq text (codes "//") then unwrap_or (position is_line_feed text) (length text) else prefix_len is_white text
@@ -43,18 +43,18 @@ token_at expected at text =
       | Err reason ↦ Err (record { byte = at; reason = reason })
     ]
 
--- what follows from a value; a fault stays
+-- the result of a function applied to a value; a fault stays
 abbrev pub result_and_then : {X Y E : Type 0} → (X → Result Y E) → Result X E → Result Y E
 result_and_then f (Ok x) = f x
 result_and_then f (Err e) = Err e
 
--- the tokens with these before them
+-- the tokens with other tokens before them, or the fault
 abbrev pub with_front : List QueryToken → Result (List QueryToken) QueryFault → Result (List QueryToken) QueryFault
 with_front front (Ok tokens) = Ok (front ++ tokens)
 with_front front (Err fault) = Err fault
 
--- The tokens of a text that begins at byte `at` of the query, up to the end, or the first fault. Its first `passed` bytes
--- belong to what stands before. At each other byte white space and comments are passed, and else a token is read.
+-- The tokens of a text that begins at byte `at` of the query, up to the end, or the first fault. Its first `passed` bytes belong to the
+-- token before. From each other byte white space and comments are skipped, or else a token is read.
 unfoldable pub tokens_from : ℕ → ℕ → Expected → List ℕ → Result (List QueryToken) QueryFault
 tokens_from passed at expected [] = Ok (record { at = at; kind = End } ∷ [])
 tokens_from (suc passed) at expected (b ∷ text) = tokens_from passed (at + 1) expected text
@@ -71,8 +71,8 @@ tokens_of query =
     if nat_lt most_bytes (length query) then Err (record { byte = most_bytes; reason = QueryTooLong })
     else tokens_from 0 0 Token query
 
--- What a text reads as that begins at byte `at` of the query: separators are passed, else the first lexeme is a token, and what
--- follows it is read after it; the end is one token, and a fault ends the reading.
+-- The readings of a text that begins at byte `at` of the query. Separators are skipped. Elsewhere the first lexeme is a token, and the
+-- bytes after it are read next. The end is one token, and a fault ends the reading.
 pub data Tokenizes : ℕ → Expected → List ℕ → Result (List QueryToken) QueryFault → Type 0 where
   ended : (at : ℕ) (expected : Expected) → Tokenizes at expected [] (Ok (record { at = at; kind = End } ∷ []))
   separated : (at : ℕ) (expected : Expected) (text : List ℕ) (read : Result (List QueryToken) QueryFault)
@@ -84,7 +84,7 @@ pub data Tokenizes : ℕ → Expected → List ℕ → Result (List QueryToken) 
   faulty : (at : ℕ) (expected : Expected) (text : List ℕ) (fault : QueryFault)
       → 0 < length text → separator_len text ≡ 0 → token_at expected at text ≡ Err fault → Tokenizes at expected text (Err fault)
 
--- men, squares, and flags that tell of the squares: there are 13 men, the empty square one of them
+-- Men, squares, and flags that are right for the squares. There are 13 men, the empty square one of them.
 pub record IsProperDesignator (designator : Designator) : Type 0 where
   pub men : 0 < designator.men
   pub men_fit : designator.men < 2 ^ 13
@@ -93,7 +93,7 @@ pub record IsProperDesignator (designator : Designator) : Type 0 where
   pub whole_ranks : designator.part.whole_ranks ≡ are_whole_ranks designator.part.squares
   pub whole_files : designator.part.whole_files ≡ are_whole_files designator.part.squares
 
--- a token other than the end, with its number in range, and of men on squares
+-- a token other than the end, with its number in range and a proper designator
 abbrev pub IsProper : QueryTokenKind → Type 0
 IsProper (Word word) = word < length words
 IsProper (Squares designator) = IsProperDesignator designator

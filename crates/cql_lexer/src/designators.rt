@@ -23,7 +23,7 @@ const ANY_MEN: u16 = 0x1fff;
 // The a-file.
 const EACH_RANK: u64 = 0x0101_0101_0101_0101;
 
-// What stands between a `[` at the front and the first `]`.
+// The bytes between a `[` at the front and the first `]`.
 fn group(text: &[u8]) -> Option<&[u8]>
     ensures { option_map (λ inside. inside.now) result ≡ group text.now }
 {
@@ -131,7 +131,7 @@ fn specifications(text: &[u8]) -> Option<u64>
     Some(squares | specification(rest)?)
 }
 
-// The squares of the first so many bytes, where these are a specification.
+// The squares of a specification that is the first so many bytes.
 fn specification_front(len: usize, text: &[u8]) -> Option<(u64, usize)>
     ensures { result ≡ front specification len text.now }
 {
@@ -162,7 +162,7 @@ fn men_at(text: &[u8]) -> Option<(u16, usize)>
     }
 }
 
-// Whether a square stands in a set.
+// True if a square is in a set.
 fn is_in(squares: u64, square: u8) -> bool
     requires { square < 64 }
     ensures { result ≡ is_in squares square }
@@ -170,7 +170,7 @@ fn is_in(squares: u64, square: u8) -> bool
     squares >> square & 1 == 1
 }
 
-// Whether both squares stand in a set, or neither does.
+// True if both squares are in a set, or neither is.
 fn are_alike(squares: u64, one: u8, other: u8) -> bool
     requires one { one < 64 }
     requires other { other < 64 }
@@ -183,7 +183,8 @@ fn are_alike(squares: u64, one: u8, other: u8) -> bool
     }
 }
 
-// Whether every rank that has one of the squares has all of them: each square is in the set as the first of its rank is.
+// True if every rank that has one of the squares has all of them. Each square is then in the set exactly if the first of
+// its rank is.
 fn are_whole_ranks(squares: u64) -> bool
     ensures { result ≡ are_whole_ranks squares }
 {
@@ -195,7 +196,8 @@ fn are_whole_ranks(squares: u64) -> bool
     true
 }
 
-// Whether every file that has one of the squares has all of them: each square is in the set as the first of its file is.
+// True if every file that has one of the squares has all of them. Each square is then in the set exactly if the first of
+// its file is.
 fn are_whole_files(squares: u64) -> bool
     ensures { result ≡ are_whole_files squares }
 {
@@ -222,7 +224,7 @@ fn men_on(men: u16, squares: u64) -> Designator
     }
 }
 
-/// The longest designator at the front of a text, and its length.
+/// Returns the longest designator at the front of a text, and its length in bytes.
 #[tactic(auto, using(crate::proofs::Designating::squares_alone, crate::proofs::Designating::no_designator, crate::proofs::Designating::men_front, crate::proofs::Designating::squares_front))]
 pub fn designator_at(text: &[u8]) -> Option<(Designator, usize)>
     ensures value { result ≡ longest designator text.now }

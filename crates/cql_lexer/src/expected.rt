@@ -1,13 +1,13 @@
-//! What a token lets stand after it.
+//! The tokens that may follow a token.
 ghost use Rattle.std.specs.Prelude.{◌≡◌};
 ghost use Rattle.cql_lexer.specs.Tokens.{expected_after};
 
 use cql_syntax::{QueryTokenKind, Word, word_of};
 
-/// What may stand directly after a token, beside the tokens that may stand anywhere.
+/// The tokens that may directly follow a token, besides those that may occur anywhere.
 #[derive(Clone, Copy, Debug, PartialEq, Eq)]
 pub enum Expected {
-    /// No other: a token that may stand anywhere.
+    /// No others: only a token that may occur anywhere.
     Token,
     /// The name of a file, after `input` and `output`.
     FileName,
@@ -15,7 +15,7 @@ pub enum Expected {
     Outcome,
 }
 
-/// What may stand directly after a token.
+/// Returns the tokens that may directly follow a token.
 pub fn expected_after(kind: &QueryTokenKind) -> Expected
     ensures { result ≡ expected_after kind.now }
 {

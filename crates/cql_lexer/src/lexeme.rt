@@ -14,7 +14,7 @@ use cq_common::{Bytes, NoMemory, Refusal, decimal_up_to, digits_len};
 use cql_syntax::{Outcome, QueryReason, QueryTokenKind, is_reserved, mark_number, word_number};
 use std::alloc::Global;
 
-// The greatest number.
+// The greatest number in a query.
 const NUMBER_LIMIT: u32 = 999_999_999;
 
 /// A token, and the number of its bytes.
@@ -67,7 +67,7 @@ fn outcome(expected: Expected, text: &[u8]) -> Option<Lexeme>
     })
 }
 
-// What stands between two quotes.
+// The text between two quotes.
 #[tactic(auto, unfolding(crate::specs::Lexemes::quoted))]
 fn quoted(alloc: Global, text: &[u8]) -> Result<Lexeme, Refusal<QueryReason>>
     requires { 0 < length text.now }
@@ -118,7 +118,7 @@ fn named(alloc: Global, name: &[u8]) -> Result<QueryTokenKind, NoMemory>
     }
 }
 
-// The number of the mark that a whole text is.
+// The number of the mark that is the whole text.
 #[tactic(auto, unfolding(crate::specs::Lexemes::mark_number))]
 fn mark_of(text: &[u8]) -> Option<u8>
     ensures value { result ≡ mark_number text.now }
@@ -127,7 +127,7 @@ fn mark_of(text: &[u8]) -> Option<u8>
     mark_number(text)
 }
 
-// The mark of the first so many bytes, where these are one.
+// The mark that is the first so many bytes.
 fn mark_front(len: usize, text: &[u8]) -> Option<(u8, usize)>
     ensures value { result ≡ front mark_number len text.now }
     ensures bound { IfSome result (λ found. found.0 < length marks) }
@@ -183,7 +183,7 @@ fn named_or_squares(alloc: Global, text: &[u8]) -> Result<Option<Lexeme>, NoMemo
     }
 }
 
-// Whether a name or a designator may begin here.
+// True if a name or a designator may begin at the front.
 fn begins_name_or_squares(text: &[u8]) -> bool
     ensures { result ≡ begins begins_name_or_squares text.now }
 {
@@ -193,7 +193,12 @@ fn begins_name_or_squares(text: &[u8]) -> bool
     }
 }
 
-/// The token at the front of a text, by the first rule that applies.
+/// Returns the token at the front of a text, by the first rule that applies.
+///
+/// # Errors
+///
+/// Returns a `Refusal::Fault` with the reason if the front has no token: a bad byte, an unclosed
+/// text or a number too large. Returns `Refusal::NoMemory` if memory runs out.
 #[tactic(auto, unfolding(crate::specs::Lexemes::first_lexeme))]
 pub fn first_lexeme(
     alloc: Global,

@@ -17,7 +17,7 @@ use std::alloc::Global;
 /// The greatest number of bytes of a query.
 pub const QUERY_LIMIT: usize = 65_536;
 
-// How many bytes at the front only separate tokens.
+// The number of bytes at the front that only separate tokens.
 #[tactic(auto, unfolding(crate::specs::Tokens::separator_len))]
 fn separator_len(text: &[u8]) -> usize
     ensures value { result ≡ separator_len text.now }
@@ -57,9 +57,14 @@ fn push(tokens: &mut Vec<QueryToken>, token: QueryToken) -> Result<(), NoMemory>
     Ok(())
 }
 
-/// The tokens of a query, ended by one end at the number of its bytes, or its first lexical fault: more than 65,536
-/// bytes, at byte 65,536, before all others; else the first of a bad byte, an unclosed text and a number too large.
-/// The numbers of the tokens are in range, and each designator has men, squares and the flags of these.
+/// Returns the tokens of a query. The last one is an end at the number of the query's bytes. The numbers of the
+/// tokens are in range, and each designator has men, squares and the right flags.
+///
+/// # Errors
+///
+/// Returns a `Refusal::Fault` with the first lexical fault. It is `QueryTooLong` at byte 65,536 if the query has
+/// more bytes. Otherwise it is the first bad byte, unclosed text or number too large. Returns `Refusal::NoMemory`
+/// if memory runs out.
 pub fn query_tokens(alloc: Global, query: &[u8]) -> Result<Vec<QueryToken>, Refusal<QueryFault>>
     ensures value { Gives (λ tokens. tokens.items) result (tokens_of query.now) }
     ensures proper { IfOk result (λ tokens. EndOnce (length query.now) tokens.items) }
@@ -92,15 +97,15 @@ pub fn query_tokens(alloc: Global, query: &[u8]) -> Result<Vec<QueryToken>, Refu
     Ok(tokens)
 }
 
-/// A law: the tokens of a query are some with their numbers in range, designators with men, with squares and with flags
-/// that tell of these, none of which is an end, and then one end at the number of the query's bytes.
+/// A law: the tokens of a query are proper ones, and then one end at the number of the query's bytes. Proper tokens
+/// have their numbers in range, and their designators have men, squares and the right flags.
 #[tactic(auto, using(crate::proofs::Ends::tokens_end))]
 pub fn tokens_end_once()
     ensures { (query : List ℕ) (tokens : List QueryToken) → tokens_of query ≡ Ok tokens → EndOnce (length query) tokens }
 {}
 
-/// A law: a query of at most 65,536 bytes is read in one way. Separators are passed, else the first lexeme is a token, and
-/// what follows it is read after it.
+/// A law: a query of at most 65,536 bytes is read in one way. Separators are skipped. Elsewhere the first lexeme is a
+/// token, and the bytes after it are read next.
 #[tactic(auto, using(crate::proofs::ReadOnce::reads_tokens))]
 pub fn tokens_are_read()
     ensures { (query : List ℕ) (read : Result (List QueryToken) QueryFault) → length query ≤ most_bytes →

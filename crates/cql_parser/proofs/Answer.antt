@@ -1,4 +1,4 @@
--- The answers for a list of tokens.
+-- The results of reading a list of tokens.
 use Rattle.std.proofs.Common.{◌≡◌, ℕ, List, [], ◌∷◌, ◌++◌, refl, sym, ap, ap₂, ◌∙◌, subst}
 use Rattle.cql_syntax.specs.Trees.{QueryTree}
 use Rattle.cql_syntax.specs.declared.token.QueryToken.{QueryToken}
@@ -24,7 +24,7 @@ at_most_one l ts q r a b =
     ∙ query_read l ts b.as_written) (refl, refl) in
     sym a.is ∙ ap₂ (λ h ps. query_of (opening h) ps) one.0 one.1 ∙ b.is
 
--- what is stuck stays so
+-- a stuck state stays stuck
 stuck_stays : (l : ℕ) (ts : List QueryToken) → go l Stuck ts ≡ Stuck
 unfolding feed
 stuck_stays l [] = refl

@@ -1,4 +1,4 @@
--- What is begun may be brought to an end, and what is stuck may not.
+-- A state in which reading goes on may be brought to an end, and one that is stuck may not.
 use Rattle.std.proofs.Common.{◌≡◌, ℕ, ◌+◌, ◌<◌, ◌≤◌, zero, suc, List, [], ◌∷◌, ◌++◌, Option, Some, true, refl, sym, ap, ◌∙◌, subst, arith, append_assoc, append-nil}
 use Rattle.std.specs.Prelude.{fold}
 use Rattle.cql_syntax.specs.Words.{word_of, sign_of}
@@ -138,7 +138,7 @@ end_parts l n c ps goes_ = end_by (rank (end ps)) l n c ps (exit (end ps)) goes_
 pub begins_less : (l : ℕ) (ts more_ : List QueryToken) → IsGrammaticalPrefix l (ts ++ more_) → IsGrammaticalPrefix l ts
 begins_less l ts more_ b = record { rest = more_ ++ b.rest; query = subst (IsGrammatical l) (append_assoc ts more_ b.rest) b.query }
 
--- what follows where a rule is at its end
+-- the tokens that follow a rule at its end
 rule_ends : (l : ℕ) (h : List QueryToken) (b : Items) (d : Parts) (k : Frames) (ts : List QueryToken) → heading h ≡ Some Over
     → AllFit l b → Good l b k → due written k ≤ level_of (root d) → Under b k (role (head_of d).kind)
     → h ++ (items_text b ++ (stack_text k ++ texts d)) ≡ ts → (e : Ended l (depth written k) (around written k) d)

@@ -165,7 +165,7 @@ is_done (Done h b) live halts = (h, b, refl)
 is_done Deep live halts = absurd live
 is_done Stuck live halts = absurd live
 
--- where reading comes to the end, it is done
+-- reading that comes to the end is done
 pub end_is_done : (l : ℕ) (ts : List QueryToken) → IsEnded ts → Lives (go l (begun written) ts)
     → (h : List QueryToken) × (b : Items) × (go l (begun written) ts ≡ Done h b)
 end_is_done l ts ended live = is_done (go l (begun written) ts) live (halts_from l ts (begun written) ended)

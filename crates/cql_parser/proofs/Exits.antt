@@ -1,4 +1,4 @@
--- How each rule may be brought to its end.
+-- The ways of bringing each rule to its end.
 use Rattle.std.proofs.Common.{◌≡◌, ℕ, ◌<◌, ◌≤◌, [], ◌∷◌, Some, None, true, false, refl, arith}
 use Rattle.cql_syntax.specs.Words.{word_of, sign_of}
 use Rattle.cql_syntax.specs.declared.leaves.Outcome.TheVariants as outcomes
@@ -78,7 +78,7 @@ exit (UpEnd g b) = by_token (tokens.Mark 18) (Marked g b)
 exit (Marked true b) = by_token (tokens.Mark 16) Closed
 exit (Marked false b) = ended
 
--- how many steps that takes at most
+-- the greatest number of steps to the end
 abbrev pub rank : RuleState → ℕ
 rank Leaf = 0
 rank ResultDue = 1

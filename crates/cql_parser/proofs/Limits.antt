@@ -1,4 +1,4 @@
--- What the depth alone forbids.
+-- Token lists that the depth alone forbids.
 use Rattle.std.proofs.Common.{◌≡◌, ℕ, ◌+◌, ◌≤◌, List, [], ◌∷◌, ◌++◌, Option, Some, None, Bool, true, false, refl, sym, ap, ◌∙◌, subst, arith}
 use Rattle.std.specs.Prelude.{nat_le}
 use Rattle.cql_syntax.specs.declared.token.QueryToken.{QueryToken}
@@ -16,7 +16,7 @@ use Rattle.cql_parser.proofs.Begun.{Lives}
 use Rattle.cql_parser.proofs.Answer.{stuck_is_dead, living_begins}
 use Rattle.cql_parser.proofs.Read.{Frames, St, go, go_append, le_true}
 
--- what is written within a limit is written within a greater one
+-- a filter that is written within a limit is written within a greater one
 mutual
   more_fits : (l m n : ℕ) (c : OperandContext) (p : Phrase) → Fits l n c p → Fits (l + m) n c p
   more_fits l m n c (made ps) fits = (more_goes l m n c ps fits.0, fits.1)

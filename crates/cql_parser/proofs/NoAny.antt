@@ -1,4 +1,4 @@
--- No filter of a query that tokens spell is an `Any`, which no text gives.
+-- No filter of a query that tokens spell is an `Any`, which no text has.
 use Rattle.std.proofs.Common.{◌≡◌, ℕ, ◌==◌, Bool, true, false, List, [], ◌∷◌, ◌++◌, Option, Some, None, refl, sym, ap, ◌∙◌, subst}
 use Rattle.std.specs.Prelude.{◌||◌}
 use Rattle.std.specs.List.{list_any}
@@ -54,7 +54,7 @@ has_second : (os ps : List Occurrence) → has (os ++ ps) ≡ false → has ps �
 has_second [] ps e = e
 has_second (o ∷ os) ps e = has_second os ps (not_second (is_any o.form) (has (os ++ ps)) e)
 
--- wherever it stands, none is in it
+-- in no context has the filter an `Any`
 abbrev Free : FilterTree → Type 0
 Free f = (s : TypingContext) → has (occurrences s f) ≡ false
 
@@ -112,7 +112,7 @@ written_is : (f : FilterTree) → FreeWritten (written f) → Free f
 unfolding of_written
 written_is f free s = free s
 
--- rows, at one standing
+-- rows in one context
 abbrev RowAt : TypingContext → FilterTrees → Type 0
 RowAt s fs = has (all_of s fs) ≡ false
 
@@ -171,7 +171,7 @@ zero_free : Free (filter_at 0 (number 0))
 unfolding occurrences inner
 zero_free s = refl
 
--- what a draft has
+-- the parts of a partial filter
 record FreeDraft (d : PartialFilter) : Type 0 where
   one : FreeWritten d.one
   two : FreeWritten d.two
@@ -188,7 +188,7 @@ bodies_free : (cs : PartTrees) (b : Option BodyTree) (mark : Mark) → FreeParts
 bodies_free cs None mark frees free = frees
 bodies_free cs (Some b) mark frees free = parts_on cs b mark frees free
 
--- a draft with the same parts
+-- a partial filter with the same parts
 same_free : (d e : PartialFilter) → FreeDraft d → e.one ≡ d.one → e.two ≡ d.two → e.three ≡ d.three → e.last ≡ d.last → e.row ≡ d.row → e.parts ≡ d.parts → e.body ≡ d.body → FreeDraft e
 same_free d e f one two three last row parts body = record {
   one = subst FreeWritten (sym one) f.one;
@@ -320,7 +320,7 @@ need_free (written f) free = written_is f free
 form_inside : (f : FilterTree) → TypingContext → Free f → FreeForm (form f)
 form_inside (filter_at at f) s free = free_inside at f s free
 
--- some standing, to read what is in a filter
+-- some context, to read the filters in a filter
 abbrev anywhere : TypingContext
 anywhere = top_item 0
 

@@ -1,4 +1,4 @@
--- What is written is read.
+-- A query that is written is read.
 use Rattle.std.proofs.Common.{◌≡◌, ℕ, ◌+◌, ◌<◌, ◌≤◌, List, [], ◌∷◌, ◌++◌, Option, Some, None, true, false, refl, sym, ap, ap₂, ◌∙◌, subst, arith, append_assoc, append-nil}
 use Rattle.std.specs.Prelude.{nat_le, fold}
 use Rattle.cql_syntax.specs.declared.token.QueryToken.{QueryToken}
@@ -34,7 +34,7 @@ le_true a b h = grind arith
 pub true_le : (a b : ℕ) → nat_le a b ≡ true → a ≤ b
 true_le a b h = grind arith
 
--- what is open after a filter, or after parts of a rule, that follow what is open
+-- the frames open after a filter, or after parts of a rule, that follow open frames
 abbrev mutual
   pub spine : Phrase → Frames → Frames
   spine (made ps) k = spine_of ps k
@@ -146,7 +146,7 @@ mutual
       ∙ ap (λ s. go l s (text p)) (read_parts l h b ps k u goes_.5 low starts)
       ∙ read_phrase l h b p (InRule ps ∷ k) (Reading h b (spine_of ps k)) goes_.6 goes_.4 again
 
--- what is open after items, and the items before
+-- the frames open after items, and the items before
 abbrev pub read_items : List QueryToken → Items → St
 read_items h none = Reading h none []
 read_items h (more ps p) = Reading h ps (spine p [])

@@ -1,4 +1,4 @@
--- What is read is written.
+-- A query that is read is written.
 use Rattle.std.proofs.Common.{◌≡◌, ℕ, ◌+◌, ◌<◌, ◌≤◌, List, [], ◌∷◌, ◌++◌, Option, Some, None, Bool, true, false, refl, sym, ap, ◌∙◌, subst, arith, append_assoc, append-nil}
 use Rattle.std.specs.Prelude.{nat_le, fold}
 use Rattle.cql_syntax.specs.declared.token.QueryToken.{QueryToken}
@@ -25,7 +25,7 @@ Under b [] r = AllOver b r
 Under b (InRule ps ∷ k) r = (whole (end ps) ≡ false) × (goes (end ps) r ≡ None) × AreOver ps r
 Under b (Joining v p x j ∷ k) r = Unit {0}
 
--- what is open is written by the grammar
+-- the open frames are written by the grammar
 pub record GoodInRule (l : ℕ) (b : Items) (k : Frames) (ps : Parts) : Type 0 where
   pub goes_ : Goes l (depth written k) (around written k) ps
   pub low : due written k ≤ level_of (root ps)
@@ -94,13 +94,13 @@ item_text a b c ts is = ap (λ t. a ++ t) (append-nil (b ++ c)) ∙ is
 pub end_text : (a b c ts d : Tokens) → a ++ (b ++ c) ≡ ts → a ++ ((b ++ c) ++ d) ≡ ts ++ d
 end_text a b c ts d is = sym (append_assoc a (b ++ c) d) ∙ ap (λ t. t ++ d) is
 
--- a choice stands where each of both does
+-- a property of a choice, if each branch has it
 split : (l : ℕ) (ts : Tokens) (t : Bool) (s u : St) → (t ≡ true → Stands l ts s) → (t ≡ false → Stands l ts u)
     → Stands l ts (choose t s u)
 split l ts true s u f g = f refl
 split l ts false s u f g = g refl
 
--- what stands where a filter is due
+-- the properties of a state in which a filter is due
 pub record Waits (l : ℕ) (h : List QueryToken) (b : Items) (k : Frames) (ts : List QueryToken) : Type 0 where
   pub heads_ : heading h ≡ Some Over
   pub fits : AllFit l b
@@ -305,7 +305,7 @@ heads_to l h (Some FileDue) is = (refl, is)
 heads_to l h (Some MatchDue) is = (refl, is)
 heads_to l h (Some Over) is = record { heads_ = is; fits = tt; good = tt; fresh = λ r. tt; spelled = append-nil h }
 
--- each state stands for the tokens that were read
+-- each state has read exactly the tokens so far
 pub stands : (l : ℕ) (ts : List QueryToken) (s : St) (x : QueryToken) → Stands l ts s
     → Stands l (ts ++ (x ∷ [])) (feed written l s x)
 unfolding feed

@@ -1,4 +1,4 @@
--- What the code reads is what the grammar reads.
+-- The code reads exactly as the grammar does.
 use Rattle.std.proofs.Common.{◌≡◌, inl, inr, ℕ, ◌+◌, ◌<◌, ◌≤◌, List, [], ◌∷◌, ◌++◌, Bool, true, false, refl, sym, ap, ap₂, ◌∙◌, subst, take, drop, length, get_or, append_assoc, append-nil, ◌⊎◌, Result, Ok, Err, IfOk}
 use Rattle.std.proofs.lemmas.List.{take_all, take_more, take-append-drop}
 use Rattle.cql_syntax.specs.Limits.{most_open}
@@ -27,7 +27,7 @@ use Rattle.cql_parser.proofs.TreeBuilder.{plant, Leveled, StateLeveled, plant_fe
 use Rattle.cql_parser.proofs.Read.{Frames, St, go, go_append}
 use Rattle.cql_parser.proofs.ReadIsWritten.{Good, Stands, told}
 
--- what is read of tokens, by the grammar
+-- the state after tokens, by the grammar
 abbrev pub read : List QueryToken → St
 read ts = go most_open (begun written) ts
 
@@ -58,7 +58,7 @@ same_on ts x s u old new same fed =
     ap plant (feeds ts x) ∙ sym (plant_feed most_open (read ts) x (state_leveled most_open ts (read ts) (told most_open ts)))
     ∙ ap (λ v. feed tree_builder most_open v x) same ∙ sym fed
 
--- what the code has says whether reading goes on
+-- the code's state shows that reading goes on
 abbrev Living : MachineState → Type 0
 Living (Opening h place) = Unit {0}
 Living (Reading h b k) = Unit {0}

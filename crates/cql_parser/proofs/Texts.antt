@@ -1,4 +1,4 @@
--- Every text spells a query or has a fault, where the tokens of a text do.
+-- Every text spells a query or has a fault, if the tokens of a text do.
 use Rattle.std.proofs.Common.{◌≡◌, ◌⊎◌, inl, inr, ℕ, List, Result, Ok, Err, refl}
 use Rattle.cql_syntax.specs.Trees.{QueryTree}
 use Rattle.cql_syntax.specs.declared.fault.QueryFault.{QueryFault}

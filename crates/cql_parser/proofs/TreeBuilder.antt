@@ -34,7 +34,7 @@ plant (Done h b) = Done (opening h) (trees b)
 plant Deep = Deep
 plant Stuck = Stuck
 
--- what is open is joined by filters of their level
+-- the open frames are joined by filters of their level
 abbrev pub Leveled : Frames → Type 0
 Leveled [] = Unit {0}
 Leveled (InRule ps ∷ k) = Leveled k

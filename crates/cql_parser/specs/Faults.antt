@@ -1,4 +1,4 @@
--- What is wrong with tokens that spell no query.
+-- The faults of tokens that spell no query.
 use Rattle.std.specs.Prelude.{◌≡◌, ◌⊎◌, ℕ, List, [], ◌∷◌, ◌++◌, Result, Ok, Err}
 use Rattle.cql_syntax.specs.Limits.{most_open}
 use Rattle.cq_common.specs.declared.faults.Refusal.{Refusal}
@@ -20,8 +20,9 @@ IsEnded [] = ⊥
 IsEnded (x ∷ []) = x.kind ≡ End
 IsEnded (x ∷ y ∷ ts) = IsEnded (y ∷ ts)
 
--- Why no query begins with tokens of which the last is of this kind: a reserved name; the end of the query; the depth alone,
--- so that a query begins with them where more may be open; or a token that is not expected however much may be open.
+-- The reason why no query begins with tokens of which the last is of this kind. A reserved name and the end of the query have their own
+-- reasons. The depth alone is the reason if a query begins with the tokens within another limit. Any other token is unexpected within every
+-- limit.
 abbrev pub IsReason : List QueryToken → QueryTokenKind → QueryReason → Type 0
 IsReason ts (Reserved name) reason = reason ≡ OutsideProfile name
 IsReason ts End reason = reason ≡ UnexpectedEnd
@@ -40,7 +41,7 @@ pub record IsFault (ts : List QueryToken) (fault : QueryFault) : Type 0 where
   pub byte : fault.byte ≡ token.at
   pub reason : IsReason (before ++ (token ∷ [])) token.kind fault.reason
 
--- the query that the tokens spell, or their fault, unless it is refused as out of memory
+-- the query that the tokens spell, or their fault; nothing is promised if memory runs out
 abbrev pub Parses : List QueryToken → Result Query (Refusal QueryFault) → Type 0
 Parses ts (Ok query) = Spells most_open ts (query_tree query)
 Parses ts (Err (Fault fault)) = IsFault ts fault

@@ -12,12 +12,12 @@ use Rattle.cql_parser.specs.declared.role.Role.TheVariants.{End}
 use Rattle.cql_parser.specs.RuleStates.{role, heads, opens, goes, context, least, next, whole, level_of, depth_of, joint, infix_level, takes, joins}
 
 mutual
-  -- a filter as it is written: by a rule, or two filters and a token between them
+  -- a filter as it is written: by a rule, or as two filters and a token between them
   pub data Phrase : Type 0 where
     made : Parts → Phrase
     joined : Phrase → QueryToken → InfixOperator → Phrase → Phrase
 
-  -- the tokens and the filters along a rule, each with the place after it
+  -- the tokens and the filters along a rule, each with the state after it
   pub data Parts : Type 0 where
     first : QueryToken → RuleState → Parts
     add : Parts → QueryToken → RuleState → Parts
@@ -53,7 +53,7 @@ abbrev mutual
   head_of (add ps x s) = head_of ps
   head_of (put ps p s) = head_of ps
 
--- the place after the first token, and after the last part
+-- the state after the first token, and after the last part
 abbrev pub root : Parts → RuleState
 root (first x s) = s
 root (add ps x s) = root ps
@@ -68,8 +68,8 @@ abbrev pub level : Phrase → ℕ
 level (made ps) = level_of (root ps)
 level (joined p x j q) = infix_level j
 
--- Whether a token that follows belongs to nothing inside: a token belongs to the innermost rule that goes on with it, and
--- to the innermost row that it makes longer. So a brace after a part of a line is its mark.
+-- A token that follows belongs to nothing inside. A token belongs to the innermost rule that goes on with it, and to the innermost row that
+-- it makes longer. So a brace after a part of a line is its mark.
 abbrev mutual
   pub IsOver : Phrase → Role → Type 0
   IsOver (made ps) r = AreOver ps r × (goes (end ps) r ≡ None)
@@ -80,8 +80,7 @@ abbrev mutual
   AreOver (add ps x s) r = Unit {0}
   AreOver (put ps p s) r = IsOver p r × (joins (least (end ps)) r ≡ false)
 
--- Whether a filter is written by the grammar, where so many rules that count are open around it, and no more than a limit
--- may be.
+-- A filter is written by the grammar. So many counted rules are open around it, and no more than a limit may be.
 abbrev mutual
   pub Fits : ℕ → ℕ → OperandContext → Phrase → Type 0
   Fits limit n c (made ps) = Goes limit n c ps × (whole (end ps) ≡ true)
@@ -107,7 +106,7 @@ abbrev pub AllFit : ℕ → Items → Type 0
 AllFit limit none = Unit {0}
 AllFit limit (more ps p) = AllOver ps (role (head p).kind) × AllFit limit ps × Fits limit 0 Within p
 
--- the place in the head of a query to which tokens lead
+-- the state of a query's head to which tokens lead
 abbrev pub head_step : Option HeadState → QueryToken → Option HeadState
 head_step None x = None
 head_step (Some place) x = heads place (role x.kind)

@@ -38,11 +38,11 @@ pub data Node : Type 0 where
   a_filter : FilterTree → Node
   a_group : PartTrees → Node
 
--- what the tokens and filters along a rule say so far
+-- the values of the tokens and filters along a rule so far
 pub record PartialFilter : Type 0 where
   pub at : ℕ
   pub production : Production
-  -- `all`, `min` or `primary` is written, and `<--`
+  -- `all`, `min` or `primary` is written; then `<--` is written
   pub flag : Bool
   pub back : Bool
   pub side : Of
@@ -52,7 +52,7 @@ pub record PartialFilter : Type 0 where
   pub least : ℕ
   pub most : ℕ
   pub extent : Extent
-  -- the first, second and third filter of a rule in which each has its place, the last one, and filters in a row
+  -- the first, second and third operand of a rule that has a slot for each, the last one, and filters in a row
   pub one : WrittenTree
   pub two : WrittenTree
   pub three : WrittenTree
@@ -67,7 +67,7 @@ abbrev pub name_of : QueryTokenKind → List ℕ
 name_of (tokens.Name text) = text
 name_of kind = []
 
--- the first token of a rule, which leads to a place; a direction without numbers is of 1 to 7 steps
+-- The first token of a rule, which leads to a state. A direction without numbers is of 1 to 7 steps.
 abbrev pub partial_filter_of : QueryToken → RuleState → PartialFilter
 partial_filter_of x place = record {
   at = x.at;
@@ -117,12 +117,12 @@ with_sign d (Some signs.Plus) = record d { mark = marks.Plus }
 with_sign d (Some signs.Question) = record d { mark = marks.Maybe }
 with_sign d sign = d
 
--- the lengths of paths from one number to another, where both may be such lengths
+-- the extent from one length to another, or any extent if one of them is no length of a path
 abbrev pub extent_of : Option ℕ → Option ℕ → Extent
 extent_of (Some a) (Some b) = Within a b
 extent_of a b = Any
 
--- a number along a rule, by the place before it
+-- a number along a rule, by the state before it
 abbrev pub with_number : PartialFilter → ℕ → RuleState → PartialFilter
 with_number d n places.OneNumber = record d { most = n }
 with_number d n places.LineMost = record d { most = n; extent = extent_of (path_length d.least) (path_length n) }
@@ -130,7 +130,7 @@ with_number d n (places.Count g b) = record d { least = n; most = n; mark = mark
 with_number d n (places.UpTo g b) = record d { most = n; mark = marks.Times d.least n }
 with_number d n place = record d { least = n; most = n }
 
--- a token along a rule, by the place before it
+-- a token along a rule, by the state before it
 abbrev pub say : PartialFilter → QueryTokenKind → RuleState → PartialFilter
 say d (tokens.Word w) place = with_word d (word_of w)
 say d (tokens.Mark m) place = with_sign d (sign_of m)
@@ -144,12 +144,12 @@ abbrev pub body_of : Node → BodyTree
 body_of (a_filter f) = atom f
 body_of (a_group cs) = group cs
 
--- parts of a line in parentheses stand nowhere but in a line
+-- the filter of a node; a group occurs only in a line
 abbrev pub filter_of : Node → FilterTree
 filter_of (a_filter f) = f
 filter_of (a_group cs) = filter_at 0 (number 0)
 
--- a filter along a rule, by the place before it
+-- a filter along a rule, by the state before it
 abbrev pub take : PartialFilter → Node → RuleState → PartialFilter
 take d node places.Condition = record d { one = written (filter_of node) }
 take d node places.SquaresDue = record d { one = written (filter_of node) }
@@ -212,7 +212,7 @@ abbrev pub node_by : PartialFilter → Production → Node
 node_by d productions.Group = a_group (with_body d.parts d.body d.mark)
 node_by d m = a_filter (filter_at d.at (form_of d m))
 
--- what a rule at its end makes
+-- the node of a rule at its end
 abbrev pub node_of : PartialFilter → Node
 node_of d = node_by d d.production
 
@@ -291,7 +291,7 @@ opening ts = fold (λ o x. add_token o x x.kind) no_opening ts
 abbrev pub query_of : Opening → Items → QueryTree
 query_of o ps = record { variations = o.variations; match_at = o.match_at; match_text = o.match_text; items = trees ps }
 
--- the tokens spell a query, where no more rules that count than a limit may be open at a place
+-- the tokens spell a query, and no more counted rules than a limit are open at a place
 pub record Spells (limit : ℕ) (ts : List QueryToken) (q : QueryTree) : Type 0 where
   pub as_written : IsGrammatical limit ts
   pub is : query_of (opening as_written.opening) as_written.items ≡ q

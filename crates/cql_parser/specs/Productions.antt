@@ -1,4 +1,4 @@
--- What the rules of the grammar make of their parts.
+-- The forms that the rules of the grammar produce from their parts.
 use Rattle.std.specs.Prelude.{Bool, true, false, Option, Some}
 use Rattle.cql_syntax.specs.Words.{word_of, sign_of}
 use Rattle.cql_syntax.specs.declared.leaves.Chain.TheVariants as chains
@@ -16,7 +16,7 @@ use Rattle.cql_parser.specs.declared.production.Production.TheVariants.{Designat
 use Rattle.cql_parser.specs.declared.rule_state.RuleState.{RuleState}
 use Rattle.cql_parser.specs.declared.rule_state.RuleState.TheVariants.{Part}
 
--- whether the form that the rule makes has no text and no filters in it
+-- true if the form of the rule has no text and no filters in it
 abbrev pub is_leaf : Production → Bool
 is_leaf (Designator squares) = true
 is_leaf (Number n) = true
@@ -26,7 +26,7 @@ is_leaf Elo = true
 is_leaf Group = true
 is_leaf m = false
 
--- what the rule of a word makes
+-- the production of a word's rule
 abbrev pub word_production : Option OneWord → Production
 word_production (Some (meanings.Plain plain)) = Plain plain
 word_production (Some (meanings.Unary unary)) = Unary unary
@@ -52,14 +52,14 @@ abbrev pub parens_production : RuleState → Production
 parens_production (Part group back) = Group
 parens_production place = Parens
 
--- what the rule of a mark makes, by the place after it
+-- the production of a mark's rule, by the state after it
 abbrev pub sign_production : Option OneSign → RuleState → Production
 sign_production (Some signs.Tilde) place = Unary unaries.Complement
 sign_production (Some signs.Hash) place = Unary unaries.Count
 sign_production (Some signs.OpenBrace) place = List chains.All
 sign_production sign place = parens_production place
 
--- what the rule makes whose first token leads to a place
+-- the production of the rule whose first token leads to a state
 unfoldable pub production : QueryTokenKind → RuleState → Production
 production (tokens.Squares designator) place = Designator designator
 production (tokens.Number number) place = Number number

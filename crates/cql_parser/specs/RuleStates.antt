@@ -1,8 +1,10 @@
--- The places in the rules of the grammar, and what may stand at each.
+-- The states of the grammar's rules, and the tokens and filters that may follow each.
 --
--- A rule is written as the places that one passes along it. At a place a token may go on with the rule, a filter may be
--- due, or the rule may be at its end. The levels of filters, from those that bind least: 0 or, 1 and, 2 pre, 3 comparison,
--- 4 sum, 5 product, 6 union, 7 intersection, 8 pair, 9 unary, 10 primary.
+-- A rule is written as the states that one passes along it. In a state a token may go on with the rule, a filter may be due, or the rule
+-- may be at its end.
+--
+-- The levels of filters, from those that bind least, are: 0 or, 1 and, 2 pre, 3 comparison, 4 sum, 5 product. Those that bind more are:
+-- 6 union, 7 intersection, 8 pair, 9 unary, 10 primary.
 use Rattle.std.specs.Prelude.{ℕ, Bool, true, false, Option, None, Some, nat_le, nat_lt, ◌&&◌}
 use Rattle.cql_syntax.specs.Limits.{longest_path}
 use Rattle.cql_syntax.specs.Words.{word_of, sign_of}
@@ -29,7 +31,7 @@ use Rattle.cql_parser.specs.declared.role.InfixOperator.TheVariants.{Chained, Ad
 use Rattle.cql_parser.specs.declared.role.Role.{Role}
 use Rattle.cql_parser.specs.declared.role.Role.TheVariants.{Word, Sign, Number, Name, Text, FileName, Outcome, Designator, End, Other}
 
--- what a word or mark is, where there is one of the number
+-- the role of a word or mark, by its number
 abbrev pub word_role : Option OneWord → Role
 word_role (Some word) = Word word
 word_role None = Other
@@ -38,7 +40,7 @@ abbrev pub sign_role : Option OneSign → Role
 sign_role (Some sign) = Sign sign
 sign_role None = Other
 
--- what the grammar sees of a token; of a number, whether it may be the length of a path
+-- the role of a token; a number has a flag: true if it may be the length of a path
 unfoldable pub role : QueryTokenKind → Role
 role (tokens.Word number) = word_role (word_of number)
 role (tokens.Reserved name) = Other
@@ -51,8 +53,8 @@ role (tokens.Outcome outcome) = Outcome
 role (tokens.Mark number) = sign_role (sign_of number)
 role tokens.End = End
 
--- The head of a query, `cql ( {param} )`, where a parameter is `input` or `output` and the name of a file or a text,
--- `matchstring` and a text, or `variations`.
+-- The head of a query, `cql ( {param} )`. A parameter is `input` or `output` and the name of a file or a text, `matchstring` and a text, or
+-- `variations`.
 unfoldable pub heads : HeadState → Role → Option HeadState
 heads Start (Word meanings.Cql) = Some ListDue
 heads ListDue (Sign signs.Open) = Some Params
@@ -66,7 +68,7 @@ heads FileDue Text = Some Params
 heads MatchDue Text = Some Params
 heads heading role = None
 
--- the place after a word that stands before one filter
+-- the state after a word before one filter
 abbrev pub unary_state : Unary → RuleState
 unary_state unaries.Not = Pre
 unary_state unaries.Complement = Tight
@@ -79,7 +81,7 @@ unary_state unaries.FindUp = Pre
 unary_state unaries.Child = Pre
 unary_state unaries.Parent = Pre
 
--- the place after the first token of a filter, by the token
+-- the state after the first token of a filter, by the token
 abbrev pub begin : Role → Option RuleState
 begin Designator = Some Leaf
 begin (Number allowed) = Some Leaf
@@ -108,8 +110,8 @@ begin (Sign signs.Open) = Some Parens
 begin (Sign signs.OpenBrace) = Some Braces
 begin role = None
 
--- The same where a filter is due. Where a part of a line is due a
--- parenthesis opens a group, which goes the way of the line. After a direction and two numbers no number begins the part.
+-- The same for a filter that is due. A parenthesis opens a group if a part of a line is due, and the group goes the way of the line. The
+-- part of a direction with two numbers begins with no number.
 unfoldable pub opens : OperandContext → Role → Option RuleState
 opens NoOperand role = None
 opens NoNumber (Number allowed) = None
@@ -130,7 +132,7 @@ part_end_state true back (Sign signs.Close) = Some Closed
 part_end_state group back (Sign sign) = arrow_state group back sign
 part_end_state group back role = None
 
--- The place to which a token goes on.
+-- The state after a token.
 unfoldable pub goes : RuleState → Role → Option RuleState
 -- `result RESULT`, `player [white|black] TEXT`, `event TEXT`, `site TEXT`, `comment TEXT`, `elo [white|black]`
 goes ResultDue Outcome = Some Leaf
@@ -201,8 +203,9 @@ goes (Bare group back) role = part_end_state group back role
 goes (Marked group back) role = part_end_state group back role
 goes place role = None
 
--- What stands at a place: what is around the filter that is due there, the least level of it and the place after it; whether the rule may
--- be at its end; and, where the first token of a filter leads there, the level of that filter and how much deeper its parts stand.
+-- The properties of a state. If a filter is due in it: the context of the filter, its least level, and the state after it. Then a flag:
+-- true if the rule may be at its end. If the first token of a filter leads to it: the level of that filter, and the depth that its parts
+-- add.
 pub record StateProperties : Type 0 where
   pub context : OperandContext
   pub least : ℕ
@@ -284,7 +287,7 @@ level_of place = (spot place).level
 unfoldable pub depth_of : RuleState → ℕ
 depth_of place = (spot place).depth
 
--- what a token between two filters makes of them
+-- the operation of a token between two filters
 unfoldable pub joint : Role → Option InfixOperator
 joint (Word meanings.Or) = Some (Chained chains.Or)
 joint (Word meanings.And) = Some (Chained chains.And)
@@ -328,12 +331,12 @@ infix_level (Chained c) = chain_level c
 infix_level (Added minus) = 4
 infix_level (Paired p) = pair_level p
 
--- whether a filter of a level may stand before the token: a row goes on at its own level, a pair doesn't
+-- True if a filter of a level may come before the token. A row goes on at its own level, a pair doesn't.
 unfoldable pub takes : InfixOperator → ℕ → Bool
 takes (Chained c) level = nat_le (chain_level c) level
 takes (Added minus) level = nat_le 4 level
 takes (Paired p) level = nat_lt (pair_level p) level
 
--- whether a token joins filters to a row of at least this level
+-- true if a token joins filters to a row of at least this level
 abbrev pub joins : ℕ → Role → Bool
 joins level role = elim (joint role) [ Some j ↦ nat_le level (infix_level j) | None ↦ false ]

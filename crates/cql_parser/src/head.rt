@@ -17,7 +17,11 @@ pub struct Head {
 }
 
 impl Head {
-    /// No parameters.
+    /// Returns a head without parameters.
+    ///
+    /// # Errors
+    ///
+    /// Returns `NoMemory` if memory runs out.
     pub fn new(alloc: Global) -> Result<Head, NoMemory>
         ensures { IfOk result (λ h. head_model h ≡ no_opening) }
     {
@@ -29,7 +33,7 @@ impl Head {
         })
     }
 
-    // A word.
+    // Adds a word.
     fn add_word(&mut self, at: u32, word: Option<Word>)
         ensures { head_model self.new ≡ add_word (head_model self.old) at word }
     {
@@ -40,7 +44,7 @@ impl Head {
         }
     }
 
-    // A text.
+    // Adds a text.
     fn add_text(&mut self, alloc: Global, text: &[u8]) -> Result<(), NoMemory>
         ensures { OnOk result (head_model self.new ≡ add_text (head_model self.old) text.now (head_model self.old).pending) }
     {
@@ -52,7 +56,11 @@ impl Head {
         Ok(())
     }
 
-    /// One token more.
+    /// Adds a token.
+    ///
+    /// # Errors
+    ///
+    /// Returns `NoMemory` if memory runs out.
     pub fn add_token(&mut self, alloc: Global, token: &QueryToken) -> Result<(), NoMemory>
         ensures { OnOk result (head_model self.new ≡ add_token (head_model self.old) token.now token.now.kind) }
     {

@@ -1,4 +1,4 @@
-//! Filters with a token between them. A filter that is left over where memory is refused is dropped by a call, whose proof is shorter
+//! Filters with a token between them. A filter that is left over when memory runs out is dropped by a call, whose proof is shorter
 //! than that of a `?` beside it.
 ghost use Rattle.std.specs.Prelude.{◌≡◌, ◌==◌, IfOk};
 ghost use Rattle.cql_syntax.specs.TreeOf.{filter_tree, filters_tree, form_tree, terms_tree};
@@ -13,7 +13,7 @@ use cq_common::NoMemory;
 use cql_syntax::{Chain, Filter, Filters, Form, Pair, Term, Terms};
 use std::alloc::Global;
 
-// One filter more at the end.
+// The filters, and one more at the end.
 fn more_filters(parts: Filters, next: Filter) -> Result<Filters, NoMemory>
     ensures { IfOk result (λ fs. filters_tree fs ≡ with_filter (filters_tree parts) (filter_tree next)) }
 {
@@ -22,7 +22,7 @@ fn more_filters(parts: Filters, next: Filter) -> Result<Filters, NoMemory>
     Ok(parts)
 }
 
-// One term more at the end.
+// The terms, and one more at the end.
 fn more_terms(terms: Terms, minus: bool, filter: Filter) -> Result<Terms, NoMemory>
     ensures { IfOk result (λ ts. terms_tree ts ≡ with_term (terms_tree terms) minus (filter_tree filter)) }
 {
@@ -44,7 +44,7 @@ fn new_chain(alloc: Global, first: Filter, chain: Chain, second: Filter) -> Resu
     }
 }
 
-// A sum of two filters; whether the second is subtracted.
+// A sum of two filters. The second is subtracted if `minus` is true.
 fn new_sum(alloc: Global, first: Filter, minus: bool, second: Filter) -> Result<Form, NoMemory>
     ensures { IfOk result (λ f. form_tree f ≡ new_infix (filter_tree first) (Added minus) (filter_tree second)) }
 {
@@ -57,7 +57,7 @@ fn new_sum(alloc: Global, first: Filter, minus: bool, second: Filter) -> Result<
     }
 }
 
-// A filter that is set against another.
+// A filter paired with a second one.
 fn pair_with(
     alloc: Global,
     first: Box<Filter>,
@@ -75,7 +75,7 @@ fn pair_with(
     }
 }
 
-// Two filters that are set against each other.
+// A pair of two filters.
 fn new_pair(alloc: Global, first: Filter, pair: Pair, second: Filter) -> Result<Form, NoMemory>
     ensures { IfOk result (λ f. form_tree f ≡ new_infix (filter_tree first) (Paired pair) (filter_tree second)) }
 {
@@ -104,7 +104,7 @@ fn new_infix(
     }
 }
 
-// Whether the filter after the token is subtracted.
+// True if the filter after the token is subtracted.
 fn subtracts(joint: InfixOperator) -> bool
     ensures { result ≡ subtracts joint }
 {
@@ -114,21 +114,21 @@ fn subtracts(joint: InfixOperator) -> bool
     }
 }
 
-// A chain, and one filter more.
+// A chain with one filter more.
 fn longer_chain(chain: Chain, parts: Filters, next: Filter) -> Result<Form, NoMemory>
     ensures { IfOk result (λ f. form_tree f ≡ chain_of chain (with_filter (filters_tree parts) (filter_tree next))) }
 {
     Ok(Form::Chain(chain, more_filters(parts, next)?))
 }
 
-// A sum, and one filter more; whether it is subtracted.
+// A sum with one filter more, which is subtracted if `minus` is true.
 fn longer_sum(terms: Terms, minus: bool, next: Filter) -> Result<Form, NoMemory>
     ensures { IfOk result (λ f. form_tree f ≡ sum_of (with_term (terms_tree terms) minus (filter_tree next))) }
 {
     Ok(Form::Sum(more_terms(terms, minus, next)?))
 }
 
-// A row, and one filter more at its end.
+// A row with one filter more at its end.
 fn longer_infix(
     alloc: Global,
     row: Filter,
@@ -145,7 +145,7 @@ fn longer_infix(
     }
 }
 
-// A filter and one more after a token, where the first is a row that goes on or becomes the first of a new row.
+// A filter and one more after a token. The first is a row that goes on, or becomes the first of a new row.
 fn infix_of(
     alloc: Global,
     goes_on: bool,
@@ -164,7 +164,11 @@ fn infix_of(
     Ok(Filter { at, form })
 }
 
-/// Two filters and a token between them; the first is of a level.
+/// Returns two filters with a token between them as one filter. The first is of the given level.
+///
+/// # Errors
+///
+/// Returns `NoMemory` if memory runs out.
 pub fn joined(
     alloc: Global,
     level: u8,

@@ -27,7 +27,7 @@ pub fn faulty_tokens_spell_no_query()
     ensures { (tokens : List QueryToken) (f : QueryFault) (q : QueryTree) → IsFault tokens f → Spells most_open tokens q → ⊥ }
 {}
 
-/// A law: no filter of a query that tokens spell is an `Any`, which no text gives.
+/// A law: no filter of a query that tokens spell is an `Any`, which no text has.
 pub fn spelled_queries_have_no_any()
     ensures { (tokens : List QueryToken) (q : QueryTree) → Spells most_open tokens q → has_any q ≡ false }
 {}
@@ -45,7 +45,7 @@ pub fn tokens_spell_a_query_or_have_a_fault()
         → ((q : QueryTree) × Spells most_open tokens q) ⊎ ((f : QueryFault) × IsFault tokens f) }
 {}
 
-/// A law: every text spells a query, or has a fault: of its characters, or of its tokens.
+/// A law: every text spells a query or has a fault, of its characters or of its tokens.
 pub fn texts_spell_a_query_or_have_a_fault()
     ensures { (text : List ℕ) → ((q : QueryTree) × TextSpells text q) ⊎ ((f : QueryFault) × IsTextFault text f) }
 {

@@ -1,4 +1,4 @@
-//! The grammar of queries: which query a list of tokens spells.
+//! The grammar of queries: the query that a list of tokens spells.
 #![tactic(auto)]
 
 mod head;

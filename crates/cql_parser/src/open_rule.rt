@@ -1,4 +1,4 @@
-//! A rule along which reading goes.
+//! A rule that is being read.
 ghost use Rattle.std.specs.Prelude.{◌≡◌, IfOk};
 ghost use Rattle.cql_parser.specs.PartialFilters.{node_of};
 ghost use Rattle.cql_parser.specs.RuleStates.{next};
@@ -11,7 +11,7 @@ use cq_common::NoMemory;
 use cql_syntax::QueryToken;
 use std::alloc::Global;
 
-/// The place after the first token of a rule, the place after its last part, and what its parts say.
+/// The state after the first token of a rule, the state after its last part, and the filter so far.
 #[derive(Drop)]
 pub struct OpenRule {
     pub root: RuleState,
@@ -20,7 +20,11 @@ pub struct OpenRule {
 }
 
 impl OpenRule {
-    /// The first token of a rule, which leads to a place.
+    /// Returns a rule with its first token, which leads to a state.
+    ///
+    /// # Errors
+    ///
+    /// Returns `NoMemory` if memory runs out.
     pub fn new(alloc: Global, token: &QueryToken, place: RuleState) -> Result<OpenRule, NoMemory>
         ensures { IfOk result (λ r. rule_model r ≡ tree_builder.first_of token.now place) }
     {
@@ -31,8 +35,12 @@ impl OpenRule {
         })
     }
 
-    /// The rule with a token more along it, and the place after that. A refused one is dropped, by a call, whose proof is shorter than
-    /// that of a `?`.
+    /// Returns the rule with a token more, and the state after it. On an error the rule is dropped by a call, whose proof is shorter
+    /// than that of a `?`.
+    ///
+    /// # Errors
+    ///
+    /// Returns `NoMemory` if memory runs out.
     pub fn add(
         self,
         alloc: Global,
@@ -50,7 +58,11 @@ impl OpenRule {
         Ok(rule)
     }
 
-    /// The rule with a filter more along it. A refused one is dropped.
+    /// Returns the rule with a filter more. On an error the rule is dropped.
+    ///
+    /// # Errors
+    ///
+    /// Returns `NoMemory` if memory runs out.
     pub fn put(self, alloc: Global, node: Node) -> Result<OpenRule, NoMemory>
         ensures { IfOk result (λ r. rule_model r ≡ tree_builder.put_of (rule_model self) (node_model node) (next self.end)) }
     {
@@ -63,7 +75,11 @@ impl OpenRule {
         Ok(rule)
     }
 
-    /// What the rule makes at its end.
+    /// Returns the node of the rule at its end.
+    ///
+    /// # Errors
+    ///
+    /// Returns `NoMemory` if memory runs out.
     pub fn build(self, alloc: Global) -> Result<Node, NoMemory>
         ensures { IfOk result (λ n. node_model n ≡ node_of (partial_filter_model self.draft)) }
     {

@@ -1,4 +1,4 @@
-//! Reading a query token by token.
+//! The parser, which reads a query token by token.
 ghost use Rattle.std.specs.Prelude.{◌≡◌, ◌≤◌, [], ◌∷◌, false, IfOk, OnOk};
 ghost use Rattle.cql_syntax.specs.Limits.{most_open};
 ghost use Rattle.cql_syntax.specs.TreeOf.{filters_tree, query_tree};
@@ -22,7 +22,7 @@ use cq_common::NoMemory;
 use cql_syntax::{Filters, Query, QueryToken};
 use std::alloc::Global;
 
-/// What was read: the head of a query, its items, and what is open after them.
+/// The result so far: the head of a query, its items, and the open frames after them.
 #[derive(Drop)]
 pub struct Parser {
     pub head: Head,
@@ -30,31 +30,31 @@ pub struct Parser {
     pub stack: Stack,
 }
 
-/// Where reading stands.
+/// The state of the parser.
 #[derive(Clone, Copy)]
 pub enum ParserState {
     /// In the head of the query.
     Opening(HeadState),
-    /// After it.
+    /// After the head.
     Reading,
     /// After the end of the query.
     Done,
-    /// No query goes on so, for the depth alone.
+    /// No query begins with these tokens, because of the depth alone.
     Deep,
-    /// No query goes on so.
+    /// No query begins with these tokens.
     Stuck,
 }
 
-/// What comes of a token after a rule.
+/// The step of the parser at a token after a rule.
 #[derive(Drop)]
 pub enum ParserStep {
-    /// The rule is at its end: a filter of a level, which the token follows.
+    /// The rule is at its end: a filter of a level, before the token.
     Ended(u8, Node),
     Continued(ParserState),
 }
 
 impl ParserState {
-    /// Whether no query goes on so.
+    /// Returns true if no query begins with the tokens so far.
     pub fn is_fault(self) -> bool
         ensures { result ≡ is_fault self }
     {
@@ -63,7 +63,11 @@ impl ParserState {
 }
 
 impl Parser {
-    /// Nothing read.
+    /// Returns a parser that has read nothing.
+    ///
+    /// # Errors
+    ///
+    /// Returns `NoMemory` if memory runs out.
     pub fn new(alloc: Global) -> Result<Parser, NoMemory>
         ensures { IfOk result (λ r. state_model at_start r ≡ begun tree_builder) }
     {
@@ -74,7 +78,7 @@ impl Parser {
         })
     }
 
-    // Something more that is open.
+    // Opens one frame more.
     fn open_frame(&mut self, frame: Frame) -> Result<ParserState, NoMemory>
         requires { open_in tree_builder (frame_model frame ∷ frames_in self.old) ≤ most_open }
         ensures { IfOk result (λ r. state_model r self.new ≡
@@ -84,7 +88,7 @@ impl Parser {
         Ok(ParserState::Reading)
     }
 
-    // The first token of a rule, which leads to a place.
+    // Reads the first token of a rule, which leads to a state.
     fn begin(
         &mut self,
         alloc: Global,
@@ -99,7 +103,7 @@ impl Parser {
         self.open_frame(Frame::InRule(rule))
     }
 
-    // A token where a filter is due.
+    // Reads a token at a point where a filter is due.
     fn start(
         &mut self,
         alloc: Global,
@@ -121,7 +125,7 @@ impl Parser {
         }
     }
 
-    // A token between a filter of a level and the next one.
+    // Reads a token between a filter of a level and the next one.
     fn join(&mut self, level: u8, node: Node, role: Role) -> Result<ParserState, NoMemory>
         requires { open_in tree_builder (frames_in self.old) ≤ most_open }
         ensures { IfOk result (λ r. (x : QueryToken) → state_model r self.new ≡
@@ -138,7 +142,7 @@ impl Parser {
         }
     }
 
-    // A token after an item.
+    // Reads a token after an item.
     fn after_item(
         &mut self,
         alloc: Global,
@@ -155,7 +159,7 @@ impl Parser {
         }
     }
 
-    // A token after the parts of a rule.
+    // Reads a token after the parts of a rule.
     fn onward(
         &mut self,
         alloc: Global,
@@ -182,7 +186,8 @@ impl Parser {
         Ok(ParserStep::Continued(self.start(alloc, token, role)?))
     }
 
-    // A token that comes after a filter and joins it to no other, where this was innermost.
+    // Passes a token that follows a filter and joins it to no other. The filter ends the innermost
+    // frame.
     #[tactic(auto, unfolding(crate::specs::Internal::Machine::after))]
     fn pass(
         &mut self,
@@ -209,7 +214,7 @@ impl Parser {
         }
     }
 
-    // A token after the last filter of an item.
+    // Reads a token after the last filter of an item.
     #[tactic(auto, unfolding(crate::specs::Internal::Machine::after))]
     fn end_item(
         &mut self,
@@ -228,7 +233,7 @@ impl Parser {
         self.after_item(alloc, token, role)
     }
 
-    // A token after a filter of a level.
+    // Reads a token after a filter of a level.
     fn after(
         &mut self,
         alloc: Global,
@@ -257,7 +262,7 @@ impl Parser {
         self.join(level, node, role)
     }
 
-    // A token after the head.
+    // Reads a token after the head.
     #[tactic(auto, unfolding(crate::specs::Internal::Machine::feed))]
     fn read(
         &mut self,
@@ -282,7 +287,7 @@ impl Parser {
         }
     }
 
-    // The next place in the head, or the items, of which there are none yet.
+    // Goes on with the next state of the head, or with the items, of which there are none yet.
     fn open(&mut self, alloc: Global, place: Option<HeadState>) -> ParserState
         ensures { state_model result self.new ≡ head_to tree_builder (head_in self.old) place }
     {
@@ -297,7 +302,11 @@ impl Parser {
         }
     }
 
-    /// One token more.
+    /// Reads one token more, and returns the state after it.
+    ///
+    /// # Errors
+    ///
+    /// Returns `NoMemory` if memory runs out.
     #[tactic(auto, unfolding(crate::specs::Internal::Machine::feed))]
     pub fn feed(
         &mut self,
@@ -319,7 +328,7 @@ impl Parser {
         }
     }
 
-    /// The query that was read.
+    /// Returns the query that was read.
     pub fn finish(self) -> Query
         ensures { query_tree result ≡ query_in self }
     {

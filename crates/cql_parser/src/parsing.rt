@@ -1,4 +1,4 @@
-//! Parsing the tokens of a query.
+//! The parsing of a query's tokens.
 ghost use Rattle.std.specs.Prelude.{◌≡◌, IfOk};
 ghost use Rattle.cql_parser.specs.Faults.{IsEnded, Parses};
 ghost use Rattle.cql_parser.specs.Internal.ParserStates.{reason_of};
@@ -9,7 +9,7 @@ use cq_common::{Bytes, NoMemory, Refusal};
 use cql_syntax::{Query, QueryFault, QueryReason, QueryToken, QueryTokenKind};
 use std::alloc::Global;
 
-// Why no query goes on with a token.
+// The reason why no query goes on with a token.
 fn reason_at(
     alloc: Global,
     kind: &QueryTokenKind,
@@ -29,10 +29,19 @@ fn reason_at(
     })
 }
 
-/// The query that the tokens of a text spell, or their fault. The fault is at the first token such that no query begins
-/// with the tokens up to it: a reserved name is outside the profile, at the end the query ends too early, a token that
-/// would open a 65th construct where the grammar alone allows it is too deep, and any other is unexpected. Its byte is
-/// the place of that token, and of the end the length of the text.
+/// Returns the query that the tokens of a text spell.
+///
+/// # Errors
+///
+/// Returns a `Refusal::Fault` at the first token such that no query begins with the tokens up to it. Its byte is the
+/// place of that token; for the end it is the length of the text. The reasons are:
+///
+/// - `OutsideProfile`: a reserved name.
+/// - `UnexpectedEnd`: the end of the query, which comes too early.
+/// - `TooDeep`: a token that would open a 65th construct, if the grammar alone allows the token.
+/// - `UnexpectedToken`: any other token.
+///
+/// Returns `Refusal::NoMemory` if memory runs out.
 pub fn parse(alloc: Global, tokens: &[QueryToken]) -> Result<Query, Refusal<QueryFault>>
     requires { IsEnded tokens.now }
     ensures { Parses tokens.now result }

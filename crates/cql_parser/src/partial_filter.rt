@@ -1,4 +1,4 @@
-//! A rule part by part, and the filter that it makes.
+//! A rule part by part, and the filter that it becomes.
 ghost use Rattle.std.specs.Prelude.{◌≡◌, true, IfOk, OnOk, Some};
 ghost use Rattle.std.specs.Option.{option_map};
 ghost use Rattle.cql_syntax.specs.TreeOf.{filter_tree, form_tree, body_tree, parts_tree, played_tree, written_tree};
@@ -26,7 +26,7 @@ pub enum Node {
     Group(Constituents),
 }
 
-/// What the tokens and filters along a rule say so far.
+/// A filter so far: the values of the tokens and filters along its rule.
 #[derive(Drop)]
 pub struct PartialFilter {
     pub at: u32,
@@ -44,7 +44,7 @@ pub struct PartialFilter {
     pub line: Parts,
 }
 
-/// The filters of a rule in which each has its place.
+/// The operands of a rule that has a slot for each.
 #[derive(Drop)]
 pub struct OperandSlots {
     pub one: Option<Box<Filter>>,
@@ -71,7 +71,7 @@ fn copied_name(alloc: Global, kind: &QueryTokenKind) -> Result<Bytes, NoMemory>
     }
 }
 
-// The lengths of paths from one number to another, where both may be such lengths.
+// The extent from one length to another, or any extent if one of them is no length of a path.
 fn extent_between(least: Option<PathLength>, most: Option<PathLength>) -> Extent
     ensures { result ≡ extent_of least most }
 {
@@ -82,7 +82,11 @@ fn extent_between(least: Option<PathLength>, most: Option<PathLength>) -> Extent
 }
 
 impl PartialFilter {
-    /// The first token of a rule, which leads to a place.
+    /// Returns the partial filter of a rule's first token, which leads to a state.
+    ///
+    /// # Errors
+    ///
+    /// Returns `NoMemory` if memory runs out.
     pub fn new(
         alloc: Global,
         token: &QueryToken,
@@ -116,7 +120,7 @@ impl PartialFilter {
         })
     }
 
-    // A word along the rule.
+    // Adds a word.
     fn with_word(&mut self, word: Option<Word>)
         ensures { partial_filter_model self.new ≡ with_word (partial_filter_model self.old) word }
     {
@@ -128,7 +132,7 @@ impl PartialFilter {
         }
     }
 
-    // The next part of a line.
+    // Begins the next part of a line.
     fn next_part(&mut self) -> Result<(), NoMemory>
         ensures { OnOk result (partial_filter_model self.new ≡ next_part (partial_filter_model self.old)) }
     {
@@ -142,7 +146,7 @@ impl PartialFilter {
         Ok(())
     }
 
-    // A mark along the rule.
+    // Adds a mark.
     fn with_sign(&mut self, sign: Option<Sign>) -> Result<(), NoMemory>
         ensures { OnOk result (partial_filter_model self.new ≡ with_sign (partial_filter_model self.old) sign) }
     {
@@ -160,7 +164,7 @@ impl PartialFilter {
         Ok(())
     }
 
-    // A number along the rule.
+    // Adds a number, by the state before it.
     fn with_number(&mut self, number: u32, place: RuleState)
         ensures { partial_filter_model self.new ≡ with_number (partial_filter_model self.old) number place }
     {
@@ -179,7 +183,11 @@ impl PartialFilter {
         self.most = number;
     }
 
-    /// A token along the rule, by the place before it.
+    /// Adds a token, by the state before it.
+    ///
+    /// # Errors
+    ///
+    /// Returns `NoMemory` if memory runs out.
     pub fn add(
         &mut self,
         alloc: Global,
@@ -201,7 +209,11 @@ impl PartialFilter {
         Ok(())
     }
 
-    /// A filter along the rule, by the place before it.
+    /// Adds a filter, by the state before it.
+    ///
+    /// # Errors
+    ///
+    /// Returns `NoMemory` if memory runs out.
     pub fn put(&mut self, alloc: Global, node: Node, place: RuleState) -> Result<(), NoMemory>
         ensures { OnOk result (partial_filter_model self.new ≡ take (partial_filter_model self.old) (node_model node) place) }
     {
@@ -224,7 +236,7 @@ impl PartialFilter {
         }
     }
 
-    // The text along the rule.
+    // The text of the rule.
     fn into_text(self) -> Bytes
         ensures { result ≡ self.text }
     {
@@ -232,7 +244,7 @@ impl PartialFilter {
         text
     }
 
-    // The filters that have their places.
+    // The operands in their slots.
     fn into_slots(self) -> OperandSlots
         ensures { result ≡ self.slots }
     {
@@ -280,7 +292,7 @@ impl PartialFilter {
         Ok(Form::Transform(family, self.into_slots().last(alloc)?))
     }
 
-    // A condition and both filters between which it decides.
+    // A condition and the two filters of its branches.
     fn choice(self, alloc: Global) -> Result<Form, NoMemory>
         ensures { IfOk result (λ f. form_tree f ≡ form_of (partial_filter_model self) productions.If) }
     {
@@ -288,7 +300,7 @@ impl PartialFilter {
         Ok(Form::If(condition, then, otherwise))
     }
 
-    // A filter for each square of a set, or for one.
+    // A filter for every square of a set, or for some square.
     fn square(self, alloc: Global) -> Result<Form, NoMemory>
         ensures { IfOk result (λ f. form_tree f ≡ form_of (partial_filter_model self) productions.Square) }
     {
@@ -302,7 +314,7 @@ impl PartialFilter {
         Ok(Form::Square(flag, text, squares, filter))
     }
 
-    // A filter by which what matches is sorted.
+    // A filter that is the sort key of matches.
     fn sort(self, alloc: Global) -> Result<Form, NoMemory>
         ensures { IfOk result (λ f. form_tree f ≡ form_of (partial_filter_model self) productions.Sort) }
     {
@@ -323,7 +335,7 @@ impl PartialFilter {
         Ok(Form::Pair(Pair::Between, first, second))
     }
 
-    // A line of positions.
+    // A line of nodes.
     fn path(self) -> Result<Form, NoMemory>
         ensures { IfOk result (λ f. form_tree f ≡ form_of (partial_filter_model self) productions.Line) }
     {
@@ -354,7 +366,7 @@ impl PartialFilter {
         }
     }
 
-    // The form that the rule makes. Where it takes nothing of the draft, that is dropped by a call, whose proof is shorter.
+    // The form of the rule. If it takes nothing of the partial filter, that is dropped by a call, whose proof is shorter.
     fn form(self, alloc: Global) -> Result<Form, NoMemory>
         ensures { IfOk result (λ f. form_tree f ≡ form_of (partial_filter_model self) self.production) }
     {
@@ -384,7 +396,11 @@ impl PartialFilter {
         }
     }
 
-    /// What the rule makes at its end.
+    /// Returns the node of the rule at its end.
+    ///
+    /// # Errors
+    ///
+    /// Returns `NoMemory` if memory runs out.
     pub fn build(self, alloc: Global) -> Result<Node, NoMemory>
         ensures { IfOk result (λ n. node_model n ≡ node_of (partial_filter_model self)) }
     {
@@ -402,7 +418,7 @@ impl PartialFilter {
 }
 
 impl Parts {
-    // All parts.
+    // All parts of the line.
     fn whole(self) -> Result<Constituents, NoMemory>
         ensures { IfOk result (λ cs.
             parts_tree cs ≡ with_body (parts_tree self.parts) (option_map body_tree self.body) self.mark) }
@@ -489,7 +505,7 @@ impl OperandSlots {
     }
 }
 
-/// The filter of a part; parts of a line in parentheses stand nowhere but in a line.
+/// Returns the filter of a node. A group occurs only in a line, and gives the number 0 here.
 pub fn filter_in(node: Node) -> Filter
     ensures { filter_tree result ≡ filter_of (node_model node) }
 {
@@ -502,7 +518,11 @@ pub fn filter_in(node: Node) -> Filter
     }
 }
 
-/// The filter on the heap.
+/// Returns the filter in a box.
+///
+/// # Errors
+///
+/// Returns `NoMemory` if memory runs out.
 pub fn boxed_filter(alloc: Global, filter: Filter) -> Result<Box<Filter>, NoMemory>
     ensures { IfOk result (λ f. filter_tree f.value ≡ filter_tree filter) }
 {
@@ -541,7 +561,7 @@ fn body_of(alloc: Global, node: Node) -> Result<Body, NoMemory>
     }
 }
 
-// A filter that a rule at its end has.
+// The filter of a slot. A rule at its end has it; the number 0 takes the place of a missing one.
 fn needed(alloc: Global, filter: Option<Box<Filter>>) -> Result<Box<Filter>, NoMemory>
     ensures { IfOk result (λ f. filter_tree f.value ≡ need (written_tree filter)) }
 {
@@ -557,7 +577,7 @@ fn needed(alloc: Global, filter: Option<Box<Filter>>) -> Result<Box<Filter>, NoM
     }
 }
 
-// Whose tag is meant.
+// The field with the player whose tag is meant.
 fn field_of(field: Field, side: Of) -> Field
     ensures { result ≡ field_of field side }
 {
@@ -567,7 +587,7 @@ fn field_of(field: Field, side: Of) -> Field
     }
 }
 
-// Which way `find` goes.
+// The direction of `find`.
 fn search_of(unary: Unary, back: bool) -> Unary
     ensures { result ≡ search_of unary back }
 {

@@ -1,4 +1,4 @@
-//! What a rule of the grammar makes of its parts.
+//! The forms that the rules of the grammar produce.
 ghost use Rattle.std.specs.Prelude.{◌≡◌};
 ghost use Rattle.cql_parser.specs.Productions.{production as production_by, word_production, sign_production};
 
@@ -8,7 +8,7 @@ use cql_syntax::{
     Chain, Designator, Field, Of, Plain, QueryTokenKind, Sign, Unary, Way, Word, sign_of, word_of,
 };
 
-/// What a rule of the grammar makes of its parts.
+/// The form that a rule of the grammar produces from its parts.
 #[derive(Clone, Copy)]
 pub enum Production {
     Designator(Designator),
@@ -35,7 +35,7 @@ pub enum Production {
     Move,
 }
 
-// What the rule of a word makes.
+// The production of a word's rule.
 fn word_production(word: Option<Word>) -> Production
     ensures { result ≡ word_production word }
 {
@@ -65,7 +65,7 @@ fn word_production(word: Option<Word>) -> Production
     }
 }
 
-// What the rule of a mark makes, by the place after it.
+// The production of a mark's rule, by the state after it.
 fn sign_production(sign: Option<Sign>, place: RuleState) -> Production
     ensures { result ≡ sign_production sign place }
 {
@@ -80,7 +80,7 @@ fn sign_production(sign: Option<Sign>, place: RuleState) -> Production
     }
 }
 
-/// What the rule makes whose first token leads to a place.
+/// Returns the production of the rule whose first token leads to a state.
 #[tactic(auto, unfolding(crate::specs::Productions::production))]
 pub fn production_of(kind: &QueryTokenKind, place: RuleState) -> Production
     ensures { result ≡ production_by kind.now place }

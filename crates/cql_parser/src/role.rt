@@ -1,24 +1,24 @@
-//! What the grammar sees of a token.
+//! The role of a token in the grammar.
 ghost use Rattle.std.specs.Prelude.{◌≡◌, ◌≤◌};
 ghost use Rattle.cql_parser.specs.RuleStates.{role, word_role, sign_role, joint, infix_level, chain_level, pair_level, takes, joins};
 
 use cql_syntax::{Chain, LONGEST_PATH, Pair, QueryTokenKind, Sign, Word, sign_of, word_of};
 
-/// What a token between two filters makes of them.
+/// The operation of a token between two filters.
 #[derive(Clone, Copy)]
 pub enum InfixOperator {
     Chained(Chain),
-    /// A sum; whether the filter after the token is subtracted.
+    /// A sum; true if the filter after the token is subtracted.
     Added(bool),
     Paired(Pair),
 }
 
-/// What the grammar sees of a token.
+/// The role of a token in the grammar.
 #[derive(Clone, Copy)]
 pub enum Role {
     Word(Word),
     Sign(Sign),
-    /// A number, and whether it may be the length of a path, from 1 to `LONGEST_PATH`.
+    /// A number; true if it may be the length of a path, from 1 to `LONGEST_PATH`.
     Number(bool),
     Name,
     Text,
@@ -26,11 +26,11 @@ pub enum Role {
     Outcome,
     Designator,
     End,
-    /// A token that stands nowhere, as a reserved name.
+    /// A token that no query has, such as a reserved name.
     Other,
 }
 
-// What a word is.
+// The role of a word.
 fn word_role(word: Option<Word>) -> Role
     ensures { result ≡ word_role word }
 {
@@ -40,7 +40,7 @@ fn word_role(word: Option<Word>) -> Role
     }
 }
 
-// What a mark is.
+// The role of a mark.
 fn sign_role(sign: Option<Sign>) -> Role
     ensures { result ≡ sign_role sign }
 {
@@ -50,7 +50,7 @@ fn sign_role(sign: Option<Sign>) -> Role
     }
 }
 
-/// What the grammar sees of a token.
+/// Returns the role of a token.
 #[tactic(auto, unfolding(crate::specs::RuleStates::role))]
 pub fn role_of(kind: &QueryTokenKind) -> Role
     ensures { result ≡ role kind.now }
@@ -94,7 +94,7 @@ fn pair_level(pair: Pair) -> u8
     }
 }
 
-/// The level of a row of filters with such tokens between them.
+/// Returns the level of a row of filters with such tokens between them.
 #[tactic(auto, unfolding(crate::specs::RuleStates::infix_level))]
 pub fn infix_level(joint: InfixOperator) -> u8
     ensures value { result ≡ infix_level joint }
@@ -107,7 +107,7 @@ pub fn infix_level(joint: InfixOperator) -> u8
     }
 }
 
-/// Whether a filter of a level may stand before the token.
+/// Returns true if a filter of a level may come before the token.
 #[tactic(auto, unfolding(crate::specs::RuleStates::takes))]
 pub fn takes(joint: InfixOperator, level: u8) -> bool
     ensures { result ≡ takes joint level }
@@ -119,7 +119,7 @@ pub fn takes(joint: InfixOperator, level: u8) -> bool
     }
 }
 
-/// What a token between two filters makes of them, none of another token.
+/// Returns the operation of a token between two filters, or `None` for any other token.
 #[tactic(auto, unfolding(crate::specs::RuleStates::joint))]
 pub fn infix_operator_of(role: Role) -> Option<InfixOperator>
     ensures { result ≡ joint role }
@@ -149,7 +149,7 @@ pub fn infix_operator_of(role: Role) -> Option<InfixOperator>
     }
 }
 
-/// Whether a token joins filters to a row of at least this level.
+/// Returns true if a token joins filters to a row of at least this level.
 pub fn joins(level: u8, role: Role) -> bool
     ensures { result ≡ joins level role }
 {

@@ -1,4 +1,4 @@
-//! The places in the rules of the grammar.
+//! The states of the grammar's rules. A state is a place in a rule.
 ghost use Rattle.std.specs.Prelude.{◌≡◌, ◌≤◌};
 ghost use Rattle.cql_parser.specs.declared.rule_state.RuleState.TheVariants.{Bare, Counted};
 ghost use Rattle.cql_parser.specs.declared.role.Role.TheVariants.{Word as WordRole, Sign as SignRole, Number as NumberRole, Text as TextRole};
@@ -7,7 +7,7 @@ ghost use Rattle.cql_parser.specs.RuleStates.{heads, unary_state, begin, opens, 
 use crate::role::Role;
 use cql_syntax::{Sign, Unary, Word};
 
-/// A place in a rule of the grammar.
+/// The state of a rule: a place between its tokens and parts.
 #[derive(Clone, Copy)]
 pub enum RuleState {
     /// After a filter without parts.
@@ -22,7 +22,7 @@ pub enum RuleState {
     EloDue,
     /// Before the last part of a filter that takes all that binds tighter than `and`.
     Pre,
-    /// After it.
+    /// After this part.
     PreDone,
     /// After `find`.
     FindDue,
@@ -58,19 +58,19 @@ pub enum RuleState {
     TwoNumbers,
     /// After `between`.
     BetweenOpen,
-    /// Before its first part.
+    /// Before the first part of `between`.
     BetweenFirst,
-    /// Before its second part.
+    /// Before the second part of `between`.
     BetweenSecond,
-    /// After its second part.
+    /// After the second part of `between`.
     BetweenClose,
     /// After `max` or `min`.
     ListOpen,
-    /// Before the first part.
+    /// Before the first part of `max` or `min`.
     ListFirst,
-    /// Before the second part.
+    /// Before the second part of `max` or `min`.
     ListSecond,
-    /// After two parts or more.
+    /// After two parts or more of `max` or `min`.
     ListMore,
     /// After a parenthesis.
     Parens,
@@ -94,35 +94,41 @@ pub enum RuleState {
     Move,
     /// After `from`.
     Origin,
-    /// After its part.
+    /// After the part of `from`.
     MovedFrom,
     /// After `to`.
     Goal,
-    /// After its part.
+    /// After the part of `to`.
     MovedTo,
     /// After `capture`.
     Taken,
-    /// After its part.
+    /// After the part of `capture`.
     MovedTaking,
     /// After `promote`.
     Promoted,
-    /// Before a part of a line. Whether it is of a group, and whether the line goes up.
+    /// Before a part of a line. The first flag is true in a group, the second if the line goes up.
     Part(bool, bool),
-    /// After a part without a mark. Whether it is of a group, and whether the line goes up.
+    /// After a part without a mark. The first flag is true in a group, the second if the line goes
+    /// up.
     Bare(bool, bool),
-    /// After the brace of a mark. Whether it is of a group, and whether the line goes up.
+    /// After the brace of a mark. The first flag is true in a group, the second if the line goes
+    /// up.
     Count(bool, bool),
-    /// After the first number of a mark. Whether it is of a group, and whether the line goes up.
+    /// After the first number of a mark. The first flag is true in a group, the second if the line
+    /// goes up.
     Counted(bool, bool),
-    /// After the comma of a mark. Whether it is of a group, and whether the line goes up.
+    /// After the comma of a mark. The first flag is true in a group, the second if the line goes
+    /// up.
     UpTo(bool, bool),
-    /// After the second number of a mark. Whether it is of a group, and whether the line goes up.
+    /// After the second number of a mark. The first flag is true in a group, the second if the line
+    /// goes up.
     UpEnd(bool, bool),
-    /// After a part with its mark. Whether it is of a group, and whether the line goes up.
+    /// After a part with its mark. The first flag is true in a group, the second if the line goes
+    /// up.
     Marked(bool, bool),
 }
 
-/// A place in the head of a query, `cql ( {param} )`.
+/// The state of a query's head, `cql ( {param} )`.
 #[derive(Clone, Copy)]
 pub enum HeadState {
     /// Before `cql`.
@@ -139,19 +145,19 @@ pub enum HeadState {
     Over,
 }
 
-/// What is around a place at which a filter is due.
+/// The context of a filter that is due.
 #[derive(Clone, Copy)]
 pub enum OperandContext {
     Within,
     /// The filter begins with no number.
     NoNumber,
-    /// A part of a line is due; whether the line goes up.
+    /// A part of a line is due; true if the line goes up.
     LinePart(bool),
     /// No filter is due.
     NoOperand,
 }
 
-/// The place in the head to which a token goes on.
+/// Returns the state of the head after a token, or `None` if the head has no such token there.
 #[tactic(auto, unfolding(crate::specs::RuleStates::heads))]
 pub fn heads(heading: HeadState, role: Role) -> Option<HeadState>
     ensures { result ≡ heads heading role }
@@ -184,7 +190,7 @@ pub fn heads(heading: HeadState, role: Role) -> Option<HeadState>
     }
 }
 
-// The place after a word that stands before one filter.
+// The state after a word before one filter.
 fn unary_state(unary: Unary) -> RuleState
     ensures { result ≡ unary_state unary }
 {
@@ -202,7 +208,7 @@ fn unary_state(unary: Unary) -> RuleState
     }
 }
 
-// The place after the first token of a filter.
+// The state after the first token of a filter.
 fn begin(role: Role) -> Option<RuleState>
     ensures { result ≡ begin role }
 {
@@ -240,7 +246,8 @@ fn begin(role: Role) -> Option<RuleState>
     }
 }
 
-/// The place after the first token of a filter, where one is due.
+/// Returns the state after the first token of a filter that is due, or `None` if no such filter
+/// begins with it.
 #[tactic(auto, unfolding(crate::specs::RuleStates::opens))]
 pub fn opens(context: OperandContext, role: Role) -> Option<RuleState>
     ensures { result ≡ opens context role }
@@ -259,7 +266,7 @@ pub fn opens(context: OperandContext, role: Role) -> Option<RuleState>
     }
 }
 
-// The place after the arrow of a line that goes this way.
+// The state after the arrow of a line that goes this way.
 fn arrow_state(group: bool, back: bool, sign: Sign) -> Option<RuleState>
     ensures { result ≡ arrow_state group back sign }
 {
@@ -270,7 +277,7 @@ fn arrow_state(group: bool, back: bool, sign: Sign) -> Option<RuleState>
     }
 }
 
-// The place to which a mark goes on after a part of a line.
+// The state after a mark that follows a part of a line.
 fn part_end_state(group: bool, back: bool, sign: Sign) -> Option<RuleState>
     ensures { result ≡ part_end_state group back (SignRole sign) }
 {
@@ -280,7 +287,7 @@ fn part_end_state(group: bool, back: bool, sign: Sign) -> Option<RuleState>
     }
 }
 
-// The place to which a mark goes on after a part of a line that has no mark yet.
+// The state after a mark that follows a part of a line without a mark.
 #[tactic(auto, unfolding(crate::specs::RuleStates::goes))]
 fn unmarked_part_state(group: bool, back: bool, sign: Sign) -> Option<RuleState>
     ensures { result ≡ goes (Bare group back) (SignRole sign) }
@@ -292,7 +299,7 @@ fn unmarked_part_state(group: bool, back: bool, sign: Sign) -> Option<RuleState>
     }
 }
 
-// The place to which a mark goes on after the first number of a mark.
+// The state after a mark that follows the first number of a part's mark.
 #[tactic(auto, unfolding(crate::specs::RuleStates::goes))]
 fn count_mark_state(group: bool, back: bool, sign: Sign) -> Option<RuleState>
     ensures { result ≡ goes (Counted group back) (SignRole sign) }
@@ -304,7 +311,7 @@ fn count_mark_state(group: bool, back: bool, sign: Sign) -> Option<RuleState>
     }
 }
 
-// The place to which a word goes on.
+// The state after a word.
 #[tactic(auto, unfolding(crate::specs::RuleStates::goes))]
 fn word_state(place: RuleState, word: Word) -> Option<RuleState>
     ensures { result ≡ goes place (WordRole word) }
@@ -331,7 +338,7 @@ fn word_state(place: RuleState, word: Word) -> Option<RuleState>
     }
 }
 
-// The place to which a mark goes on.
+// The state after a mark.
 #[tactic(auto, unfolding(crate::specs::RuleStates::goes))]
 fn sign_state(place: RuleState, sign: Sign) -> Option<RuleState>
     ensures { result ≡ goes place (SignRole sign) }
@@ -356,7 +363,7 @@ fn sign_state(place: RuleState, sign: Sign) -> Option<RuleState>
     }
 }
 
-// The place to which a number goes on, which may be the length of a path.
+// The state after a number, which may be the length of a path if the flag is true.
 #[tactic(auto, unfolding(crate::specs::RuleStates::goes))]
 fn number_state(place: RuleState, allowed: bool) -> Option<RuleState>
     ensures { result ≡ goes place (NumberRole allowed) }
@@ -372,7 +379,7 @@ fn number_state(place: RuleState, allowed: bool) -> Option<RuleState>
     }
 }
 
-// The place to which a text goes on.
+// The state after a text.
 #[tactic(auto, unfolding(crate::specs::RuleStates::goes))]
 fn text_state(place: RuleState) -> Option<RuleState>
     ensures { result ≡ goes place TextRole }
@@ -384,7 +391,7 @@ fn text_state(place: RuleState) -> Option<RuleState>
     }
 }
 
-/// The place to which a token goes on.
+/// Returns the state after a token, or `None` if the rule doesn't go on with it.
 #[tactic(auto, unfolding(crate::specs::RuleStates::goes))]
 pub fn goes(place: RuleState, role: Role) -> Option<RuleState>
     ensures { result ≡ goes place role }
@@ -407,7 +414,7 @@ pub fn goes(place: RuleState, role: Role) -> Option<RuleState>
 }
 
 impl RuleState {
-    /// What is around the filter that is due.
+    /// Returns the context of the filter that is due.
     #[tactic(auto, unfolding(crate::specs::RuleStates::context, crate::specs::RuleStates::spot))]
     pub fn context(self) -> OperandContext
         ensures { result ≡ context self }
@@ -439,7 +446,7 @@ impl RuleState {
         }
     }
 
-    /// The least level of the filter that is due.
+    /// Returns the least level of the filter that is due, from 0 to 10.
     #[tactic(auto, unfolding(crate::specs::RuleStates::least, crate::specs::RuleStates::spot))]
     pub fn least(self) -> u8
         ensures value { result ≡ least self }
@@ -470,7 +477,7 @@ impl RuleState {
         }
     }
 
-    /// The place after it.
+    /// Returns the state after the filter that is due.
     #[tactic(auto, unfolding(crate::specs::RuleStates::next, crate::specs::RuleStates::spot))]
     pub fn next(self) -> RuleState
         ensures { result ≡ next self }
@@ -498,7 +505,7 @@ impl RuleState {
         }
     }
 
-    /// Whether the rule may be at its end.
+    /// Returns true if the rule may be at its end.
     #[tactic(auto, unfolding(crate::specs::RuleStates::whole, crate::specs::RuleStates::spot))]
     pub fn is_whole(self) -> bool
         ensures { result ≡ whole self }
@@ -518,7 +525,7 @@ impl RuleState {
         }
     }
 
-    /// The level of the filter whose first token leads here.
+    /// Returns the level of the filter whose first token leads to this state, from 0 to 10.
     #[tactic(auto, unfolding(crate::specs::RuleStates::level_of, crate::specs::RuleStates::spot))]
     pub fn level(self) -> u8
         ensures value { result ≡ level_of self }
@@ -537,7 +544,7 @@ impl RuleState {
         }
     }
 
-    /// How much deeper its parts stand.
+    /// Returns the number of levels, 0 or 1, by which the filter's parts are deeper.
     #[tactic(auto, unfolding(crate::specs::RuleStates::depth_of, crate::specs::RuleStates::spot))]
     pub fn depth(self) -> u32
         ensures value { result ≡ depth_of self }

@@ -1,4 +1,4 @@
-//! What is open while a query is read.
+//! The frames that are open while a query is read.
 ghost use Rattle.std.specs.Prelude.{◌≡◌, ◌≤◌, [], ◌∷◌, OnOk};
 ghost use Rattle.cql_syntax.specs.Limits.{most_open};
 ghost use Rattle.cql_parser.specs.Internal.Machine.{depth as open_in, due as due_in, around as around_in};
@@ -12,20 +12,20 @@ use crate::rule_state::OperandContext;
 use cq_common::NoMemory;
 use std::alloc::Global;
 
-/// How many constructs may be open at a place: parentheses, braces, and all that takes one filter or more but for the
-/// filters in a row and the parts of a line.
+/// The greatest number of constructs that are open at a place. Constructs are parentheses, braces, and all that takes
+/// one filter or more. Filters in a row and the parts of a line don't count.
 pub const DEPTH_LIMIT: u32 = 64;
 
-/// Something open.
+/// An open frame.
 #[derive(Drop)]
 pub enum Frame {
     /// The parts of a rule.
     InRule(OpenRule),
-    /// A filter of a level, and what the token after it makes.
+    /// A filter of a level, and the operation of the token after it.
     Joining(u8, Node, InfixOperator),
 }
 
-/// What is open, the innermost last.
+/// The open frames, the innermost last.
 #[derive(Drop)]
 pub struct Stack {
     frames: Vec<Frame>,
@@ -35,7 +35,7 @@ pub struct Stack {
 }
 
 impl Frame {
-    // How many more rules that count are open with it.
+    // The number of counted rules that the frame adds, 0 or 1.
     fn depth(&self) -> u32
         ensures value { result ≡ opened self.now }
         ensures few { result ≤ 1 }
@@ -46,7 +46,7 @@ impl Frame {
         }
     }
 
-    // The least level of the filter that is due after it.
+    // The least level of the filter that is due after the frame.
     fn due(&self) -> u8
         ensures { result ≡ due_in tree_builder (frame_model self.now ∷ []) }
     {
@@ -56,7 +56,7 @@ impl Frame {
         }
     }
 
-    // What is around that filter.
+    // The context of the filter that is due after the frame.
     fn around(&self) -> OperandContext
         ensures { result ≡ around_in tree_builder (frame_model self.now ∷ []) }
     {
@@ -68,7 +68,7 @@ impl Frame {
 }
 
 impl Stack {
-    /// Nothing open. Takes no memory.
+    /// Returns an empty stack. It allocates nothing.
     #[tactic(auto, using(crate::proofs::Frames::shown_none))]
     pub fn new(alloc: Global) -> Stack
         ensures { stack_model result.frames.items ≡ [] }
@@ -79,7 +79,7 @@ impl Stack {
         }
     }
 
-    /// How many rules that count are open.
+    /// Returns the number of counted rules that are open.
     pub fn depth(&self) -> u32
         ensures value { result ≡ open_in tree_builder (stack_model self.now.frames.items) }
         ensures few { result ≤ most_open }
@@ -87,7 +87,7 @@ impl Stack {
         self.depth
     }
 
-    /// The least level of the filter that is due.
+    /// Returns the least level of the filter that is due.
     #[tactic(auto, using(crate::proofs::Frames::due_last, crate::proofs::Frames::due_none))]
     pub fn due(&self) -> u8
         ensures { result ≡ due_in tree_builder (stack_model self.now.frames.items) }
@@ -98,7 +98,7 @@ impl Stack {
         }
     }
 
-    /// What is around that filter.
+    /// Returns the context of the filter that is due.
     #[tactic(auto, using(crate::proofs::Frames::around_last, crate::proofs::Frames::around_none))]
     pub fn around(&self) -> OperandContext
         ensures { result ≡ around_in tree_builder (stack_model self.now.frames.items) }
@@ -109,7 +109,11 @@ impl Stack {
         }
     }
 
-    /// One more.
+    /// Adds a frame as the innermost one.
+    ///
+    /// # Errors
+    ///
+    /// Returns `NoMemory` if memory runs out.
     #[tactic(auto, using(crate::proofs::Frames::shown_more, crate::proofs::Frames::depth_more))]
     pub fn push(&mut self, frame: Frame) -> Result<(), NoMemory>
         requires { open_in tree_builder (frame_model frame ∷ stack_model self.old.frames.items) ≤ most_open }
@@ -121,7 +125,7 @@ impl Stack {
         Ok(())
     }
 
-    /// The innermost.
+    /// Removes and returns the innermost frame, or returns `None` if none is open.
     #[tactic(auto, using(crate::proofs::Frames::shown_more, crate::proofs::Frames::depth_more, crate::proofs::Frames::shown_none))]
     pub fn pop(&mut self) -> Option<Frame>
         ensures { Popped (stack_model self.old.frames.items) (stack_model self.new.frames.items) result }

@@ -45,7 +45,7 @@ sum_is (more_terms true f ts) =
     ∙ sym (ap (λ x. unwrap_or x (in_parens (sign_word false) [])) (after_is ts (in_parens (sign_word true) (codes "0" ∷ text f ∷ [])))
     ∙ ap (λ p. openings ts ++ (p ++ sum_rest false ts)) (pair_is true (codes "0") (text f)))
 
--- what opens one more pair, from the last term on
+-- the opening of one more pair, from the last term on
 pub opened : (xs : List Term) (k : ℕ) (x : Term) → k < length xs → x ≡ get_or xs k x
     → openings (term_trees (drop k xs)) ≡ openings (term_trees (drop (k + 1) xs)) ++ opening x.minus
 opened xs k x low is =

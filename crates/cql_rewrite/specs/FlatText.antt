@@ -34,7 +34,7 @@ each_after mark (t ∷ ts) = mark ++ (t ++ each_after mark ts)
 abbrev pub in_parens : List ℕ → List (List ℕ) → List ℕ
 in_parens word parts = concat (codes "(" ∷ word ∷ each_after (codes " ") parts ∷ codes ")" ∷ [])
 
--- between quotes
+-- a text between quotes
 abbrev pub quoted : List ℕ → List ℕ
 quoted text = concat (codes "\"" ∷ text ∷ codes "\"" ∷ [])
 
@@ -50,7 +50,7 @@ outcome_word BlackWins = codes "0-1"
 outcome_word Draw = codes "1/2-1/2"
 outcome_word Unfinished = codes "*"
 
--- a word, and whose it is
+-- a word, and the player whose value it is
 abbrev pub whose_word : Word → Of → List ℕ
 whose_word word Either = word_text word
 whose_word word White = two_words word meanings.White
@@ -81,7 +81,7 @@ pair_word Equal = sign_text signs.Equal
 pair_word AtLeast = sign_text signs.AtLeast
 pair_word Greater = sign_text signs.Greater
 
--- no words of the language
+-- the words of `Any`, which are no words of the language
 abbrev pub any_word : Kind → List ℕ
 any_word Position = codes "any"
 any_word Set = codes "union"
@@ -121,7 +121,7 @@ hexadecimal (suc count) n = hexadecimal count (n / 16) ++ hexadecimal_digit (n %
 abbrev pub letter_if : Bool → ℕ → List ℕ
 letter_if there letter = if there then letter ∷ [] else []
 
--- those letters whose bits are there, the first the lowest bit's
+-- those letters whose bits are set, the lowest bit's letter first
 abbrev pub letters_of : ℕ → List ℕ → List ℕ
 letters_of bits [] = []
 letters_of bits (l ∷ ls) = letter_if (bits % 2 == 1) l ++ letters_of (bits / 2) ls
@@ -141,7 +141,7 @@ marked_text Plus text = in_parens (sign_text signs.Plus) (text ∷ [])
 marked_text Maybe text = in_parens (sign_text signs.Question) (text ∷ [])
 marked_text (Times least most) text = in_parens (times_word least most) (text ∷ [])
 
--- the word of a line, its lengths where they are written, and its arrow
+-- the word of a line, its lengths if they are written, and its arrow
 abbrev pub line_start : Bool → Extent → Bool → List ℕ
 line_start primary AnyLength back = concat (line_word primary ∷ codes " " ∷ arrow_word back ∷ [])
 line_start primary (Within least most) back =
@@ -153,7 +153,7 @@ with_term_text None false text = text
 with_term_text None true text = in_parens (sign_word true) (codes "0" ∷ text ∷ [])
 with_term_text (Some before) minus text = in_parens (sign_word minus) (before ∷ text ∷ [])
 
--- a part after its word, where it is written
+-- a part after its word, if it is written
 abbrev pub after_word : Word → Option (List ℕ) → List ℕ
 after_word word None = []
 after_word word (Some part) = concat (codes " " ∷ word_text word ∷ codes " " ∷ part ∷ [])

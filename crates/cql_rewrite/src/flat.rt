@@ -21,10 +21,14 @@ use cql_syntax::{
 };
 use std::alloc::Global;
 
-/// The query without families that means the same: each leaf of a family is mapped, member by member.
+/// Returns the query without families that means the same: each leaf of a family is mapped, member by member.
 ///
-/// Each flat form is made once, and compared with those alone that are kept of the same family, at most 225; a comparison ends at the
-/// first difference. So the work stays within a small multiple of the query's weight, which is at most 2^18.
+/// Each flat form is made once, and compared only with those kept of the same family, at most 225. A comparison ends at the first
+/// difference. So the work stays within a small multiple of the query's weight, which is at most 2^18.
+///
+/// # Errors
+///
+/// Returns `NoMemory` if memory runs out.
 #[tactic(auto, using(crate::proofs::Meant::flat_means_the_same))]
 pub fn expand(alloc: Global, query: &TypedQuery) -> Result<FlatQuery, NoMemory>
     ensures variations { IfOk result (λ flat. flat.variations ≡ query.now.query.variations) }
@@ -116,7 +120,8 @@ fn flat_form(alloc: Global, f: &Form, context: &[Mapping]) -> Result<Form, NoMem
     }
 }
 
-// Where a designator has no image, which happens in no filter that fits, no men on no squares.
+// The image of a designator, or no men on no squares if it has none. A designator of a filter that
+// fits has one.
 fn image_or_nothing(image: Option<Designator>) -> Designator
     ensures { result ≡ spec.image_or_nothing image }
 {
@@ -152,7 +157,7 @@ fn flat_members(
     Ok(kept)
 }
 
-// The flat form of a filter inside of one more mapping, where it fits.
+// The flat form of a filter inside of one more mapping, if it fits.
 #[cycle(flat)]
 fn flat_member(
     alloc: Global,
@@ -169,7 +174,7 @@ fn flat_member(
     Ok(Some(flat(alloc, part, longer.as_slice())?))
 }
 
-// Adds a filter, where there is one and it isn't there yet.
+// Adds a filter, if there is one and it isn't in the list yet.
 fn keep_new(kept: &mut Filters, found: Option<Filter>) -> Result<(), NoMemory>
     ensures { OnOk result (filters_tree kept.new ≡ with_new (filters_tree kept.old) (option_map filter_tree found)) }
 {
@@ -179,7 +184,7 @@ fn keep_new(kept: &mut Filters, found: Option<Filter>) -> Result<(), NoMemory>
     }
 }
 
-// Adds a filter, where it isn't there yet.
+// Adds a filter, if it isn't in the list yet.
 fn keep_filter(kept: &mut Filters, filter: Filter) -> Result<(), NoMemory>
     ensures { OnOk result (filters_tree kept.new ≡ with_new (filters_tree kept.old) (Some (filter_tree filter))) }
 {
@@ -190,7 +195,7 @@ fn keep_filter(kept: &mut Filters, filter: Filter) -> Result<(), NoMemory>
     kept.push(filter)
 }
 
-// Whether one of these filters is the same as another.
+// True if one of these filters is the same as another.
 fn is_known(kept: &Filters, filter: &Filter) -> bool
     ensures { result ≡ some_same (filters_tree kept.now) (filter_tree filter.now) }
 {

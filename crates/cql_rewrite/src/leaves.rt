@@ -1,4 +1,4 @@
-//! Whether two values without a tree below them are the same.
+//! The equality of two values without a tree below them.
 ghost use Rattle.std.specs.Prelude.{◌≡◌};
 ghost use Rattle.cql_syntax.specs.Leaves as spec;
 ghost use Rattle.cql_syntax.specs.declared.extents.Extent.TheVariants.{Within};
@@ -109,7 +109,7 @@ pub(crate) fn same_extent(a: &Extent, b: &Extent) -> bool
     }
 }
 
-// Whether an extent has these ends.
+// True if an extent has these ends.
 fn is_within(extent: &Extent, least: u32, most: u32) -> bool
     ensures { result ≡ spec.same_extent (Within least most) extent.now }
 {

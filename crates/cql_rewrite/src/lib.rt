@@ -1,7 +1,7 @@
-//! Transforms written out: a query becomes one without families that means the same at every node of every game, and has a text.
+//! Families written out: a query becomes one without families that means the same at every node of every game, and has a text.
 //!
-//! `cql_syntax/specs/Flat` has the flat form and `specs/FlatText` its text. `cql_syntax/specs/Same` defines when two filters are the same,
-//! `cql_syntax/specs/Unplaced` when they are the same but for their places.
+//! `cql_syntax/specs/Flat` has the flat form and `specs/FlatText` its text. `cql_syntax/specs/Same` defines the equality of two filters,
+//! and `cql_syntax/specs/Unplaced` the equality but for their places.
 #![tactic(auto)]
 
 mod flat;

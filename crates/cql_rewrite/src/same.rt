@@ -1,4 +1,4 @@
-//! Whether two filters are the same, with their places or but for them, by a look at both that ends at the first difference.
+//! The equality of two filters, with their places or but for them. The comparison ends at the first difference.
 ghost use Rattle.std.specs.Prelude.{◌≡◌, ◌==◌, ◌&&◌};
 ghost use Rattle.std.specs.Str.{bytes_eq};
 ghost use Rattle.cql_syntax.specs.Leaves as leaves;
@@ -15,7 +15,7 @@ use cql_syntax::{
     Body, Constituent, Constituents, Filter, Filters, Form, Line, Played, Term, Terms,
 };
 
-/// Whether two filters are the same.
+/// Returns true if two filters are the same.
 #[tactic(auto, using(crate::proofs::Placed::with_all))]
 pub fn same_filter(f: &Filter, g: &Filter) -> bool
     ensures { result ≡ spec.same_filter (filter_tree f.now) (filter_tree g.now) }
@@ -23,14 +23,15 @@ pub fn same_filter(f: &Filter, g: &Filter) -> bool
     same_as(true, f, g)
 }
 
-/// Whether two filters are the same but for their places: the bytes at which they begin, and all in them.
+/// Returns true if two filters are the same but for their places: the bytes at which they and the filters
+/// in them begin.
 pub fn same_unplaced(f: &Filter, g: &Filter) -> bool
     ensures { result ≡ places.same_unplaced (filter_tree f.now) (filter_tree g.now) }
 {
     same_as(false, f, g)
 }
 
-// The same, by their places where these count.
+// The same test, by their places too if these count.
 #[cycle(same)]
 #[tactic(auto, unfolding(cql_syntax::specs::Same::same_filter, cql_syntax::specs::Unplaced::with_places))]
 fn same_as(placed: bool, f: &Filter, g: &Filter) -> bool
@@ -39,7 +40,7 @@ fn same_as(placed: bool, f: &Filter, g: &Filter) -> bool
     same_place(placed, f.at, g.at) && same_form(placed, &f.form, &g.form)
 }
 
-// Whether two places are the same, as far as they count.
+// True if two places are the same, or if places don't count.
 fn same_place(placed: bool, a: u32, b: u32) -> bool
     ensures { result ≡ (places.place_if placed a == places.place_if placed b) }
 {

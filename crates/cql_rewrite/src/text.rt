@@ -14,7 +14,12 @@ use cq_common::{Bytes, NoMemory};
 use cql_syntax::{Body, Constituents, Filter, Filters, FlatQuery, Form, Line, Played, Terms, Word};
 use std::alloc::Global;
 
-/// The text of a flat query: the texts of its items, with one LF between two of them and none at the end.
+/// Returns the text of a flat query: the texts of its items, with one LF between two of them and none at
+/// the end.
+///
+/// # Errors
+///
+/// Returns `NoMemory` if memory runs out.
 pub fn flat_text(alloc: Global, query: &FlatQuery) -> Result<Bytes, NoMemory>
     ensures { IfOk result (λ t. t ≡ spec.items_text (filters_tree query.now.items)) }
 {
@@ -131,7 +136,7 @@ fn texts_of(alloc: Global, filters: &Filters) -> Result<Vec<Bytes>, NoMemory>
     Ok(texts)
 }
 
-// Pairs from the left, in one pass.
+// The text of a sum: pairs from the left, in one pass.
 #[cycle(text)]
 #[tactic(auto, unfolding(crate::specs::FlatText::text), using(crate::proofs::Pairs::sum_is))]
 fn sum_of(alloc: Global, terms: &Terms) -> Result<Bytes, NoMemory>
@@ -197,7 +202,7 @@ fn played_of(alloc: Global, played: &Played) -> Result<Bytes, NoMemory>
     in_move(alloc, origin, goal, taken, promoted)
 }
 
-// The text of a part, where it is written.
+// The text of a part, if it is written.
 #[cycle(text)]
 #[tactic(auto, unfolding(crate::specs::FlatText::text))]
 fn written_of(alloc: Global, written: &Option<Box<Filter>>) -> Result<Option<Bytes>, NoMemory>

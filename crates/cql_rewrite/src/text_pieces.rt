@@ -102,7 +102,7 @@ pub(crate) fn designator(alloc: Global, d: &Designator) -> Result<Bytes, NoMemor
     Ok(text)
 }
 
-// Adds those letters whose bits are there, the first the lowest bit's.
+// Adds those letters whose bits are set, the lowest bit's letter first.
 fn push_letters(text: &mut Bytes, men: u16, letters: &[u8]) -> Result<(), NoMemory>
     ensures { OnOk result (text.new ≡ text.old ++ spec.letters_of men letters.now) }
 {
@@ -114,7 +114,7 @@ fn push_letters(text: &mut Bytes, men: u16, letters: &[u8]) -> Result<(), NoMemo
     Ok(())
 }
 
-// Adds a letter where it is there.
+// Adds a letter, if its bit is set.
 fn push_letter(text: &mut Bytes, there: bool, letter: u8) -> Result<(), NoMemory>
     ensures { OnOk result (text.new ≡ text.old ++ spec.letter_if there letter) }
 {
@@ -124,7 +124,7 @@ fn push_letter(text: &mut Bytes, there: bool, letter: u8) -> Result<(), NoMemory
     Ok(())
 }
 
-// Adds the last digits of a number, so many of them, from 0 to f.
+// Adds the last so many hexadecimal digits of a number.
 fn push_hexadecimal(text: &mut Bytes, count: u32, n: u64) -> Result<(), NoMemory>
     ensures { OnOk result (text.new ≡ text.old ++ spec.hexadecimal count n) }
 {
@@ -135,7 +135,7 @@ fn push_hexadecimal(text: &mut Bytes, count: u32, n: u64) -> Result<(), NoMemory
     push_digit(text, n)
 }
 
-// Adds the last digit of a number.
+// Adds the last hexadecimal digit of a number.
 fn push_digit(text: &mut Bytes, n: u64) -> Result<(), NoMemory>
     ensures { OnOk result (text.new ≡ text.old ++ (spec.hexadecimal_digit (n % 16) ∷ [])) }
 {
@@ -178,7 +178,7 @@ fn times_word(alloc: Global, least: u32, most: u32) -> Result<Bytes, NoMemory>
     Ok(text)
 }
 
-/// The word of a line, its lengths where they are written, and its arrow.
+/// The word of a line, its lengths if they are written, and its arrow.
 pub(crate) fn line_start(
     alloc: Global,
     primary: bool,
@@ -225,7 +225,7 @@ pub(crate) fn in_move(
     Ok(text)
 }
 
-// Adds a part after its word, where it is written.
+// Adds a part after its word, if it is written.
 fn push_written(text: &mut Bytes, word: Word, part: Option<Bytes>) -> Result<(), NoMemory>
     ensures { OnOk result (text.new ≡ text.old ++ spec.after_word word part) }
 {

@@ -8,7 +8,7 @@ use cq_common::{Bytes, NoMemory};
 use cql_syntax::Term;
 use std::alloc::Global;
 
-/// What stands before the terms of a sum; with none, its whole text.
+/// The text before the terms of a sum. Without terms it is the whole text.
 pub(crate) fn sum_start(alloc: Global, terms: &[Term]) -> Result<Bytes, NoMemory>
     ensures { IfOk result (λ t. t ≡ spec.sum_start (term_trees terms.now)) }
 {
@@ -22,7 +22,7 @@ pub(crate) fn sum_start(alloc: Global, terms: &[Term]) -> Result<Bytes, NoMemory
     }
 }
 
-// What opens the pairs of terms, the last one's first.
+// The openings of the terms' pairs, the last pair's first.
 #[tactic(auto, using(crate::proofs::Pairs::opened))]
 fn openings(alloc: Global, terms: &[Term]) -> Result<Bytes, NoMemory>
     ensures { IfOk result (λ t. t ≡ spec.openings (term_trees terms.now)) }

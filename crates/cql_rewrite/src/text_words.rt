@@ -27,7 +27,7 @@ pub(crate) fn outcome_word(outcome: Outcome) -> &'static [u8]
     }
 }
 
-// A word, and whose it is.
+// A word, and the player whose value it is.
 pub(crate) fn whose_word(alloc: Global, word: Word, of: Of) -> Result<Bytes, NoMemory>
     ensures { IfOk result (λ t. t ≡ spec.whose_word word of) }
 {

@@ -39,7 +39,7 @@ family_rows = record {
   not_shift_vertical = family_finds kings ShiftVertical (man_on 0 16) 0 [] refl;
 }
 
--- how many members of a family keep White's king on a1, likewise
+-- the number of a family's members that keep White's king on a1, likewise
 abbrev kept_by : Family → ℕ
 kept_by family = length (fitting [] (members family) (on (0 ∷ []) (0 ∷ [])))
 

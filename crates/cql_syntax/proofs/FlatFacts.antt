@@ -1,4 +1,4 @@
--- What the type of flat queries keeps is so of the flat items of a query without a fault.
+-- The flat items of a query without a fault have the properties of the type of flat queries.
 use Rattle.std.proofs.Common.{◌≡◌, ℕ, Bool, true, false, ◌&&◌, ◌||◌, List, [], ◌∷◌, ◌++◌, None, refl, sym, ◌∙◌, map}
 use Rattle.std.specs.Prelude.{not, nat_lt, ◌^◌, unwrap_or, if◌then◌else◌}
 use Rattle.std.specs.List.{list_all, list_any, flat_map, filter}
@@ -115,7 +115,7 @@ query_sound q fault any =
     (none_kept (λ byte. record { byte = byte; reason = LineTooLong }) (λ o. is_long_line o.form) os (none_before lines _ from_lines))
     (none_kept (λ byte. record { byte = byte; reason = TooManySquares }) (λ o. is_fifth_square o.standing.squares o.form) os (none_before squares heavy from_squares))
 
--- what is good is all three
+-- a good filter has all three properties
 
 no_families : (os : List Occurrence) → list_all good os ≡ true → list_any (λ o. is_family o.form) os ≡ false
 no_families [] h = refl

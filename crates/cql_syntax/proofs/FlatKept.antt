@@ -27,7 +27,7 @@ use Rattle.cq_common.proofs.SpellingLaw.{left, right, both_true as both}
 use Rattle.cql_syntax.proofs.SameLeaves.{same_numbers}
 use Rattle.cql_syntax.proofs.ValueKinds.{kept, word_kept, light_kept}
 
--- what is known of a query's filters, and what is shown of those of its flat form
+-- the facts known of a query's filters, and those shown of the filters of its flat form
 
 abbrev pub sound : Occurrence → Bool
 sound o = not (is_any o.form) && breaks_none o
@@ -35,7 +35,7 @@ sound o = not (is_any o.form) && breaks_none o
 abbrev pub good : Occurrence → Bool
 good o = (not (is_family o.form) && has_its_kind o.form) && breaks_none o
 
--- a place at which another kind is wanted
+-- a context in which another kind is required
 abbrev wanting : Kind → TypingContext → TypingContext
 wanting w s = record { wanted = w; names = s.names; squares = s.squares; item = s.item }
 
@@ -98,7 +98,7 @@ each_good s (more_filters f fs) h =
     let p : FilterTree → Bool = λ x. list_all good (occurrences s x) in
     join good (occurrences s f) (all_of s fs) (left (p f) (list_all p (filters_of fs)) h) (each_good s fs (right (p f) (list_all p (filters_of fs)) h))
 
--- what the flat form keeps of a filter
+-- the properties of a filter that the flat form keeps
 
 wants_light : (b : Bool) (u : Unary) → unary_operand_kind (if b then exchanged_light u else u) ≡ unary_operand_kind u
 wants_light false u = refl
@@ -204,7 +204,7 @@ sorts_kept sorts (filter_at at (sort least text f)) = refl
 sorts_kept sorts (filter_at at (comment text)) = refl
 sorts_kept sorts (filter_at at (any kind fs)) = refl
 
--- a filter that is like another but for its parts breaks no rule where the other breaks none, whatever kind is wanted that it has
+-- A filter that is like another but for its parts breaks no rule if the other breaks none. This is so for any required kind that it has.
 step : (g : Context) (s : TypingContext) (w : Kind) (i : ℕ) (f : FormTree) → (not (is_family (flat_form g f)) && has_its_kind (flat_form g f)) ≡ true
     → below_top s.item (flat_form g f) ≡ below_top s.item f
     → (unbound_name s.names (flat_form g f) ++ brace_in_comment (flat_form g f)) ≡ (unbound_name s.names f ++ brace_in_comment f)

@@ -1,4 +1,4 @@
--- What families of a designator give, by images that are found from the squares which a part has: that takes fewer steps than the test of
+-- The values of families of a designator, by images that are computed from the squares of a part. This takes fewer steps than the test of
 -- each square of the board with each other.
 use Rattle.std.proofs.Common.{◌≡◌, ℕ, Bool, true, false, ◌&&◌, ◌||◌, List, [], ◌∷◌, map, length, cond, Option, Some, option_map, refl, ap, ◌∙◌}
 use Rattle.std.proofs.Math.Path.{fun_ext}
@@ -70,11 +70,11 @@ kept by t g d = filter (λ h. is_some (by h d)) (map (λ m. m ∷ g) (members t)
 abbrev pub twice_kept : (Context → Designator → Option Designator) → (t u : Family) → Designator → List Context
 twice_kept by t u d = filter (λ h. list_any (λ m. is_some (by (m ∷ h) d)) (members u)) (map (λ m. m ∷ []) (members t))
 
--- what a family of a designator gives in a context
+-- the value of a family of a designator in a context
 abbrev pub family_of : (Context → Designator → Option Designator) → SearchedTree → Family → Context → Designator → ℕ → Value
 family_of by tree t g d n = union_of (map (λ h. standing_of (position_at tree n).men (by h d)) (kept by t g d))
 
--- what a family of a family gives
+-- the value of a family of a family
 abbrev pub families_of : (Context → Designator → Option Designator) → SearchedTree → (t u : Family) → Designator → ℕ → Value
 families_of by tree t u d n = union_of (map (λ h. family_of by tree u h d n) (twice_kept by t u d))
 

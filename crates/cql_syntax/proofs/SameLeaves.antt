@@ -1,4 +1,4 @@
--- Values without a tree below them that the tests take for the same are, and each is the same as itself.
+-- Values without a tree below them are equal if the tests find them the same. Each is the same as itself.
 use Rattle.std.proofs.Common.{◌≡◌, ℕ, Bool, true, false, ◌&&◌, ◌==◌, refl, sym, ap, ap₂, ◌∙◌}
 use Rattle.std.specs.Prelude.{[], ◌∷◌, slice_index_or}
 use Rattle.std.proofs.lemmas.Bool.{eqb-true}

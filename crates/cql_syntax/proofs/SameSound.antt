@@ -1,4 +1,4 @@
--- Two filters that the test takes for the same are, and each is the same as itself.
+-- Two filters are equal if the test finds them the same. Each is the same as itself.
 use Rattle.std.proofs.Common.{◌≡◌, ℕ, true, List, refl, sym, ap, ap₂, ◌∙◌}
 use Rattle.std.specs.Str.{bytes_eq}
 use Rattle.std.proofs.lemmas.Bool.{eqb-true, true≢false}

@@ -1,4 +1,4 @@
--- What a call gives is shown by a term, and so by each that equals it.
+-- The result of a call is shown by a term, and so by each term that equals it.
 use Rattle.std.proofs.Common.{◌≡◌, subst}
 use Rattle.std.specs.Prelude.{Result, IfOk}
 

@@ -16,7 +16,7 @@ use Rattle.cql_syntax.specs.LineTables.{AreParents, IsTableStep, IsTableOf, IsSe
 use Rattle.cql_syntax.specs.Values.{Value, as_number, holds}
 use Rattle.cql_syntax.specs.declared.extents.Extent.{Extent}
 
--- what is spelled by a table is spelled by the values that it stands for
+-- a path that is spelled by a table is spelled by the values that it represents
 abbrev AllReached : (ℕ → Type 0) → List ℕ → Type 0
 AllReached Reach [] = Unit {0}
 AllReached Reach (n ∷ w) = Reach n × AllReached Reach w

@@ -21,7 +21,7 @@ use Rattle.cql_syntax.specs.declared.leaves.Plain.TheVariants.{Check, Mate, Stal
 use Rattle.cql_syntax.specs.declared.leaves.Unary.{Unary}
 use Rattle.cql_syntax.specs.declared.leaves.Unary.TheVariants.{Not, Complement, Count, Power, Light, Dark, Find, FindUp, Child, Parent}
 
--- what no mapping changes, no context changes
+-- a property that no mapping changes, no context changes
 pub kept : {A B : Type 0} (k : A → B) (by : PlainMapping → A → A) → ((m : PlainMapping) (x : A) → k (by m x) ≡ k x) → (g : Context) (x : A)
     → k (leaf_image by g x) ≡ k x
 kept k by same [] x = refl

@@ -1,4 +1,4 @@
--- What a loop over parts keeps of their weight.
+-- The invariant of a loop over parts: their weight.
 use Rattle.std.proofs.Common.{◌≡◌, ℕ, ◌+◌, ◌^◌, ◌≤◌, arith}
 use Rattle.cql_syntax.specs.Weights.{capped}
 

@@ -1,4 +1,4 @@
--- What stands for a leaf of a query in a context: a list of mappings, the innermost first, each of which maps it in turn.
+-- The image of a leaf of a query in a context. A context is a list of mappings, the innermost first, each of which maps the leaf in turn.
 use Rattle.std.specs.Prelude.{ℕ, ◌+◌, ◌*◌, ◌/◌, ◌%◌, if◌then◌else◌, List, [], ◌∷◌, fold, Option, Some, option_map, option_and_then}
 use Rattle.cq_geometry.specs.declared.compass.Compass.{Compass}
 use Rattle.cq_geometry.specs.declared.compass.Compass.TheVariants.{Up as ToUp, Down as ToDown, Left as ToLeft, Right as ToRight, Northeast as ToNortheast, Northwest as ToNorthwest, Southeast as ToSoutheast, Southwest as ToSouthwest}
@@ -21,26 +21,26 @@ use Rattle.cql_syntax.specs.declared.leaves.Way.TheVariants.{Up, Down, Left, Rig
 abbrev pub Context : Type 0
 Context = List PlainMapping
 
--- White men become black ones and black men white ones: bits 0 to 5 are White's, 6 to 11 Black's, and bit 12 the empty square's.
+-- White men become black ones and black men white ones. Bits 0 to 5 are White's men, bits 6 to 11 Black's, and bit 12 is the empty square.
 abbrev pub men_exchanged : ℕ → ℕ
 men_exchanged men = men % 64 * 64 + men / 64 % 64 + men / 4096 * 4096
 
--- the image of a designator under one mapping, where its squares have one
+-- the image of a designator under one mapping, if its squares have one
 abbrev pub image_of_designator : PlainMapping → Designator → Option Designator
 image_of_designator m d =
     option_map (λ part. record { men = if m.exchange then men_exchanged d.men else d.men; part = part }) (image m d.part)
 
--- The image of a designator in a context. Where all its squares have left the board there is none, also if a later mapping could bring
--- them back.
+-- The image of a designator in a context. There is none once all its squares have left the board, even if a later mapping could bring them
+-- back.
 unfoldable pub designator_image : Context → Designator → Option Designator
 designator_image [] d = Some d
 designator_image (m ∷ g) d = option_and_then (designator_image g) (image_of_designator m d)
 
--- the image of any other leaf, given what one mapping makes of it
+-- the image of any other leaf, given its image under one mapping
 abbrev pub leaf_image : {A : Type 0} → (PlainMapping → A → A) → Context → A → A
 leaf_image by g leaf = fold (λ x m. by m x) leaf g
 
--- what an exchange of colours makes of each word: the side to move, the result, and whose name or rating is meant
+-- each word with the colours exchanged: the side to move, the player meant, and the result
 abbrev pub exchanged_word : Plain → Plain
 exchanged_word Wtm = Btm
 exchanged_word Btm = Wtm
@@ -62,7 +62,7 @@ exchanged_outcome BlackWins = WhiteWins
 exchanged_outcome Draw = Draw
 exchanged_outcome Unfinished = Unfinished
 
--- the colours of squares
+-- the colours of squares, exchanged
 abbrev pub exchanged_light : Unary → Unary
 exchanged_light Light = Dark
 exchanged_light Dark = Light

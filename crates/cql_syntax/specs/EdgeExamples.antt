@@ -1,4 +1,4 @@
--- What fits a context under each form of filter, what an exchange of colours makes of leaves, and values at their edges.
+-- The filters that fit a context, for each form; the images of leaves under an exchange of colours; and values at their edges.
 use Rattle.std.specs.Prelude.{◌≡◌, ℕ, Bool, true, false, List, [], ◌∷◌, ◌++◌, replicate, codes, Option, Some, None, ℤ, pos, negsuc}
 use Rattle.cq_position.specs.Board.{start_board}
 use Rattle.cq_position.specs.declared.games.GameResult.TheVariants.{Open}
@@ -23,7 +23,7 @@ use Rattle.cql_syntax.specs.declared.leaves.Pair.TheVariants.{Attacks}
 use Rattle.cql_syntax.specs.declared.leaves.Plain.TheVariants.{Wtm, Btm, Year}
 use Rattle.cql_syntax.specs.declared.leaves.Unary.TheVariants.{Not, Count}
 
--- whether a filter fits a shift by one file to the left, which takes the king on a1 off the board, and the one on b1 to a1
+-- True if a filter fits a shift by one file to the left. The shift takes the king on a1 off the board, and the one on b1 to a1.
 abbrev fits_left : FormTree → Bool
 fits_left f = fits (shifted (negsuc 0) (pos 0) ∷ []) (at f)
 
@@ -39,7 +39,7 @@ counted f = at (unary Count f)
 abbrev added : FilterTree → FilterTree → FormTree
 added a b = sum_of (more_terms false (counted a) (more_terms true (counted b) no_terms))
 
--- a filter fits exactly where all its parts do
+-- a filter fits exactly if all its parts do
 pub record FitExamples : Type 0 where
   pub move : fits_left (played (move_of (written kept) (written kept) (written kept) (written kept))) ≡ true
   pub move_of_nothing : fits_left (played (move_of left_out left_out left_out left_out)) ≡ true
@@ -61,7 +61,7 @@ pub record FitExamples : Type 0 where
   pub squares_off : fits_left (square true (codes "x") off kept) ≡ false
   pub asked_off : fits_left (square true (codes "x") kept off) ≡ false
 
--- what holds with the colours exchanged
+-- true if a filter holds with the colours exchanged
 abbrev once_exchanged : FormTree → Bool
 once_exchanged f = holds (value all_of (exchanged ∷ []) [] (at f) 0)
 
@@ -69,8 +69,8 @@ once_exchanged f = holds (value all_of (exchanged ∷ []) [] (at f) 0)
 abbrev file_of_men : FilterTree
 file_of_men = at (designator (record { men = 1; part = record { squares = 0x0202020202020202; whole_ranks = false; whole_files = true } }))
 
--- The players change places, `_` and `.` stay as they are, and `A` and `a` change places. The symmetries that make files of ranks exchange
--- the flags of whole ranks and whole files, which no shift along them moves.
+-- The players are exchanged, and so are `A` and `a`; `_` and `.` stay as they are. The symmetries that map files to ranks exchange the
+-- flags of whole ranks and whole files. A shift along whole ranks or files doesn't move them.
 pub record ExchangeExamples : Type 0 where
   pub other_player : once_exchanged (tagged (Player White) (codes "Fine")) ≡ true
   pub not_the_player : once_exchanged (tagged (Player White) (codes "Tal")) ≡ false

@@ -1,4 +1,4 @@
--- What families give: where the images of their members stand, and which of their designators drop out.
+-- The values of families: the squares of their members' images, and the designators that drop out of them.
 use Rattle.std.specs.Prelude.{◌≡◌, ℕ, Bool, true, false, List, [], ◌∷◌, ◌^◌, Some, None, pos, negsuc, length}
 use Rattle.cq_position.specs.declared.men.Man.TheVariants.{K, BlackK}
 use Rattle.cq_position.specs.declared.men.Side.TheVariants.{White}
@@ -21,15 +21,15 @@ use Rattle.cql_syntax.specs.declared.leaves.Way.TheVariants.{Up}
 abbrev pub kings : SearchedTree
 kings = alone (bare White None ((17, K) ∷ (63, BlackK) ∷ []))
 
--- the squares that a family of this square finds White's king on
+-- the squares at which a family of the king on this square finds White's king
 abbrev king_by : Family → ℕ → List ℕ
 king_by family s = found kings (transform family (on (0 ∷ []) (s ∷ []))) 0
 
--- how many members of a family map this square onto the board
+-- the number of a family's members that map this square onto the board
 abbrev kept_by : Family → ℕ → ℕ
 kept_by family s = length (fitting [] (members family) (on (0 ∷ []) (s ∷ [])))
 
--- whether White's king on a1 has an image in a context
+-- true if White's king on a1 has an image in a context
 abbrev stays : Context → Bool
 stays g = fits g (on (0 ∷ []) (0 ∷ []))
 
@@ -51,12 +51,12 @@ pub record FamilyExamples : Type 0 where
   pub shift_vertical : king_by ShiftVertical 57 ≡ 17 ∷ []
   pub not_shift_vertical : king_by ShiftVertical 16 ≡ []
 
--- White's king on b3, or a3 whatever stands there. A shift to the left takes a3 off the board, so that it doesn't fit; read as an empty set
--- it would make `not` hold.
+-- White's king on b3, or a3 with any man or none. A shift to the left takes a3 off the board, so that the filter doesn't fit. As an empty
+-- set it would make `not` hold.
 abbrev king_or_a3 : FilterTree
 king_or_a3 = at (chain Union (filters (on (0 ∷ []) (17 ∷ []) ∷ any_on 16 ∷ [])))
 
--- Of a family a designator drops out of the members that map all its squares off the board; the symmetries alone map none off, but before
+-- A designator drops out of those members of a family that map all its squares off the board. The symmetries alone map none off, but before
 -- a shift they decide.
 pub record DropExamples : Type 0 where
   pub shift : kept_by Shift 0 ≡ 64
@@ -72,7 +72,7 @@ pub record DropExamples : Type 0 where
   pub never_back : stays (shifted (negsuc 0) (pos 0) ∷ shifted (pos 1) (pos 0) ∷ []) ≡ false
   pub not_fooled : truth kings (transform ShiftHorizontal (at (unary Not king_or_a3))) 0 ≡ false
 
--- ranks that are whole, and files, don't move along themselves
+-- whole ranks and whole files don't move along themselves
 abbrev ranks_of_men : FilterTree
 ranks_of_men = at (designator (record { men = 2 ^ 0; part = record { squares = 16711680; whole_ranks = true; whole_files = false } }))
 

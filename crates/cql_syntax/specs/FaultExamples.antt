@@ -38,7 +38,7 @@ a byte = filter_at byte (designator (record { men = 63; part = record { squares 
 abbrev bind : ℕ → FilterTree → FilterTree
 bind byte f = filter_at byte (square false (codes "x") (a (byte + 12)) f)
 
--- five times `square x in A`, and what is asked
+-- five times `square x in A`, and the innermost condition
 abbrev five : FilterTree → FilterTree
 five f = bind 6 (bind 20 (bind 34 (bind 48 (bind 62 f))))
 
@@ -52,7 +52,7 @@ parts f mark = more_parts (atom f) mark no_parts
 abbrev run : ℕ → ℕ → FilterTree → FilterTree
 run byte n f = filter_at byte (line (path false false Any (parts f (Times n n))))
 
--- so many checks, and a mate that stands no time
+-- so many times `check`, and a `mate` that occurs no times
 abbrev none_of_the_last : FilterTree
 none_of_the_last =
     let last : PartTrees = parts (filter_at 25 (plain Mate)) (Times 0 0) in
@@ -65,7 +65,7 @@ flip byte f = filter_at byte (transform Flip f)
 abbrev five_flips : ℕ → FilterTree
 five_flips byte = flip byte (flip (byte + 5) (flip (byte + 10) (flip (byte + 15) (flip (byte + 20) (check (byte + 25))))))
 
--- seven times that, and a check
+-- seven times the five flips, and a `check`
 abbrev heaviest : List FilterTree
 heaviest =
     five_flips 6 ∷ five_flips 37 ∷ five_flips 68 ∷ five_flips 99 ∷ five_flips 130 ∷ five_flips 161 ∷ five_flips 192

@@ -13,17 +13,18 @@ abbrev pub without : FilterTree → FilterTrees → FilterTrees
 without f no_filters = no_filters
 without f (more_filters g gs) = if same_filter f g then without f gs else more_filters g (without f gs)
 
--- filters in order, without those that are the same as an earlier one
+-- filters in order, without any that is the same as an earlier one
 abbrev pub distinct : List FilterTree → FilterTrees
 distinct [] = no_filters
 distinct (f ∷ fs) = more_filters f (without f (distinct fs))
 
--- the image of a designator; where it has none, which no filter that fits has, no men on no squares
+-- The image of a designator, or no men on no squares if it has none. A designator of a filter that fits has one.
 abbrev pub image_or_nothing : Option Designator → Designator
 image_or_nothing None = record { men = 0; part = record { squares = 0; whole_ranks = false; whole_files = false } }
 image_or_nothing (Some d) = d
 
--- A family is any of the flat forms of its part, one for each member with which its part fits. Every other filter keeps its form.
+-- The flat form of a family is an `Any` of the flat forms of its part, one for each member with which the part fits. Every other filter
+-- keeps its form.
 unfoldable mutual
   pub flat : Context → FilterTree → FilterTree
   flat g (filter_at at f) = filter_at at (flat_form g f)
@@ -77,6 +78,6 @@ unfoldable mutual
   flat_body g (atom f) = atom (flat g f)
   flat_body g (group cs) = group (flat_parts g cs)
 
--- The query whose items are the flat forms of a query's items. All of a query is read in the empty context.
+-- The query whose items are the flat forms of a query's items, read in the empty context.
 abbrev pub flat_query : QueryTree → QueryTree
 flat_query q = record q { items = flat_all [] q.items }

@@ -1,4 +1,4 @@
--- What the type of flat queries keeps of its items.
+-- The properties of a flat query's items.
 use Rattle.std.specs.Prelude.{Bool, true, false, ◌&&◌, not, List, [], ◌∷◌}
 use Rattle.std.specs.List.{list_all, list_any}
 use Rattle.cql_syntax.specs.Kinds.{filter_kind}
@@ -8,7 +8,7 @@ use Rattle.cql_syntax.specs.TreeFaults.{broken_rules, is_long_line, is_fifth_squ
 use Rattle.cql_syntax.specs.TreeLists.{filters_of}
 use Rattle.cql_syntax.specs.Trees.{FormTree, any, FilterTrees}
 
--- there is a family in some filter of these items
+-- some filter in these items is a family
 unfoldable pub has_family : FilterTrees → Bool
 has_family items = list_any (λ o. is_family o.form) (of_items 0 items)
 
@@ -25,10 +25,10 @@ abbrev pub is_empty : {X : Type 0} → List X → Bool
 is_empty [] = true
 is_empty (x ∷ xs) = false
 
--- a filter breaks no rule where it stands, is no line of more than 64 places and no `square` with four around it
+-- a filter breaks no rule in its context, is no line of more than 64 places, and is no `square` with four around it
 abbrev pub breaks_none : Occurrence → Bool
 breaks_none o = is_empty (broken_rules o) && not (is_long_line o.form) && not (is_fifth_square o.standing.squares o.form)
 
--- no filter of these items breaks a rule; how heavy they are isn't asked
+-- no filter of these items breaks a rule; their weight is not limited
 unfoldable pub break_no_rule : FilterTrees → Bool
 break_no_rule items = list_all breaks_none (of_items 0 items)

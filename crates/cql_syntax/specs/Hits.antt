@@ -1,4 +1,4 @@
--- The hits of a query in a game, the comments that mark them, and what its games are sorted by.
+-- The hits of a query in a game, the comments that mark them, and the keys by which games are sorted.
 use Rattle.std.specs.Prelude.{ℕ, ◌==◌, fold, Bool, List, [], ◌∷◌, ◌++◌, map, Option, ℤ, if◌then◌else◌}
 use Rattle.std.specs.List.{list_all, list_any, filter}
 use Rattle.std.specs.Int.{int_max, int_min}
@@ -20,7 +20,7 @@ is_hit tree items n = list_all holds (values tree [] [] items n)
 abbrev pub hits_in : SearchedTree → FilterTrees → List ℕ
 hits_in tree items = filter (is_hit tree items) (nodes_in tree)
 
--- the hits of a query in a game, which matches where it has one
+-- the hits of a query in a game; a game matches if it has one
 unfoldable pub hits : QueryTree → Game → List ℕ
 hits q game = hits_in (tree_of q game) q.items
 
@@ -36,11 +36,11 @@ abbrev pub comment_texts : FilterTrees → List (List ℕ)
 comment_texts no_filters = []
 comment_texts (more_filters f fs) = item_texts f ++ comment_texts fs
 
--- the texts that each hit is marked with: the match string, and then the comments
+-- the texts with which each hit is marked: the match string, and then the comments
 unfoldable pub marks : QueryTree → List (List ℕ)
 marks q = q.match_text ∷ comment_texts q.items
 
--- The game in which each hit has the marks after its own comments, each as its words; a text without a word adds nothing.
+-- The game in which each hit has the marks after its own comments, each as its words. A text without a word adds nothing.
 abbrev pub with_marks : List (List ℕ) → Node → Node
 with_marks texts node = fold (λ n text. with_comment text n) node texts
 
@@ -51,11 +51,11 @@ marked_node q game n =
 unfoldable pub marked : QueryTree → Game → Game
 marked q game = record game { nodes = map (marked_node q game) (numbers game.nodes) }
 
--- of two numbers the lesser, or else the greater
+-- the lesser or the greater of two numbers
 abbrev pub chosen : Bool → ℤ → ℤ → ℤ
 chosen least = if least then int_min else int_max
 
--- By a sort item games are sorted by its greatest value over the hits; by one with `min`, by its least.
+-- the key of a sort item: its greatest value over the hits, or its least for an item with `min`
 abbrev pub key_of : Bool → List Value → Option ℤ
 key_of least vs = chosen_from (chosen least) vs
 

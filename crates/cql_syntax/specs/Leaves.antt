@@ -1,4 +1,4 @@
--- Whether two values in a query that have no tree below them are the same.
+-- The equality of two values in a query that have no tree below them.
 use Rattle.std.specs.Prelude.{ℕ, Bool, true, false, ◌&&◌, ◌==◌, not, if◌then◌else◌}
 use Rattle.cq_symmetry.specs.declared.families.Family.{Family}
 use Rattle.cq_symmetry.specs.declared.families.Family.TheVariants.{Flip, Rotate90, FlipVertical, FlipHorizontal, FlipColor, Shift, ShiftHorizontal, ShiftVertical}
@@ -118,7 +118,7 @@ kind_number Position = 0
 kind_number Set = 1
 kind_number Number = 2
 
--- they are the same where their numbers are
+-- two words are the same if their numbers are
 
 abbrev pub same_plain : Plain → Plain → Bool
 same_plain a b = plain_number a == plain_number b
@@ -147,7 +147,7 @@ same_family a b = family_number a == family_number b
 abbrev pub same_kind : Kind → Kind → Bool
 same_kind a b = kind_number a == kind_number b
 
--- values with parts are the same where their parts are
+-- values with parts are the same if their parts are
 
 abbrev pub same_designator : Designator → Designator → Bool
 same_designator a b =

@@ -1,7 +1,7 @@
 -- The limits of queries.
 use Rattle.std.specs.Prelude.{ℕ, ◌^◌}
 
--- the bytes of a query
+-- the greatest number of bytes of a query
 abbrev pub most_bytes : ℕ
 most_bytes = 65536
 
@@ -9,26 +9,26 @@ most_bytes = 65536
 abbrev pub greatest_number : ℕ
 greatest_number = 999999999
 
--- the length of a path, in nodes
+-- the greatest length of a path, in nodes
 abbrev pub longest_path : ℕ
 longest_path = 127
 
--- the constructs that are open at a place
+-- the greatest number of constructs that are open at a place
 abbrev pub most_open : ℕ
 most_open = 64
 
--- the places of a line
+-- the greatest number of places of a line
 abbrev pub most_places : ℕ
 most_places = 64
 
--- the sort items of a query
+-- the greatest number of sort items of a query
 abbrev pub most_sorts : ℕ
 most_sorts = 4
 
--- the `square` that are nested
+-- the greatest number of nested `square`
 abbrev pub most_squares : ℕ
 most_squares = 4
 
--- the weight of a query
+-- the greatest weight of a query
 abbrev pub most_weight : ℕ
 most_weight = 2 ^ 18

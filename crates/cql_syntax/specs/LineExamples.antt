@@ -1,4 +1,5 @@
--- What lines give, and where the filter of the move holds. In the opening White is to move at the nodes 0 and 2, and Black at 1 and 3.
+-- The values of lines, and the nodes at which the filter of the move holds. In the opening White is to move at the nodes 0 and 2, and Black
+-- at 1 and 3.
 use Rattle.std.specs.Prelude.{◌≡◌, ℕ, Bool, true, false, List, [], ◌∷◌, Option, Some, None, ℤ, pos}
 use Rattle.cql_syntax.specs.Samples.{all_of, main_of, in_passing, promoting, passing, at, on, anywhere, parts, worked, truth}
 use Rattle.cql_syntax.specs.Trees.{FilterTree, FormTree, plain, line, path, played, move_of, left_out, written, no_parts, more_parts, group}
@@ -16,7 +17,7 @@ btm = at (plain Btm)
 abbrev check : FilterTree
 check = at (plain Check)
 
--- a king, which stands at every node
+-- a king, which every node's board has
 abbrev king : FilterTree
 king = anywhere 0
 

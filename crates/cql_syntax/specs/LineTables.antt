@@ -1,4 +1,4 @@
--- Lines whose atoms are answered by a table.
+-- Lines whose atoms are evaluated by a table.
 use Rattle.std.specs.Prelude.{◌≡◌, ◌↔◌, ℕ, ◌<◌, Bool, true, false, List, ◌∷◌, Option, Some, length, pos, option_map}
 use Rattle.cq_common.specs.Greatest.{IsGreatest}
 use Rattle.cq_common.specs.Spelling.{Pattern, one, nothing, joined, repeated, Spells}
@@ -12,23 +12,23 @@ use Rattle.cql_syntax.specs.declared.extents.Extent.{Extent}
 abbrev pub IsSearched : SearchedTree → ℕ → Type 0
 IsSearched tree n = is_searched tree.variations tree.game.nodes n ≡ true
 
--- a searched node of the game: with variations each number is searched, also past the last node
+-- A searched node of the game. With variations every number counts as searched, even one past the last node.
 abbrev pub IsSearchedNode : SearchedTree → ℕ → Type 0
 IsSearchedNode tree n = IsSearched tree n × (n < length tree.game.nodes)
 
--- Which node is above another, for each searched node that is joined to its parent: all are, or with `primary` the first children alone.
+-- The node above each searched node that is joined to its parent. All searched nodes are joined; with `primary`, first children alone.
 pub record AreParents (tree : SearchedTree) (primary : Bool) (above : ℕ → Option ℕ) : Type 0 where
   pub are_parents : (n p : ℕ) → above n ≡ Some p
       → IsSearched tree n × ((node_at tree.game.nodes n).parent ≡ Some p) × (primary ≡ true → is_first_child tree.game.nodes n ≡ true)
   pub all_parents : (n p : ℕ) → IsSearched tree n → (node_at tree.game.nodes n).parent ≡ Some p
       → (primary ≡ true → is_first_child tree.game.nodes n ≡ true) → above n ≡ Some p
 
--- a step of a way, down from the node above or, with `back`, up to it
+-- a step of a way, from the node above down or, with `back`, up to it
 abbrev pub IsTableStep : (above : ℕ → Option ℕ) → (back : Bool) → ℕ → ℕ → Type 0
 IsTableStep above true n m = above n ≡ Some m
 IsTableStep above false n m = above m ≡ Some n
 
--- a pattern of numbers stands for one of values, where a table has for each number the searched nodes at which its value holds
+-- A pattern of numbers represents one of values: the table has for each number the searched nodes at which its value holds.
 abbrev pub IsTableOf : (ℕ → ℕ → Bool) → (ℕ → Type 0) → Pattern ℕ → Pattern (ℕ → Value) → Type 0
 IsTableOf table Reach (one a) (one v) = (n : ℕ) → Reach n → table a n ≡ holds (v n)
 IsTableOf table Reach nothing nothing = Unit {0}
@@ -36,8 +36,7 @@ IsTableOf table Reach (joined p q) (joined r s) = IsTableOf table Reach p r × I
 IsTableOf table Reach (repeated l m p) (repeated k o r) = (l ≡ k) × (m ≡ o) × IsTableOf table Reach p r
 IsTableOf table Reach p r = ⊥
 
--- At a searched node of the game the greatest length of a way that the table's pattern spells, and that the extent allows, is the value
--- of the line.
+-- The value of a line at a searched node is the greatest length of those ways that the table's pattern spells and the extent allows.
 abbrev pub TablesGiveLines : Type 0
 TablesGiveLines =
     (tree : SearchedTree) → IsTree tree.game.nodes → (back primary : Bool) (above : ℕ → Option ℕ) → AreParents tree primary above
@@ -46,13 +45,12 @@ TablesGiveLines =
     → IsGreatest (λ len. Line table (IsTableStep above back) p n len × (allows extent len ≡ true)) o
     → as_number (option_map pos o) ≡ line_of tree back primary extent r n
 
--- on each path from a node a pattern of numbers spells by a table what one of values spells
+-- on each path from a node, a pattern of numbers spells by a table exactly as one of values spells
 abbrev pub SpellTheSame : SearchedTree → (back primary : Bool) → (ℕ → ℕ → Bool) → Pattern ℕ → Pattern (ℕ → Value) → ℕ → Type 0
 SpellTheSame tree back primary table p r n =
     (w : List ℕ) → Along (IsStep tree back primary) n w → Spells table p (n ∷ w) ↔ Spells (λ v m. holds (v m)) r (n ∷ w)
 
--- The same where the table's pattern and that of the values spell the same paths from the node: what the table has elsewhere doesn't
--- matter.
+-- The same law, if the table's pattern and that of the values spell the same paths from the node. The table's other entries don't matter.
 abbrev pub SpelledTablesGiveLines : Type 0
 SpelledTablesGiveLines =
     (tree : SearchedTree) → IsTree tree.game.nodes → (back primary : Bool) (above : ℕ → Option ℕ) → AreParents tree primary above

@@ -1,4 +1,4 @@
--- What the value of a line is, in one sentence.
+-- The value of a line, in one sentence.
 use Rattle.std.specs.Prelude.{◌≡◌, ℕ, Bool, true, List, length, Option, pos, option_map}
 use Rattle.cq_common.specs.Greatest.{IsGreatest}
 use Rattle.cq_common.specs.Spelling.{Pattern, Spells}
@@ -10,7 +10,7 @@ use Rattle.cql_syntax.specs.Trees.{PartTrees, path}
 use Rattle.cql_syntax.specs.Values.{Value, holds, as_number}
 use Rattle.cql_syntax.specs.declared.extents.Extent.{Extent}
 
--- some path of so many nodes from n, down or with `back` up, is spelled by a pattern of what holds, and an extent allows its length
+-- some path of so many nodes from n, down or with `back` up, is spelled by a pattern of values that hold, and an extent allows its length
 pub record IsSpelledLength (tree : SearchedTree) (back primary : Bool) (extent : Extent) (p : Pattern (ℕ → Value)) (n len : ℕ)
     : Type 0 where
   pub nodes : List ℕ
@@ -19,8 +19,8 @@ pub record IsSpelledLength (tree : SearchedTree) (back primary : Bool) (extent :
   pub count : length nodes ≡ len
   pub allowed : allows extent len ≡ true
 
--- At each node of a game the value of a line is the greatest length of those paths from there that the line's pattern spells and its extent
--- allows, and none where there is no such path.
+-- The value of a line at a node is the greatest length of those paths from there that its pattern spells and its extent allows. There is no
+-- value if there is no such path.
 abbrev pub LinesAreLongestPaths : Type 0
 LinesAreLongestPaths =
     (tree : SearchedTree) → IsTree tree.game.nodes → (g : Context) (e : Names) (back primary : Bool) (extent : Extent) (parts : PartTrees)

@@ -1,4 +1,4 @@
--- The meaning of a query: what each of its filters gives at each node of a game.
+-- The meaning of a query: the value of each of its filters at each node of a game.
 use Rattle.std.specs.Prelude.{ℕ, Bool, true, false, ◌&&◌, not, ◌==◌, List, [], ◌∷◌, map, length, Option, Some, None, is_some, option_map, option_to_list, unwrap_or, pos, if◌then◌else◌}
 use Rattle.std.specs.List.{list_any, filter}
 use Rattle.std.specs.Str.{bytes_eq}
@@ -50,7 +50,7 @@ is_bound_to (b ∷ e) text s = if bytes_eq b.0 text then b.1 == s else is_bound_
 abbrev pub position_at : SearchedTree → ℕ → Board
 position_at tree n = (node_at tree.game.nodes n).position
 
--- the squares of a designator on which one of its men stands, its empty square among them; of no image there are none
+-- the squares of a designator that have one of its men, its empty square among them; none for a designator without an image
 abbrev pub stands_on : List Man → Option Designator → ℕ → Bool
 stands_on men None s = false
 stands_on men (Some d) s = is_in d.part.squares s && is_in d.men (man_number (man_at men s))
@@ -71,7 +71,7 @@ directions_of Diagonal = diagonals
 directions_of Orthogonal = orthogonals
 directions_of AnyDirection = compasses
 
--- the side to move is in check (FIDE Laws of Chess, article 3.9.1); mate and stalemate ask besides for a legal move (5.1.1 and 5.2.1)
+-- The side to move is in check (FIDE Laws of Chess, article 3.9.1). Mate and stalemate depend on a legal move too (5.1.1 and 5.2.1).
 abbrev pub is_check : Board → Bool
 is_check p = in_check p.men p.side
 
@@ -99,7 +99,7 @@ word_of tree Year n = as_number (year tree.game)
 abbrev pub some_node : (ℕ → Value) → List ℕ → Value
 some_node v nodes = as_truth (list_any (λ m. holds (v m)) nodes)
 
--- what a word or mark before a part gives at a node, from what the part gives at each node
+-- the value of a word or mark before a part at a node, from the part's value at each node
 abbrev pub unary_of : SearchedTree → Unary → (ℕ → Value) → ℕ → Value
 unary_of tree Not v n = as_truth (not (holds (v n)))
 unary_of tree Complement v n = complement_of (v n)
@@ -126,14 +126,14 @@ abbrev pub allows : Extent → ℕ → Bool
 allows AnyLength len = true
 allows (Within least most) len = is_within least most len
 
--- the greatest length of those paths that the pattern spells and whose length the extent allows
+-- the greatest length of those paths that the pattern spells, of the lengths that the extent allows
 abbrev pub line_of : SearchedTree → (back primary : Bool) → Extent → Pattern (ℕ → Value) → ℕ → Value
 line_of tree back primary extent p n =
     as_number (option_map pos (longest (λ w. allows extent (length w) && spells (λ v m. holds (v m)) p w) (paths tree back primary n)))
 
 -- the move to a node
 
--- a square that is asked for is there, and in the set; nothing is asked by a part that is left out
+-- a square that a part requires is present, and in the part's set; a part that is left out requires nothing
 abbrev pub meets : Option Value → Option ℕ → Bool
 meets None s = true
 meets (Some x) None = false
@@ -142,18 +142,18 @@ meets (Some x) (Some s) = has x s
 abbrev pub goal_if : Bool → ℕ → Option ℕ
 goal_if promoted goal = if promoted then Some goal else None
 
--- where no move led, or a null move, nothing holds
+-- nothing holds if no move or a null move led to the node
 abbrev pub meets_all : Option PlainLed → (origin goal taken promoted : Option Value) → Bool
 meets_all None origin goal taken promoted = false
 meets_all (Some l) origin goal taken promoted =
     meets origin (Some l.origin) && meets goal (Some l.goal) && meets taken l.taken && meets promoted (goal_if l.promoted l.goal)
 
--- the node before, where there is one
+-- the parent of a node, or the node itself if it has none
 abbrev pub before : SearchedTree → ℕ → ℕ
 before tree n = unwrap_or (node_at tree.game.nodes n).parent n
 
--- A filter fits a context where each designator in it that stands in no family has an image, and each family in it that stands in no other
--- has a member such that its part fits that member followed by the context.
+-- A filter fits a context if each designator in it outside of families has an image, and each outermost family in it has a member that
+-- fits. A member fits if the family's part fits that member followed by the context.
 unfoldable mutual
   pub fits : Context → FilterTree → Bool
   fits g (filter_at at f) = form_fits g f
@@ -211,7 +211,7 @@ unfoldable mutual
 abbrev pub fitting : Context → List PlainMapping → FilterTree → List Context
 fitting g ms f = filter (λ h. fits h f) (map (λ m. m ∷ g) ms)
 
--- What a filter gives in a searched tree, in a context and with squares bound to names, at a node.
+-- The value of a filter in a searched tree, in a context and with squares bound to names, at a node.
 unfoldable mutual
   pub value : SearchedTree → Context → Names → FilterTree → ℕ → Value
   value tree g e (filter_at at f) n = form_value tree g e f n
@@ -242,7 +242,7 @@ unfoldable mutual
   values tree g e no_filters n = []
   values tree g e (more_filters f fs) n = value tree g e f n ∷ values tree g e fs n
 
-  -- each with whether it is subtracted
+  -- each value with a flag: true if it is subtracted
   pub term_values : SearchedTree → Context → Names → TermTrees → ℕ → List (Bool × Value)
   term_values tree g e no_terms n = []
   term_values tree g e (more_terms minus f ts) n = (minus, value tree g e f n) ∷ term_values tree g e ts n
@@ -258,7 +258,7 @@ unfoldable mutual
   body_pattern tree g e (atom f) = one (value tree g e f)
   body_pattern tree g e (group cs) = pattern tree g e cs
 
-  -- where a move came from and what it took is asked at the node before, its goal and what it became at the node itself
+  -- a move's origin and capture are evaluated at the parent, its goal and promotion at the node itself
   pub played_value : SearchedTree → Context → Names → PlayedTree → ℕ → Bool
   played_value tree g e (move_of origin goal taken promoted) n =
       meets_all (led_to tree.game.nodes n) (written_value tree g e origin (before tree n)) (written_value tree g e goal n)

@@ -1,4 +1,4 @@
--- What the filters that are numbers give: a value, and no value where a number can have none.
+-- The values of number filters, and cases in which a number has no value.
 use Rattle.std.specs.Prelude.{◌≡◌, true, false, [], ◌∷◌, Option, Some, None, ℤ, pos, negsuc}
 use Rattle.cq_position.specs.Board.{start_board}
 use Rattle.cql_syntax.specs.Samples.{all_of, alone, at, on, anywhere, num, filters, worked, truth}

@@ -1,4 +1,4 @@
--- The filters of a query, each where it stands: outer before inner, and left before right.
+-- The filters of a query, each with its context: outer before inner, and left before right.
 use Rattle.std.specs.Prelude.{ℕ, ◌+◌, List, [], ◌∷◌, ◌++◌, Option, None, Some}
 use Rattle.cql_syntax.specs.Kinds.{chain_kind}
 use Rattle.cql_syntax.specs.Trees.{FilterTree, filter_at, FormTree, designator, number, name, plain, tagged, outcome, elo, unary, direction, chain, sum_of, pair, if_, square, line, played, transform, sort, comment, any, FilterTrees, no_filters, more_filters, TermTrees, no_terms, more_terms, LineTree, path, PartTrees, no_parts, more_parts, BodyTree, atom, group, PlayedTree, move_of, WrittenTree, left_out, written, QueryTree}
@@ -6,15 +6,15 @@ use Rattle.cql_syntax.specs.OperandKinds.{unary_operand_kind, pair_operand_kind}
 use Rattle.cql_syntax.specs.declared.leaves.Kind.{Kind}
 use Rattle.cql_syntax.specs.declared.leaves.Kind.TheVariants.{Position, Set, Number}
 
--- how a filter stands in its query
+-- the context of a filter in its query
 pub record TypingContext : Type 0 where
-  -- the kind that is wanted of it
+  -- the kind that is required of it
   pub wanted : Kind
   -- the names that are bound there, the innermost first
   pub names : List (List ℕ)
-  -- how many `square` are around it
+  -- the number of `square` around it
   pub squares : ℕ
-  -- where it is a top item, how many sort items stand before it
+  -- for a top item, the number of sort items before it
   pub item : Option ℕ
 
 pub record Occurrence : Type 0 where
@@ -26,20 +26,19 @@ pub record Occurrence : Type 0 where
 abbrev pub top_item : ℕ → TypingContext
 top_item sorts = record { wanted = Position; names = []; squares = 0; item = Some sorts }
 
--- a part of a filter, of which a kind is wanted
+-- a part of a filter, with its required kind
 abbrev pub part_of : TypingContext → Kind → TypingContext
 part_of s wanted = record { wanted = wanted; names = s.names; squares = s.squares; item = None }
 
--- a part of a `square`, of which a kind is wanted
+-- a part of a `square`, with its required kind
 abbrev pub part_of_square : TypingContext → Kind → TypingContext
 part_of_square s wanted = record { wanted = wanted; names = s.names; squares = s.squares + 1; item = None }
 
--- what a `square` asks of each square that it binds to a name
+-- the condition of a `square`, in which a name is bound
 abbrev pub square_condition : TypingContext → List ℕ → TypingContext
 square_condition s bound = record { wanted = Position; names = bound ∷ s.names; squares = s.squares + 1; item = None }
 
--- A filter and all in it. A family takes a part of each kind. The name that a `square` binds is bound in what it asks
--- of each square alone.
+-- A filter and all in it. The part of a family may have any kind. The name that a `square` binds is bound in its condition alone.
 unfoldable mutual
   pub occurrences : TypingContext → FilterTree → List Occurrence
   occurrences s (filter_at at f) = record { standing = s; at = at; form = f } ∷ inner s f
@@ -94,7 +93,7 @@ unfoldable mutual
   of_body s (atom f) = occurrences s f
   of_body s (group cs) = of_parts s cs
 
--- how many sort items there are, with a filter and so many before it
+-- the number of sort items, given a filter and the number before it
 abbrev pub sorts_with : ℕ → FilterTree → ℕ
 sorts_with sorts (filter_at at (sort least text f)) = sorts + 1
 sorts_with sorts f = sorts

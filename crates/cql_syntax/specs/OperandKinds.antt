@@ -1,4 +1,4 @@
--- The kinds that filters want of their parts.
+-- The kinds that filters require of their parts.
 use Rattle.std.specs.Prelude.{Bool, true, false}
 use Rattle.cql_syntax.specs.declared.leaves.Kind.{Kind}
 use Rattle.cql_syntax.specs.declared.leaves.Kind.TheVariants.{Position, Set, Number}
@@ -7,7 +7,7 @@ use Rattle.cql_syntax.specs.declared.leaves.Pair.TheVariants.{Attacks, AttackedB
 use Rattle.cql_syntax.specs.declared.leaves.Unary.{Unary}
 use Rattle.cql_syntax.specs.declared.leaves.Unary.TheVariants.{Not, Complement, Count, Power, Light, Dark, Find, FindUp, Child, Parent}
 
--- Whether a filter of the second kind may stand where one of the first is wanted. As a position each kind is taken.
+-- True if a filter of the second kind may occur in place of one of the first. A filter of any kind may be a position.
 abbrev pub accepts : Kind → Kind → Bool
 accepts Position found = true
 accepts Set Set = true

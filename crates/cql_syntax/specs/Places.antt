@@ -1,10 +1,11 @@
--- The places of a line, which bound the states of its automaton: an atom's places stand for it as often as its marks repeat it.
+-- The places of a line, which bound the states of its automaton. An atom's places count as often as its marks repeat it.
 use Rattle.std.specs.Prelude.{ℕ, ◌+◌, ◌*◌, max}
 use Rattle.cql_syntax.specs.Trees.{LineTree, path, PartTrees, no_parts, more_parts, BodyTree, atom, group}
 use Rattle.cql_syntax.specs.declared.leaves.Mark.{Mark}
 use Rattle.cql_syntax.specs.declared.leaves.Mark.TheVariants.{Once, Star, Plus, Maybe, Times}
 
--- how often the places of a part count: as often as it may stand at most, but at least once, where that is a number, else once
+-- The number of times that the places of a part count. It is the most times that the part may occur, but at least 1; it is 1 if there is no
+-- most.
 abbrev pub copies : Mark → ℕ
 copies Once = 1
 copies Star = 1

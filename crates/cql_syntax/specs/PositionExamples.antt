@@ -1,4 +1,4 @@
--- Where the filters that are positions hold, and where they don't.
+-- The nodes at which position filters hold, and those at which they don't.
 use Rattle.std.specs.Prelude.{◌≡◌, ℕ, Bool, true, false, List, [], ◌∷◌, codes}
 use Rattle.cq_position.specs.Board.{start_board}
 use Rattle.cql_syntax.specs.Samples.{all_of, main_of, alone, queen_on, at, on, anywhere, any_on, filters, truth}
@@ -23,7 +23,7 @@ with_queen w s = truth (alone (queen_on s)) (plain w) 0
 abbrev in_text : Field → List ℕ → Bool
 in_text field text = truth all_of (tagged field text) 0
 
--- White to move, and Black: nowhere both
+-- White to move, and Black to move: no node has both
 abbrev wtm : FilterTree
 wtm = at (plain Wtm)
 

@@ -1,4 +1,4 @@
--- Whether two filters are the same: of one form, with the same leaves and the same parts, and at the same byte.
+-- The equality of two filters: of one form, with the same leaves and the same parts, and at the same byte.
 use Rattle.std.specs.Prelude.{Bool, true, false, ◌&&◌, ◌==◌}
 use Rattle.std.specs.Str.{bytes_eq}
 use Rattle.cql_syntax.specs.Leaves.{same_flag, same_plain, same_of, same_outcome, same_unary, same_way, same_chain, same_pair, same_family, same_kind, same_designator, same_field, same_mark, same_extent}

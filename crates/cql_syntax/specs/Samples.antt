@@ -1,4 +1,4 @@
--- Small games and queries, at which the meaning is worked out row by row.
+-- Small games and queries, with the meaning worked out row by row.
 use Rattle.std.specs.Prelude.{ℕ, ◌+◌, ◌-◌, ◌^◌, Bool, true, false, List, [], ◌∷◌, replicate, slice_set, fold, filter, Option, Some, None, codes, ℤ}
 use Rattle.cq_geometry.specs.Squares.{squares}
 use Rattle.cq_position.specs.declared.games.GameResult.TheVariants.{White as WhiteWon, Open}
@@ -22,7 +22,7 @@ use Rattle.cql_syntax.specs.declared.leaves.Mark.{Mark}
 
 -- positions
 
--- some men on a board that is empty else
+-- some men on an otherwise empty board
 abbrev pub men_on : List (ℕ × Man) → List Man
 men_on places = fold (λ men place. slice_set men place.0 place.1) (replicate 64 Empty) places
 
@@ -35,7 +35,7 @@ bare side passant places = record {
   number = 1;
 }
 
--- a black king on a8, and White's king on c6: with the queen on b7 it is mate, with the queen on c7 stalemate, with the queen on a4 check
+-- A black king on a8, and White's king on c6. With the queen on b7 it is mate, with the queen on c7 stalemate, with the queen on a4 check.
 abbrev pub queen_on : ℕ → Board
 queen_on s = bare Black None ((56, BlackK) ∷ (42, K) ∷ (s, Q) ∷ [])
 
@@ -109,7 +109,7 @@ abbrev pub bits_of : List ℕ → ℕ
 bits_of [] = 0
 bits_of (n ∷ ns) = 2 ^ n + bits_of ns
 
--- men by their numbers on squares, neither whole ranks nor whole files
+-- men by their numbers on squares, with no whole ranks or whole files
 abbrev pub on : List ℕ → List ℕ → FilterTree
 on men places = at (designator (record {
   men = bits_of men;
@@ -136,7 +136,7 @@ abbrev pub parts : List (FilterTree × Mark) → PartTrees
 parts [] = no_parts
 parts (c ∷ cs) = more_parts (atom c.0) c.1 (parts cs)
 
--- what a filter gives in the empty context and without names
+-- the value of a filter in the empty context and without names
 
 abbrev pub found : SearchedTree → FormTree → ℕ → List ℕ
 found tree f n = filter (has (value tree [] [] (at f) n)) squares

@@ -1,4 +1,4 @@
--- What the filters that are sets give in the initial array: squares of which the filter's word holds, and none of which it doesn't.
+-- The values of set filters in the initial array: squares that they have, and squares that they don't have.
 use Rattle.std.specs.Prelude.{◌≡◌, ℕ, List, [], ◌∷◌, codes, filter}
 use Rattle.cq_geometry.specs.Squares.{squares}
 use Rattle.cql_syntax.specs.Meaning.{Names, value}

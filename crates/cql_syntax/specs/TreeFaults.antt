@@ -1,4 +1,4 @@
--- The faults of a query's tree: those that are looked for once its tokens are parsed.
+-- The faults of a query's tree, which are searched for once its tokens are parsed.
 use Rattle.std.specs.Prelude.{ℕ, Bool, true, false, not, nat_eq, nat_lt, nat_le, unwrap_or, map, filter, List, [], ◌∷◌, ◌++◌, Option, None, Some, Result, Ok, Err, is_none}
 use Rattle.std.specs.List.{flat_map, list_any}
 use Rattle.std.specs.Str.{bytes_eq}
@@ -23,18 +23,18 @@ abbrev pub ok_unless : {X E : Type 0} → X → Option E → Result X E
 ok_unless x None = Ok x
 ok_unless x (Some e) = Err e
 
--- this alone where it applies
+-- this value alone if the flag is true
 abbrev pub where_it : {X : Type 0} → Bool → X → List X
 where_it true x = x ∷ []
 where_it false x = []
 
--- whether a text has a closing brace
+-- true if a text has a closing brace
 abbrev pub holds_brace : List ℕ → Bool
 holds_brace text = list_any (nat_eq closing_brace) text
 
--- the rules that a form breaks where it stands
+-- the rules that a form breaks in its context
 
--- another kind is wanted of it than it has
+-- a filter of another kind than the required one
 abbrev pub wrong_kind : Kind → Kind → List QueryReason
 wrong_kind wanted found = where_it (not (accepts wanted found)) (KindMismatch wanted found)
 
@@ -44,7 +44,7 @@ below_top item (sort least text f) = where_it (is_none item) NotAtTop
 below_top item (comment text) = where_it (is_none item) NotAtTop
 below_top item f = []
 
--- a sort item that as many as there may be stand before
+-- a sort item after the greatest number of sort items
 abbrev pub past_four_sorts : Option ℕ → FormTree → List QueryReason
 past_four_sorts (Some sorts) (sort least text f) = where_it (nat_le most_sorts sorts) TooManySorts
 past_four_sorts item f = []
@@ -54,12 +54,12 @@ abbrev pub unbound_name : List (List ℕ) → FormTree → List QueryReason
 unbound_name names (name text) = where_it (not (list_any (λ bound. bytes_eq bound text) names)) (UnknownName text)
 unbound_name names f = []
 
--- a comment with a closing brace, which would end it in the exported game
+-- a comment with a closing brace, which would end the comment in the exported game
 abbrev pub brace_in_comment : FormTree → List QueryReason
 brace_in_comment (comment text) = where_it (holds_brace text) TextHoldsBrace
 brace_in_comment f = []
 
--- the rules that a filter breaks, in the order in which they are looked for
+-- the rules that a filter breaks, in the order of the search
 abbrev pub broken_rules : Occurrence → List QueryReason
 broken_rules o =
     wrong_kind o.standing.wanted (form_kind o.form)
@@ -93,8 +93,8 @@ is_any f = false
 abbrev pub bytes_where : (Occurrence → Bool) → List Occurrence → List ℕ
 bytes_where test os = map (λ o. o.at) (filter test os)
 
--- The faults of a query, in the order in which they are looked for. A query that is too heavy is refused at its first
--- family, whichever is heavy, and at byte 0 where it has none.
+-- The faults of a query, in the order of the search. The fault of a query that is too heavy is at its first family, even if another one is
+-- heavy. It is at byte 0 if the query has no family.
 unfoldable pub tree_faults : QueryTree → List QueryFault
 tree_faults q =
     let all : List Occurrence = all_occurrences q in
@@ -113,6 +113,6 @@ tree_fault q = first (tree_faults q)
 abbrev pub checked : QueryTree → Result QueryTree QueryFault
 checked q = ok_unless q (tree_fault q)
 
--- whether `Any`, which no query text gives, is in it
+-- true if the query has an `Any`, which no query text has
 unfoldable pub has_any : QueryTree → Bool
 has_any q = list_any (λ o. is_any o.form) (all_occurrences q)

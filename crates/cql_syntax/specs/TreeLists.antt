@@ -15,7 +15,7 @@ abbrev pub filters_from : List FilterTree → FilterTrees
 filters_from [] = no_filters
 filters_from (f ∷ fs) = more_filters f (filters_from fs)
 
--- each term with whether it is subtracted
+-- each term with a flag: true if it is subtracted
 abbrev pub terms_of : TermTrees → List (Bool × FilterTree)
 terms_of no_terms = []
 terms_of (more_terms minus f ts) = (minus, f) ∷ terms_of ts
@@ -33,12 +33,12 @@ abbrev pub parts_from : List (BodyTree × Mark) → PartTrees
 parts_from [] = no_parts
 parts_from (c ∷ cs) = more_parts c.0 c.1 (parts_from cs)
 
--- two views are inverse: each takes back what the other does
+-- two views are inverse: each undoes the other
 pub record AreInverse {L X : Type 0} (list_of : L → List X) (from : List X → L) : Type 0 where
   pub back : (l : L) → from (list_of l) ≡ l
   pub forth : (xs : List X) → list_of (from xs) ≡ xs
 
--- one more at the end of a list of the tree is one more at the end of the list
+-- an item added at the end of a list of the tree is added at the end of the list
 pub record EndsAlike : Type 0 where
   pub filters : (fs : FilterTrees) (f : FilterTree) → filters_of (with_filter fs f) ≡ filters_of fs ++ f ∷ []
   pub terms : (ts : TermTrees) (minus : Bool) (f : FilterTree) → terms_of (with_term ts minus f) ≡ terms_of ts ++ (minus, f) ∷ []

@@ -46,16 +46,16 @@ mutual
     no_filters : FilterTrees
     more_filters : FilterTree → FilterTrees → FilterTrees
 
-  -- each with whether it is subtracted
+  -- each with a flag: true if it is subtracted
   pub data TermTrees : Type 0 where
     no_terms : TermTrees
     more_terms : Bool → FilterTree → TermTrees → TermTrees
 
-  -- whether it goes up, whether through first children alone, the lengths that count, and the parts
+  -- a flag for a path that goes up, a flag for first children alone, the allowed lengths, and the parts
   pub data LineTree : Type 0 where
     path : Bool → Bool → Extent → PartTrees → LineTree
 
-  -- what is asked of a move: the square that it came from, its goal, the square on which it took, and its goal where it promoted
+  -- the conditions on a move: its origin, its goal, the square of its capture, and its goal if it promotes
   pub data PlayedTree : Type 0 where
     move_of : WrittenTree → WrittenTree → WrittenTree → WrittenTree → PlayedTree
 

@@ -3,12 +3,12 @@ use Rattle.std.specs.Prelude.{ℕ, Bool, true, false}
 use Rattle.cql_syntax.specs.Same.{same_filter}
 use Rattle.cql_syntax.specs.Trees.{FilterTree, filter_at, FormTree, designator, number, name, plain, tagged, outcome, elo, unary, direction, chain, sum_of, pair, if_, square, line, played, transform, sort, comment, any, FilterTrees, no_filters, more_filters, TermTrees, no_terms, more_terms, LineTree, path, PlayedTree, move_of, WrittenTree, left_out, written, PartTrees, no_parts, more_parts, BodyTree, atom, group}
 
--- a place, or 0 in its stead
+-- a place, or 0 instead of it
 abbrev pub place_if : Bool → ℕ → ℕ
 place_if true place = place
 place_if false place = 0
 
--- the same with all its places, or with 0 in the stead of each
+-- a filter with all its places, or with 0 instead of each
 unfoldable mutual
   pub with_places : Bool → FilterTree → FilterTree
   with_places p (filter_at at f) = filter_at (place_if p at) (form_with p f)
@@ -66,6 +66,6 @@ unfoldable mutual
 abbrev pub unplaced : FilterTree → FilterTree
 unplaced f = with_places false f
 
--- whether two filters are the same but for their places
+-- true if two filters are the same but for their places
 abbrev pub same_unplaced : FilterTree → FilterTree → Bool
 same_unplaced f g = same_filter (unplaced f) (unplaced g)

@@ -1,4 +1,4 @@
--- What a filter gives at a node, and how the values of its parts make it.
+-- The value of a filter at a node, from the values of its parts.
 use Rattle.std.specs.Prelude.{ℕ, ◌+◌, ◌-◌, ◌^◌, Bool, true, false, ◌&&◌, not, nat_lt, if◌then◌else◌, List, [], ◌∷◌, Option, Some, None, is_some, ℤ, pos, negsuc, ◌+ℤ◌, ◌-ℤ◌, ◌*ℤ◌, int_lt, int_le, fold, sum_by, count_by}
 use Rattle.std.specs.List.{list_any, list_all, filter, range_with_len}
 use Rattle.std.specs.Int.{int_max, int_min}
@@ -19,13 +19,13 @@ use Rattle.cql_syntax.specs.declared.leaves.Kind.TheVariants.{Position, Set, Num
 use Rattle.cql_syntax.specs.declared.leaves.Pair.{Pair}
 use Rattle.cql_syntax.specs.declared.leaves.Pair.TheVariants.{Attacks, AttackedBy, Between, Less, AtMost, Equal, AtLeast, Greater}
 
--- A position gives a truth, a set those squares of the board that pass a test, and a number a whole number or no value.
+-- A position has a truth, a set those squares of the board that pass a test, and a number a whole number or no value.
 pub data Value : Type 0 where
   as_truth : Bool → Value
   as_squares : (ℕ → Bool) → Value
   as_number : Option ℤ → Value
 
--- whether a value is of a kind
+-- true if a value is of a kind
 abbrev pub is_of_kind : Kind → Value → Bool
 is_of_kind Position (as_truth b) = true
 is_of_kind Set (as_squares x) = true
@@ -40,19 +40,19 @@ squares_where test = as_squares (λ s. nat_lt s 64 && test s)
 abbrev pub count : ℕ → Value
 count n = as_number (Some (pos n))
 
--- where a position is wanted: a set holds where it isn't empty, a number where it has a value
+-- The value as a position. A set holds if it isn't empty, and a number if it has a value.
 abbrev pub holds : Value → Bool
 holds (as_truth b) = b
 holds (as_squares x) = list_any x squares
 holds (as_number v) = is_some v
 
--- where a set is wanted: whether it has a square
+-- the value as a set: true if it has a square
 abbrev pub has : Value → ℕ → Bool
 has (as_truth b) s = false
 has (as_squares x) s = x s
 has (as_number v) s = false
 
--- where a number is wanted
+-- the value as a number
 abbrev pub amount : Value → Option ℤ
 amount (as_truth b) = None
 amount (as_squares x) = None
@@ -66,11 +66,11 @@ complement_of x = squares_where (λ s. not (has x s))
 abbrev pub union_of : List Value → Value
 union_of xs = squares_where (λ s. list_any (λ x. has x s) xs)
 
--- of no sets it is all squares
+-- the intersection of no sets is all squares
 abbrev pub intersection_of : List Value → Value
 intersection_of xs = squares_where (λ s. list_all (λ x. has x s) xs)
 
--- the squares of a set that are so related to some square of another
+-- the squares of a set that are related to some square of another set by the test
 abbrev pub related : (ℕ → ℕ → Bool) → Value → Value → Value
 related test x y = squares_where (λ s. has x s && list_any (λ t. has y t && test s t) squares)
 
@@ -84,11 +84,11 @@ light_of x = squares_where (λ s. has x s && is_light s)
 abbrev pub dark_of : Value → Value
 dark_of x = squares_where (λ s. has x s && not (is_light s))
 
--- k steps in a direction lead from a square to a goal, for some k from m to n, whatever men stand there
+-- k steps in a direction lead from a square to a goal, for some k from m to n, past any men
 abbrev pub leads_to : ℕ → ℕ → ℕ → ℕ → Compass → Bool
 leads_to m n s goal d = list_any (λ k. is_square (steps_away (files_of d) (ranks_of d) s k) goal) (range_with_len m (n + 1 - m))
 
--- some square of the set leads to the goal in some of the directions
+-- some square of the set leads to the goal in some direction
 abbrev pub is_reached : List Compass → ℕ → ℕ → Value → ℕ → Bool
 is_reached directions m n x goal = list_any (λ s. has x s && list_any (leads_to m n s goal) directions) squares
 
@@ -101,38 +101,38 @@ reached_of directions m n x = squares_where (is_reached directions m n x)
 abbrev pub in_range : ℤ → Option ℤ
 in_range z = if int_le (negsuc (2 ^ 63 - 1)) z && int_le z (pos (2 ^ 63 - 1)) then Some z else None
 
--- what an operation gives of two numbers, where both have a value
+-- the result of an operation on two numbers, if both have a value
 abbrev pub of_both : (ℤ → ℤ → Option ℤ) → Option ℤ → Option ℤ → Option ℤ
 of_both f None b = None
 of_both f (Some a) None = None
 of_both f (Some a) (Some b) = f a b
 
--- a product goes from left to right, and has no value once a number on the way leaves the range
+-- a product goes from left to right, and has no value once a partial product leaves the range
 abbrev pub times_one : Option ℤ → Value → Option ℤ
 times_one a v = of_both (λ x y. in_range (x *ℤ y)) a (amount v)
 
 abbrev pub product_of : List Value → Value
 product_of vs = as_number (fold times_one (Some (pos 1)) vs)
 
--- a sum likewise; each term is added or subtracted, the first from 0
+-- a sum goes from left to right in the same way; each term is added or subtracted, starting at 0
 abbrev pub plus_one : Option ℤ → Bool × Value → Option ℤ
 plus_one a term = of_both (λ x y. in_range (if term.0 then x -ℤ y else x +ℤ y)) a (amount term.1)
 
 abbrev pub total_of : List (Bool × Value) → Value
 total_of terms = as_number (fold plus_one (Some (pos 0)) terms)
 
--- one chosen of numbers that all have a value; no numbers have none
+-- one of the numbers, chosen pair by pair; there is none if a number has no value, or if there are no numbers
 abbrev pub chosen_from : (ℤ → ℤ → ℤ) → List Value → Option ℤ
 chosen_from choose [] = None
 chosen_from choose (v ∷ vs) = fold (λ a w. of_both (λ x y. Some (choose x y)) a (amount w)) (amount v) vs
 
--- the greater of the values that there are
+-- the greater of the values that exist
 abbrev pub greater : Option ℤ → Option ℤ → Option ℤ
 greater None b = b
 greater (Some a) None = Some a
 greater (Some a) (Some b) = Some (int_max a b)
 
--- the greatest of the values that there are
+-- the greatest of the values that exist
 abbrev pub greatest : List Value → Option ℤ
 greatest [] = None
 greatest (v ∷ vs) = greater (amount v) (greatest vs)
@@ -160,7 +160,7 @@ power_of men x = count (sum_by (λ s. if has x s then worth (man_at men s) else 
 
 -- positions
 
--- both numbers have values, and these are so related
+-- both numbers have values, which pass the test
 abbrev pub compares : (ℤ → ℤ → Bool) → Option ℤ → Option ℤ → Bool
 compares test None b = false
 compares test (Some a) None = false
@@ -175,11 +175,11 @@ some_holds vs = as_truth (list_any holds vs)
 abbrev pub all_hold : List Value → Value
 all_hold vs = as_truth (list_all holds vs)
 
--- the second where the first holds, else the third
+-- the second part if the first holds, else the third
 abbrev pub if_of : Value → Value → Value → Value
 if_of x y z = as_truth (if holds x then holds y else holds z)
 
--- what is asked of a square holds of every square of a set, or of some
+-- the condition holds of every square of a set, or of some square
 abbrev pub square_of : Bool → Value → (ℕ → Bool) → Value
 square_of true x asked = as_truth (list_all asked (filter (has x) squares))
 square_of false x asked = as_truth (list_any asked (filter (has x) squares))

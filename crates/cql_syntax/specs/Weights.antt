@@ -1,11 +1,11 @@
--- The weight of a query, which bounds what its families write out.
+-- The weight of a query, which bounds the filters that its families write out.
 use Rattle.std.specs.Prelude.{ℕ, ◌+◌, ◌*◌, min, length}
 use Rattle.cq_symmetry.specs.Families.{members}
 use Rattle.cql_syntax.specs.Limits.{most_weight}
 use Rattle.cql_syntax.specs.Trees.{FilterTree, filter_at, FormTree, designator, number, name, plain, tagged, outcome, elo, unary, direction, chain, sum_of, pair, if_, square, line, played, transform, sort, comment, any, FilterTrees, no_filters, more_filters, TermTrees, no_terms, more_terms, LineTree, path, PartTrees, no_parts, more_parts, BodyTree, atom, group, PlayedTree, move_of, WrittenTree, left_out, written, QueryTree}
 
--- A family weighs 1 and its part once for each member, any other filter 1 and its parts. The parts of a line are
--- its atoms as they are written, however often their marks repeat them.
+-- A family weighs 1 and its part once for each member. Any other filter weighs 1 and its parts. The parts of a line are its atoms as they
+-- are written, however often their marks repeat them.
 abbrev mutual
   pub filter_weight : FilterTree → ℕ
   filter_weight (filter_at at f) = form_weight f
@@ -63,6 +63,6 @@ abbrev mutual
 abbrev pub query_weight : QueryTree → ℕ
 query_weight q = filters_weight q.items
 
--- a weight as it is answered: one more than the greatest wherever it is above the greatest
+-- a weight as it is returned: one more than the greatest if it is above the greatest
 abbrev pub capped : ℕ → ℕ
 capped n = min n (most_weight + 1)

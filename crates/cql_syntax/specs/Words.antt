@@ -1,4 +1,4 @@
--- The words and the marks of the query language, each with its text, and the names that are reserved and no words of it.
+-- The words and the marks of the query language, each with its text, and the reserved names, which are no words of it.
 use Rattle.std.specs.Prelude.{ℕ, List, [], ◌∷◌, ◌++◌, map, Option, codes}
 use Rattle.std.specs.List.{position, slice_get}
 use Rattle.std.specs.Str.{bytes_eq}
@@ -55,7 +55,7 @@ plain_text plains.MoveNumber = codes "movenumber"
 plain_text plains.Depth = codes "depth"
 plain_text plains.Year = codes "year"
 
--- words that stand before one filter, and the two marks that do; `find` towards the root is `find` and an arrow
+-- words before one filter, and the two such marks; `find` towards the root is `find` and an arrow
 abbrev pub unary_text : Unary → List ℕ
 unary_text unaries.Not = codes "not"
 unary_text unaries.Complement = sign_text signs.Tilde
@@ -134,7 +134,7 @@ word_text meanings.To = codes "to"
 word_text meanings.Capture = codes "capture"
 word_text meanings.Promote = codes "promote"
 
--- the words in order; a word's number is its place, from 0
+-- the words in order; the number of a word is its place, from 0
 
 -- words that open a query
 abbrev pub header_words : List Word
@@ -196,7 +196,7 @@ family_words =
     ∷ meanings.Family families.Shift ∷ meanings.Family families.ShiftHorizontal
     ∷ meanings.Family families.ShiftVertical ∷ []
 
--- filters that stand only at the top of a query
+-- filters that occur only at the top of a query
 abbrev pub top_words : List Word
 top_words =
     meanings.Sort ∷ meanings.Comment ∷ []
@@ -219,7 +219,7 @@ words = map word_text words_in_order
 unfoldable pub word_of : ℕ → Option Word
 word_of number = slice_get words_in_order number
 
--- all marks; a mark's number is its place here, from 0
+-- all marks; the number of a mark is its place in this list, from 0
 abbrev pub marks_in_order : List Sign
 marks_in_order =
     signs.Arrow ∷ signs.BackArrow ∷ signs.AtMost ∷ signs.AtLeast ∷ signs.Equal ∷ signs.Less ∷ signs.Greater ∷ signs.Plus
@@ -233,7 +233,7 @@ marks = map sign_text marks_in_order
 unfoldable pub sign_of : ℕ → Option Sign
 sign_of number = slice_get marks_in_order number
 
--- names that this language keeps back: they are no words of it, and a query may not use them
+-- reserved names, which are no words of this language and which a query may not use
 abbrev pub reserved_names : List (List ℕ)
 reserved_names = codes "echo" ∷ codes "loop" ∷ codes "while" ∷ codes "function" ∷ codes "persistent" ∷ codes "dictionary"
     ∷ codes "string" ∷ codes "message" ∷ codes "ray" ∷ codes "pin" ∷ codes "xray" ∷ codes "rotate45"
@@ -241,7 +241,7 @@ reserved_names = codes "echo" ∷ codes "loop" ∷ codes "while" ∷ codes "func
     ∷ codes "legal" ∷ codes "pseudolegal" ∷ codes "passedpawns" ∷ codes "isolatedpawns" ∷ codes "silent" ∷ codes "quiet"
     ∷ codes "gamenumber" ∷ codes "nestban" ∷ codes "singlecolor" ∷ codes "lastposition" ∷ codes "firstmatch" ∷ []
 
--- the place of a text in a table, none where it does not stand there
+-- the place of a text in a table, or none if it isn't in the table
 abbrev pub place_of : List ℕ → List (List ℕ) → Option ℕ
 place_of text table = position (λ entry. bytes_eq entry text) table
 

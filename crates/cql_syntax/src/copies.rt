@@ -12,7 +12,11 @@ use cq_symmetry::Family;
 use std::alloc::Global;
 
 impl Query {
-    /// The same query again, in memory of the allocator that this one keeps.
+    /// Returns a copy of this query, in memory of the allocator that this one keeps.
+    ///
+    /// # Errors
+    ///
+    /// Returns `NoMemory` if memory runs out.
     pub fn copy(&self) -> Result<Query, NoMemory>
         ensures { IfOk result (λ q. query_tree q ≡ query_tree self.now) }
     {
@@ -27,7 +31,11 @@ impl Query {
 }
 
 impl Filter {
-    /// The same filter again.
+    /// Returns a copy of this filter.
+    ///
+    /// # Errors
+    ///
+    /// Returns `NoMemory` if memory runs out.
     #[cycle(copy)]
     pub fn copy(&self, alloc: Global) -> Result<Filter, NoMemory>
         ensures { IfOk result (λ f. filter_tree f ≡ filter_tree self.now) }
@@ -46,7 +54,7 @@ impl Filter {
         Ok(Box::new(alloc, filter)?)
     }
 
-    // A pair whose second part is a copy of this.
+    // A pair whose second part is a copy of this filter.
     #[cycle(copy)]
     fn copy_second(&self, word: Pair, first: Box<Filter>, alloc: Global) -> Result<Form, NoMemory>
         ensures { IfOk result (λ f. form_tree f ≡ pair word (filter_tree first.value) (filter_tree self.now)) }
@@ -54,7 +62,7 @@ impl Filter {
         Ok(Form::Pair(word, first, self.boxed(alloc)?))
     }
 
-    // An `if` that asks a copy of this where its condition doesn't hold.
+    // An `if` whose `else` branch is a copy of this filter.
     #[cycle(copy)]
     fn copy_otherwise(
         &self,
@@ -68,7 +76,7 @@ impl Filter {
         Ok(Form::If(condition, then, self.boxed(alloc)?))
     }
 
-    // A `square` that asks a copy of this of each square.
+    // A `square` whose condition is a copy of this filter.
     #[cycle(copy)]
     fn copy_condition(
         &self,

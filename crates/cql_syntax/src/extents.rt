@@ -1,11 +1,11 @@
-//! The lengths of the paths that a line speaks of.
+//! The lengths of the paths of a line.
 ghost use Rattle.std.specs.Prelude.{◌≡◌, ◌≤◌, ℕ};
 ghost use Rattle.cql_syntax.specs.Extents.{path_length};
 ghost use Rattle.cql_syntax.specs.Limits.{longest_path};
 
 use std::marker::Model;
 
-/// The greatest length of a path that a line may ask for, in nodes.
+/// The greatest length of a path in a line's extent, in nodes.
 pub const LONGEST_PATH: u32 = 127;
 
 /// A number of nodes along a path, from 1 to `LONGEST_PATH`.
@@ -25,7 +25,8 @@ impl Model for PathLength {
 }
 
 impl PathLength {
-    /// The length of so many nodes, none where there are not from 1 to `LONGEST_PATH`.
+    /// Returns the length of so many nodes, or `None` if the number is not from 1 to
+    /// `LONGEST_PATH`.
     pub fn new(nodes: u32) -> Option<PathLength>
         ensures { result ≡ path_length nodes }
     {
@@ -36,7 +37,7 @@ impl PathLength {
         }
     }
 
-    /// How many nodes.
+    /// Returns the number of nodes.
     pub fn nodes(self) -> u32
         ensures value { result ≡ self }
         ensures least { 1 ≤ result }
@@ -46,11 +47,11 @@ impl PathLength {
     }
 }
 
-/// Which paths a line speaks of.
+/// The lengths that a line allows its paths.
 #[derive(Clone, Copy, Debug, PartialEq, Eq)]
 pub enum Extent {
-    /// Those of every length.
+    /// Every length.
     Any,
-    /// Those of a length from the first to the second, of none where the first is the greater.
+    /// The lengths from the first to the second; none if the first is the greater.
     Within(PathLength, PathLength),
 }

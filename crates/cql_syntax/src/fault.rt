@@ -1,9 +1,9 @@
-//! Why a query is refused.
+//! The faults of a query.
 
 use crate::leaves::Kind;
 use cq_common::{Bytes, Shared};
 
-/// The fault of a query, and where it stands.
+/// The fault of a query, and its place.
 #[derive(Drop, Debug, PartialEq, Eq)]
 pub struct QueryFault {
     /// A place in the query's bytes, from 0.
@@ -13,20 +13,20 @@ pub struct QueryFault {
 
 impl Shared for QueryFault {}
 
-/// What is wrong with a query.
+/// The reason of a query's fault.
 #[derive(Drop, Debug, PartialEq, Eq)]
 pub enum QueryReason {
     /// A byte that begins no token.
     BadByte,
     /// A quote without a second one.
     UnclosedText,
-    /// A token that no query has there.
+    /// A token that no query has at this place.
     UnexpectedToken,
     /// The query ends before it is whole.
     UnexpectedEnd,
-    /// A name that this language keeps back: it is no word of it, and a query may not use it.
+    /// A reserved name. It is no word of this language, and a query may not use it.
     OutsideProfile(Bytes),
-    /// A filter of the second kind stands where one of the first is wanted.
+    /// A filter of the second kind where one of the first kind is required.
     KindMismatch(Kind, Kind),
     /// A name that no `square` around it binds.
     UnknownName(Bytes),
@@ -38,9 +38,9 @@ pub enum QueryReason {
     TooDeep,
     /// A line of more than 64 places.
     LineTooLong,
-    /// A query of a weight above 2^18.
+    /// A query of a weight above 2^18 (262,144).
     TooManyMembers,
-    /// More than 65,536 bytes.
+    /// A query of more than 65,536 bytes.
     QueryTooLong,
     /// A `sort` or `comment` that is no top item.
     NotAtTop,

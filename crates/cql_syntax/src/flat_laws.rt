@@ -25,8 +25,8 @@ pub fn same_filters_are_equal()
     ensures { (f g : FilterTree) → (same_filter f g ≡ true) ↔ (f ≡ g) }
 {}
 
-/// Filters are the same but for their places exactly where they are equal without these, and then they give the same in every context:
-/// at every node of every searched tree, whatever names are bound.
+/// Filters are the same but for their places exactly if they are equal without these. They then have the same value in every context:
+/// at every node of every searched tree, with any names bound.
 #[tactic(auto, using(crate::proofs::SameSound::same_law, crate::proofs::UnplacedSame::same_value))]
 pub fn places_do_not_count()
     ensures equal { (f g : FilterTree) → (same_unplaced f g ≡ true) ↔ (unplaced f ≡ unplaced g) }
@@ -34,8 +34,8 @@ pub fn places_do_not_count()
         value tree c e f n ≡ value tree c e g n }
 {}
 
-/// The flat form of a filter gives in the empty context what the filter gives in its own: at every node of every searched tree, whatever
-/// names are bound.
+/// The flat form of a filter has in the empty context the value that the filter has in its own. This is so at every node of every
+/// searched tree, with any names bound.
 #[tactic(auto, using(crate::proofs::FlatSame::flat_is_same, crate::proofs::FlatSame::all_is_same))]
 pub fn flat_forms_have_the_same_value()
     ensures one { (tree : SearchedTree) (f : FilterTree) (g : Context) (e : Names) (n : ℕ) →
@@ -52,7 +52,8 @@ pub fn flat_queries_have_the_same_hits()
     ensures keys { (q : QueryTree) (game : Game) → keys (flat_query q) game ≡ keys q game }
 {}
 
-/// The flat items of a query without a fault and without `Any` meet all that the type of flat queries keeps.
+/// The flat items of a query without a fault and without `Any` have all properties of the type of flat
+/// queries.
 #[tactic(auto, using(crate::proofs::FlatFacts::flat_families, crate::proofs::FlatFacts::flat_kinds, crate::proofs::FlatFacts::flat_rules))]
 pub fn flat_items_make_a_flat_query()
     ensures families { (q : QueryTree) → tree_fault q ≡ None → has_any q ≡ false → has_family (flat_all [] q.items) ≡ false }

@@ -6,11 +6,11 @@ ghost use Rattle.cql_syntax.specs.TreeOf.{filters_tree};
 use crate::tree::Filters;
 use cq_common::Shared;
 
-/// A query whose families are written out: there are none in its items, the parts of each `Any` are of the kind that it names, and no
-/// filter breaks a rule of queries but for their weight.
+/// A query whose families are written out. Its items have no family, the parts of each `Any` are of the kind that it names, and no
+/// filter breaks a rule. The weight alone is not limited.
 #[derive(Drop)]
 pub struct FlatQuery {
-    /// All nodes of a game are searched, and not the main line alone.
+    /// True if all nodes of a game are searched, and not the main line alone.
     pub variations: bool,
     pub items: Filters,
     pub ghost flat: { has_family (filters_tree items) ≡ false },

@@ -6,7 +6,7 @@ ghost use Rattle.cql_syntax.specs.TreeOf.{filter_tree};
 use crate::leaves::Kind;
 use crate::tree::{Filter, Form};
 
-/// What a filter gives. A family gives what its part gives.
+/// Returns the kind of a filter's value. A family has the kind of its part.
 pub fn kind_of(f: &Filter) -> Kind
     ensures { result ≡ filter_kind (filter_tree f.now) }
 {

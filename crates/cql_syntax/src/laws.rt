@@ -18,21 +18,21 @@ ghost use Rattle.cql_syntax.specs.Trees.{FilterTree};
 ghost use Rattle.cql_syntax.specs.Values.{Value, is_of_kind};
 ghost use Rattle.std.specs.Prelude.{◌≡◌, ℕ, true};
 
-/// What the filters that are sets give in the initial array.
+/// The values of set filters in the initial array.
 #[tactic(auto, using(crate::proofs::SetExamples::set_rows, crate::proofs::SetExamples::direction_rows))]
 pub fn sets_are_as_worked()
     ensures sets { SetExamples }
     ensures directions { DirectionExamples }
 {}
 
-/// What the filters that are numbers give, and how numbers compare.
+/// The values of number filters, and the comparison of numbers.
 #[tactic(auto, using(crate::proofs::NumberExamples::number_rows, crate::proofs::NumberExamples::comparison_rows))]
 pub fn numbers_are_as_worked()
     ensures numbers { NumberExamples }
     ensures comparisons { ComparisonExamples }
 {}
 
-/// Where the filters that are positions hold.
+/// The nodes at which position filters hold.
 #[tactic(auto, using(crate::proofs::PositionExamples::word_rows, crate::proofs::PositionExamples::header_rows, crate::proofs::PositionExamples::logic_rows, crate::proofs::PositionExamples::tree_rows))]
 pub fn positions_are_as_worked()
     ensures words { WordExamples }
@@ -41,14 +41,14 @@ pub fn positions_are_as_worked()
     ensures tree { TreeExamples }
 {}
 
-/// What lines give, and where the filter of the move holds.
+/// The values of lines, and the nodes at which the filter of the move holds.
 #[tactic(auto, using(crate::proofs::LineExamples::line_rows, crate::proofs::LineExamples::move_rows))]
 pub fn lines_and_moves_are_as_worked()
     ensures lines { LineExamples }
     ensures moves { MoveExamples }
 {}
 
-/// What families give, and which designators drop out of their members.
+/// The values of families, and the designators that drop out of their members.
 #[tactic(auto, using(crate::proofs::FamilyExamples::family_rows, crate::proofs::FamilyExamples::drop_rows, crate::proofs::FamilyExamples::image_rows))]
 pub fn families_are_as_worked()
     ensures families { FamilyExamples }
@@ -56,7 +56,8 @@ pub fn families_are_as_worked()
     ensures images { ImageExamples }
 {}
 
-/// Which filters fit a shift, what an exchange of colours and a turn make of leaves, and values at their edges.
+/// The filters that fit a shift, the images of leaves under an exchange of colours and a turn, and values at
+/// their edges.
 #[tactic(auto, using(crate::proofs::EdgeExamples::fit_rows, crate::proofs::EdgeExamples::exchange_rows, crate::proofs::EdgeExamples::edge_rows))]
 pub fn edges_are_as_worked()
     ensures fits { FitExamples }
@@ -64,13 +65,13 @@ pub fn edges_are_as_worked()
     ensures edges { EdgeExamples }
 {}
 
-/// What queries hit, what they mark hits with, and what they sort by.
+/// The hits of queries, the marks of the hits, and the sort keys.
 #[tactic(auto, using(crate::proofs::HitExamples::hit_rows))]
 pub fn hits_are_as_worked()
     ensures { HitExamples }
 {}
 
-/// A path passes the test of a line's pattern exactly where the pattern spells it.
+/// A path passes the test of a line's pattern exactly if the pattern spells it.
 #[tactic(auto, using(cq_common::proofs::SpellingLaw::spelling_law))]
 pub fn lines_are_tested_by_splits()
     ensures { TestIsSpelling (ℕ → Value) }
@@ -82,14 +83,15 @@ pub fn lines_are_longest_paths()
     ensures { LinesAreLongestPaths }
 {}
 
-/// Where a table has for each atom of a line the searched nodes at which its filter holds, the greatest allowed length of a way that the
-/// table's pattern spells is the value of the line.
+/// A table has for each atom of a line the searched nodes at which its filter holds. The line's value is the greatest allowed length of
+/// a way that the table's pattern spells.
 #[tactic(auto, using(crate::proofs::TabledLines::lines_are_theirs))]
 pub fn tables_give_their_lines()
     ensures { TablesGiveLines }
 {}
 
-/// The same, where a table's pattern spells on the paths from a node what the filters spell there.
+/// The same law, for a table whose pattern spells on the paths from a node exactly those that the
+/// filters spell there.
 #[tactic(auto, using(crate::proofs::TabledLines::spelled_lines_are_theirs))]
 pub fn spelled_tables_give_their_lines()
     ensures { SpelledTablesGiveLines }
@@ -102,7 +104,8 @@ pub fn values_are_of_their_kind()
         is_of_kind (filter_kind f) (value tree g e f n) ≡ true }
 {}
 
-/// The lists of a query's tree are lists: each is one in one way, and the trees of values in a row are those of each.
+/// The lists of a query's tree are lists: each is one in one way. The trees of values in a row are the trees of each
+/// value.
 #[tactic(auto, using(crate::proofs::TreeLists::filter_lists, crate::proofs::TreeLists::term_lists, crate::proofs::TreeLists::part_lists, crate::proofs::TreeLists::ends_alike, crate::proofs::TreeLists::trees_of_each))]
 pub fn tree_lists_are_lists()
     ensures filters { AreInverse filters_of filters_from }

@@ -4,7 +4,7 @@ ghost use Rattle.cql_syntax.specs.Kinds.{plain_kind, unary_kind, chain_kind, pai
 
 use cq_symmetry::SquarePart;
 
-/// What a filter gives at a position of a game.
+/// The kind of a filter's value at a position of a game.
 #[derive(Clone, Copy, Debug, PartialEq, Eq)]
 pub enum Kind {
     /// A truth value.
@@ -37,6 +37,7 @@ pub enum Plain {
 }
 
 impl Plain {
+    /// Returns the kind of the filter's value.
     pub fn kind(self) -> Kind
         ensures { result ≡ plain_kind self }
     {
@@ -49,7 +50,7 @@ impl Plain {
     }
 }
 
-/// Whose tag or rating is meant.
+/// The player whose tag or rating is meant.
 #[derive(Clone, Copy, Debug, PartialEq, Eq)]
 pub enum Of {
     Either,
@@ -57,7 +58,7 @@ pub enum Of {
     Black,
 }
 
-/// A tag of the game whose text is searched.
+/// A tag of the game in whose value a text is searched for.
 #[derive(Clone, Copy, Debug, PartialEq, Eq)]
 pub enum Field {
     Player(Of),
@@ -85,15 +86,15 @@ pub enum Way {
     Northwest,
     Southeast,
     Southwest,
-    /// The four slanted directions.
+    /// The four diagonal directions.
     Diagonal,
     /// Up, down, left and right.
     Orthogonal,
-    /// All eight.
+    /// All eight directions.
     AnyDirection,
 }
 
-/// A filter's word or mark that stands before one part.
+/// A filter's word or mark before its one part.
 #[derive(Clone, Copy, Debug, PartialEq, Eq)]
 pub enum Unary {
     Not,
@@ -112,6 +113,7 @@ pub enum Unary {
 }
 
 impl Unary {
+    /// Returns the kind of the filter's value.
     pub fn kind(self) -> Kind
         ensures { result ≡ unary_kind self }
     {
@@ -139,6 +141,7 @@ pub enum Chain {
 }
 
 impl Chain {
+    /// Returns the kind of the filter's value.
     pub fn kind(self) -> Kind
         ensures { result ≡ chain_kind self }
     {
@@ -164,6 +167,7 @@ pub enum Pair {
 }
 
 impl Pair {
+    /// Returns the kind of the filter's value.
     pub fn kind(self) -> Kind
         ensures { result ≡ pair_kind self }
     {
@@ -175,7 +179,7 @@ impl Pair {
     }
 }
 
-/// How often a part of a line stands.
+/// The number of times that a part of a line occurs.
 #[derive(Clone, Copy, Debug, PartialEq, Eq)]
 pub enum Mark {
     Once,

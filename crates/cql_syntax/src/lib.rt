@@ -1,4 +1,5 @@
-//! The tree of a query: its types, the kind of a filter and the weight of a query; its tokens, words and faults.
+//! The tree of a query: its types, the kind of a filter and the weight of a query. It also has the tokens, words
+//! and faults of queries.
 #![tactic(auto)]
 
 mod copies;

@@ -19,7 +19,7 @@ pub struct Filter {
     pub form: Form,
 }
 
-/// What a filter asks.
+/// The form of a filter: its operator and its parts.
 #[cycle(filter)]
 #[derive(Drop)]
 pub enum Form {
@@ -28,7 +28,7 @@ pub enum Form {
     /// A name bound by `square`.
     Name(Bytes),
     Plain(Plain),
-    /// The tag holds the text.
+    /// The value of the tag contains the text.
     Tagged(Field, Bytes),
     Outcome(Outcome),
     Elo(Of),
@@ -39,18 +39,19 @@ pub enum Form {
     /// Parts that are added or subtracted, from left to right.
     Sum(Terms),
     Pair(Pair, Box<Filter>, Box<Filter>),
-    /// The condition, what is asked where it holds, and what is asked where it doesn't.
+    /// The condition, the filter evaluated if it holds, and the filter evaluated if it doesn't.
     If(Box<Filter>, Box<Filter>, Box<Filter>),
-    /// Whether it is asked of all squares, the name bound, the squares, and what is asked of each.
+    /// True if the condition must hold of all squares; then the name bound, the squares, and the
+    /// condition.
     Square(bool, Bytes, Box<Filter>, Box<Filter>),
     Line(Line),
     /// The move that led to a position.
     Played(Played),
     Transform(Family, Box<Filter>),
-    /// Whether the least value counts, the name of the item, and the number.
+    /// True if the least value is the key; then the name of the item, and the number.
     Sort(bool, Bytes, Box<Filter>),
     Comment(Bytes),
-    /// Any of filters of one kind: some part holds, the union, or the greatest number. No query text gives it.
+    /// Any of filters of one kind: some part holds, the union, or the greatest number. No query text has it.
     Any(Kind, Filters),
 }
 
@@ -58,7 +59,7 @@ pub enum Form {
 #[cycle(filter)]
 #[derive(Drop)]
 pub struct Term {
-    /// The part is subtracted.
+    /// True if the part is subtracted.
     pub minus: bool,
     pub filter: Filter,
 }
@@ -67,26 +68,26 @@ pub struct Term {
 #[cycle(filter)]
 #[derive(Drop)]
 pub struct Line {
-    /// The path goes up, by `<--`.
+    /// True if the path goes up, by `<--`.
     pub back: bool,
-    /// Each step joins a node and its first child.
+    /// True if each step joins a node and its first child.
     pub primary: bool,
-    /// The lengths of the paths that count.
+    /// The lengths of the paths that the line allows.
     pub extent: Extent,
     pub parts: Constituents,
 }
 
-/// What is asked of the move that led to a position, part by part, where it is written.
+/// The conditions on the move that led to a position, each present if it is written.
 #[cycle(filter)]
 #[derive(Drop)]
 pub struct Played {
-    /// The squares that it may have come from.
+    /// The squares from which the move may start.
     pub origin: Option<Box<Filter>>,
-    /// The squares that it may have led to.
+    /// The squares on which the move may end.
     pub goal: Option<Box<Filter>>,
-    /// The squares on which it may have taken a man.
+    /// The squares on which the move may capture a man.
     pub taken: Option<Box<Filter>>,
-    /// The squares on which it may have promoted a pawn.
+    /// The squares on which the move may promote a pawn.
     pub promoted: Option<Box<Filter>>,
 }
 
@@ -98,7 +99,7 @@ pub struct Constituent {
     pub mark: Mark,
 }
 
-/// What a part of a line spells once.
+/// The body of a part of a line: the paths that it spells once.
 #[cycle(filter)]
 #[derive(Drop)]
 pub enum Body {
@@ -132,11 +133,11 @@ pub struct Constituents {
 /// A query: its header's parameters and its top items.
 #[derive(Drop)]
 pub struct Query {
-    /// All nodes of a game are searched, and not the main line alone.
+    /// True if all nodes of a game are searched, and not the main line alone.
     pub variations: bool,
-    /// The byte of the word `matchstring` that counts, or 0.
+    /// The place in the query's bytes of the word `matchstring` whose text is used, or 0.
     pub match_at: u32,
-    /// The comment at each hit.
+    /// The comment added at each hit.
     pub match_text: Bytes,
     pub items: Filters,
 }
@@ -145,7 +146,7 @@ impl Shared for Query {}
 
 #[tactic(auto, using(crate::proofs::Lists::filters_tree_in, crate::proofs::Lists::filters_tree_rolled, crate::proofs::Lists::filter_trees_snoc))]
 impl Filters {
-    /// No filters. Takes no memory.
+    /// Returns an empty list. It allocates nothing.
     pub fn new(alloc: Global) -> Filters
         ensures items { filters_in result ≡ [] }
         ensures tree { filters_tree result ≡ no_filters }
@@ -155,7 +156,11 @@ impl Filters {
         }
     }
 
-    /// Adds a filter at the end. A refused one is dropped.
+    /// Adds a filter at the end. On an error the filter is dropped.
+    ///
+    /// # Errors
+    ///
+    /// Returns `NoMemory` if memory runs out.
     pub fn push(&mut self, item: Filter) -> Result<(), NoMemory>
         ensures items { OnOk result (filters_in self.new ≡ filters_in self.old ++ item ∷ []) }
         ensures tree { OnOk result (filters_tree self.new ≡ with_filter (filters_tree self.old) (filter_tree item)) }
@@ -166,21 +171,21 @@ impl Filters {
         Ok(())
     }
 
-    /// How many there are.
+    /// Returns the number of filters.
     pub fn len(&self) -> usize
         ensures { result ≡ length (filters_in self.now) }
     {
         self.items.len()
     }
 
-    /// Whether there are none.
+    /// Returns true if there are no filters.
     pub fn is_empty(&self) -> bool
         ensures { IsTrue result ↔ (length (filters_in self.now) ≡ 0) }
     {
         self.items.is_empty()
     }
 
-    /// All of them, in order.
+    /// Returns all filters, in order.
     pub fn as_slice(&self) -> &[Filter]
         ensures items { result.now ≡ filters_in self.now }
         ensures tree { filter_trees result.now ≡ filters_tree self.now }
@@ -188,7 +193,7 @@ impl Filters {
         self.items.as_slice()
     }
 
-    /// What it takes memory from.
+    /// Returns the allocator of the list.
     pub fn allocator(&self) -> Global
         ensures { result ≡ vec_allocator (out-Filters self.now).items }
     {
@@ -198,7 +203,7 @@ impl Filters {
 
 #[tactic(auto, using(crate::proofs::Lists::terms_tree_in, crate::proofs::Lists::terms_tree_rolled, crate::proofs::Lists::term_trees_snoc))]
 impl Terms {
-    /// No terms. Takes no memory.
+    /// Returns an empty list. It allocates nothing.
     pub fn new(alloc: Global) -> Terms
         ensures items { terms_in result ≡ [] }
         ensures tree { terms_tree result ≡ no_terms }
@@ -208,7 +213,11 @@ impl Terms {
         }
     }
 
-    /// Adds a term at the end. A refused one is dropped.
+    /// Adds a term at the end. On an error the term is dropped.
+    ///
+    /// # Errors
+    ///
+    /// Returns `NoMemory` if memory runs out.
     pub fn push(&mut self, item: Term) -> Result<(), NoMemory>
         ensures items { OnOk result (terms_in self.new ≡ terms_in self.old ++ item ∷ []) }
         ensures tree { OnOk result (terms_tree self.new ≡ with_term (terms_tree self.old) item.minus (filter_tree item.filter)) }
@@ -219,21 +228,21 @@ impl Terms {
         Ok(())
     }
 
-    /// How many there are.
+    /// Returns the number of terms.
     pub fn len(&self) -> usize
         ensures { result ≡ length (terms_in self.now) }
     {
         self.items.len()
     }
 
-    /// Whether there are none.
+    /// Returns true if there are no terms.
     pub fn is_empty(&self) -> bool
         ensures { IsTrue result ↔ (length (terms_in self.now) ≡ 0) }
     {
         self.items.is_empty()
     }
 
-    /// All of them, in order.
+    /// Returns all terms, in order.
     pub fn as_slice(&self) -> &[Term]
         ensures items { result.now ≡ terms_in self.now }
         ensures tree { term_trees result.now ≡ terms_tree self.now }
@@ -244,7 +253,7 @@ impl Terms {
 
 #[tactic(auto, using(crate::proofs::Lists::parts_tree_in, crate::proofs::Lists::parts_tree_rolled, crate::proofs::Lists::part_trees_snoc))]
 impl Constituents {
-    /// No parts. Takes no memory.
+    /// Returns an empty list. It allocates nothing.
     pub fn new(alloc: Global) -> Constituents
         ensures items { parts_in result ≡ [] }
         ensures tree { parts_tree result ≡ no_parts }
@@ -254,7 +263,11 @@ impl Constituents {
         }
     }
 
-    /// Adds a part at the end. A refused one is dropped.
+    /// Adds a part at the end. On an error the part is dropped.
+    ///
+    /// # Errors
+    ///
+    /// Returns `NoMemory` if memory runs out.
     pub fn push(&mut self, item: Constituent) -> Result<(), NoMemory>
         ensures items { OnOk result (parts_in self.new ≡ parts_in self.old ++ item ∷ []) }
         ensures tree { OnOk result (parts_tree self.new ≡ with_part (parts_tree self.old) (body_tree item.body) item.mark) }
@@ -265,21 +278,21 @@ impl Constituents {
         Ok(())
     }
 
-    /// How many there are.
+    /// Returns the number of parts.
     pub fn len(&self) -> usize
         ensures { result ≡ length (parts_in self.now) }
     {
         self.items.len()
     }
 
-    /// Whether there are none.
+    /// Returns true if there are no parts.
     pub fn is_empty(&self) -> bool
         ensures { IsTrue result ↔ (length (parts_in self.now) ≡ 0) }
     {
         self.items.is_empty()
     }
 
-    /// All of them, in order.
+    /// Returns all parts, in order.
     pub fn as_slice(&self) -> &[Constituent]
         ensures items { result.now ≡ parts_in self.now }
         ensures tree { part_trees result.now ≡ parts_tree self.now }

@@ -6,7 +6,7 @@ ghost use Rattle.cql_syntax.specs.TreeOf.{query_tree};
 use crate::tree::Query;
 use cq_common::Shared;
 
-/// A query whose tree has no fault, and no `Any`, which no query text gives.
+/// A query whose tree has no fault, and no `Any`, which no query text has.
 #[derive(Drop)]
 pub struct TypedQuery {
     pub query: Query,

@@ -10,7 +10,7 @@ use cq_symmetry::{Family, size};
 /// The greatest weight that a query may have.
 pub const WEIGHT_LIMIT: u64 = 1 << 18;
 
-/// The weight of a query, or one more than 2^18 where it is above 2^18.
+/// Returns the weight of a query, or 2^18 + 1 if it is above 2^18.
 pub fn weight(q: &Query) -> u64
     ensures { result ≡ capped (query_weight (query_tree q.now)) }
 {
@@ -24,7 +24,7 @@ fn weight_of_both(first: u64, second: u64) -> u64
     first.saturating_add(second).min(WEIGHT_LIMIT + 1)
 }
 
-// The weight of a family whose part has the weight given.
+// The weight of a family whose part has the given weight.
 fn weight_of_family(family: Family, part: u64) -> u64
     ensures { result ≡ capped (1 + length (members family) * part) }
 {

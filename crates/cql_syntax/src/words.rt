@@ -1,4 +1,4 @@
-//! The words and marks of the query language with their texts and numbers, and the names that are reserved.
+//! The words and marks of the query language with their texts and numbers, and the reserved names.
 ghost use Rattle.std.specs.Prelude.{◌≡◌, is_some};
 ghost use Rattle.std.specs.List.{position, slice_get};
 ghost use Rattle.std.specs.Str.{bytes_eq};
@@ -24,7 +24,7 @@ pub enum Word {
     Elo,
     White,
     Black,
-    /// A word that stands before one filter.
+    /// A word before one filter.
     Unary(Unary),
     And,
     Or,
@@ -80,7 +80,7 @@ pub enum Sign {
 }
 
 impl Word {
-    /// How it is written.
+    /// Returns the spelling of the word.
     pub fn text(self) -> &'static [u8]
         ensures { result.now ≡ word_text self }
     {
@@ -128,7 +128,7 @@ impl Word {
 }
 
 impl Plain {
-    // How it is written.
+    // The spelling of the word.
     fn text(self) -> &'static [u8]
         ensures { result.now ≡ plain_text self }
     {
@@ -152,7 +152,7 @@ impl Plain {
 }
 
 impl Unary {
-    // How it is written.
+    // The spelling of the word.
     fn text(self) -> &'static [u8]
         ensures { result.now ≡ unary_text self }
     {
@@ -172,7 +172,7 @@ impl Unary {
 }
 
 impl Way {
-    // How it is written.
+    // The spelling of the word.
     fn text(self) -> &'static [u8]
         ensures { result.now ≡ way_text self }
     {
@@ -192,7 +192,7 @@ impl Way {
     }
 }
 
-// How a family of mappings is written.
+// The spelling of a family's word.
 fn family_text(family: Family) -> &'static [u8]
     ensures { result.now ≡ family_text family }
 {
@@ -209,7 +209,7 @@ fn family_text(family: Family) -> &'static [u8]
 }
 
 impl Sign {
-    /// How it is written.
+    /// Returns the spelling of the mark.
     pub fn text(self) -> &'static [u8]
         ensures { result.now ≡ sign_text self }
     {
@@ -238,7 +238,7 @@ impl Sign {
     }
 }
 
-// The words in order; a word's number is its place here.
+// The words in order. The number of a word is its place in this list, from 0.
 const WORDS: [Word; 74] = [
     Word::Cql,
     Word::Input,
@@ -316,7 +316,7 @@ const WORDS: [Word; 74] = [
     Word::Promote,
 ];
 
-// The marks in order; a mark's number is its place here.
+// The marks in order. The number of a mark is its place in this list, from 0.
 const MARKS: [Sign; 20] = [
     Sign::Arrow,
     Sign::BackArrow,
@@ -373,7 +373,7 @@ const RESERVED: [&str; 29] = [
     "firstmatch",
 ];
 
-// The value at a place of a table.
+// The entry at a place of a table.
 fn entry_at<T: Copy>(table: &[T], place: usize) -> Option<T>
     ensures { result ≡ slice_get table.now place }
 {
@@ -381,28 +381,28 @@ fn entry_at<T: Copy>(table: &[T], place: usize) -> Option<T>
     Some(*entry)
 }
 
-// The place of the word that a text is.
+// The place of the word that is spelled so.
 fn word_place(table: &[Word], text: &[u8]) -> Option<usize>
     ensures { result ≡ position (λ word. bytes_eq (word_text word) text.now) table.now }
 {
     table.iter().position(|word| word.text() == text)
 }
 
-// The place of the mark that a text is.
+// The place of the mark that is spelled so.
 fn sign_place(table: &[Sign], text: &[u8]) -> Option<usize>
     ensures { result ≡ position (λ sign. bytes_eq (sign_text sign) text.now) table.now }
 {
     table.iter().position(|sign| sign.text() == text)
 }
 
-/// The number of the word that a text is.
+/// Returns the number of the word that is spelled so.
 pub fn word_number(text: &[u8]) -> Option<u16>
     ensures { result ≡ place_of text.now words }
 {
     Some(word_place(WORDS.as_slice(), text)? as u16)
 }
 
-/// The word of a number.
+/// Returns the word of a number.
 #[tactic(auto, unfolding(crate::specs::Words::word_of))]
 pub fn word_of(number: u16) -> Option<Word>
     ensures { result ≡ word_of number }
@@ -410,14 +410,14 @@ pub fn word_of(number: u16) -> Option<Word>
     entry_at(WORDS.as_slice(), usize::from(number))
 }
 
-/// The number of the mark that a text is.
+/// Returns the number of the mark that is spelled so.
 pub fn mark_number(text: &[u8]) -> Option<u8>
     ensures { result ≡ place_of text.now marks }
 {
     Some(sign_place(MARKS.as_slice(), text)? as u8)
 }
 
-/// The mark of a number.
+/// Returns the mark of a number.
 #[tactic(auto, unfolding(crate::specs::Words::sign_of))]
 pub fn sign_of(number: u8) -> Option<Sign>
     ensures { result ≡ sign_of number }
@@ -425,14 +425,14 @@ pub fn sign_of(number: u8) -> Option<Sign>
     entry_at(MARKS.as_slice(), usize::from(number))
 }
 
-// The place of a text among these.
+// The place of a text among the names.
 fn place_among(names: &[&str], text: &[u8]) -> Option<usize>
     ensures { result ≡ position (λ name. bytes_eq name.now text.now) names.now }
 {
     names.iter().position(|name| name.as_bytes() == text)
 }
 
-/// Whether a text is a reserved name.
+/// Returns true if a text is a reserved name.
 pub fn is_reserved(text: &[u8]) -> bool
     ensures { result ≡ is_some (place_of text.now reserved_names) }
 {

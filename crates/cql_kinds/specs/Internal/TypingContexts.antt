@@ -1,4 +1,4 @@
--- What the code's values stand for, as the private functions give it.
+-- The models of the code's values, for the contracts of private functions.
 use Rattle.std.specs.Prelude.{ℕ, ◌+◌, min, List, [], ◌∷◌}
 use Rattle.cql_syntax.specs.Limits.{most_squares}
 use Rattle.cql_syntax.specs.Occurrences.{TypingContext, Occurrence}
@@ -17,7 +17,7 @@ typing_context_of s = record { wanted = s.wanted; names = names_in s.names.now; 
 abbrev pub occurrence : Found → Filter → Occurrence
 occurrence s f = record { standing = typing_context_of s; at = f.at; form = form_tree f.form }
 
--- the same where other names are bound
+-- the same context with other names bound
 abbrev pub with_names : TypingContext → List (List ℕ) → TypingContext
 with_names s names = record { wanted = s.wanted; names = names; squares = s.squares; item = s.item }
 

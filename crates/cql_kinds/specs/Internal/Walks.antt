@@ -1,4 +1,4 @@
--- What is found in filters in a row, as the private functions give it.
+-- The result of a walk over filters in a row, for the contracts of private functions.
 use Rattle.std.specs.Prelude.{ℕ, Bool, List, Option, None, Some, unwrap_or, Result}
 use Rattle.std.specs.List.{flat_map}
 use Rattle.std.specs.Option.{option_or}
@@ -12,7 +12,7 @@ use Rattle.cql_kinds.specs.declared.first_breaches.FirstBreaches.{FirstBreaches}
 abbrev pub no_breaches : FirstBreaches
 no_breaches = record { line = None; square = None; family = None }
 
--- the byte, or the first of these where there is none
+-- the byte, or the first of these bytes if there is none
 abbrev pub or_first : Option ℕ → List ℕ → Option ℕ
 or_first (Some byte) bytes = Some byte
 or_first None bytes = first bytes
@@ -34,7 +34,7 @@ abbrev pub fault_at : QueryReason → Option ℕ → Option QueryFault
 fault_at reason None = None
 fault_at reason (Some byte) = Some (record { byte = byte; reason = reason })
 
--- the first limit that a query passes, by the first filters of some kinds and whether it is too heavy
+-- the first limit that a query exceeds, by the first filters of some kinds and whether it is too heavy
 abbrev pub limit_fault : FirstBreaches → Bool → Option QueryFault
 limit_fault firsts heavy =
     option_or (fault_at LineTooLong firsts.line)

@@ -1,4 +1,4 @@
--- What the contracts of the private functions see of what is open.
+-- The models of the open frames, for the contracts of private functions.
 use Rattle.std.specs.Prelude.{◌≡◌, ℕ, List, [], ◌∷◌, Option, Some, None, reverse, map}
 use Rattle.cql_parser.specs.declared.stack.Frame.{Frame as CodeFrame}
 use Rattle.cql_parser.specs.declared.stack.Frame.TheVariants.{InRule as CodeInRule, Joining as CodeJoining}
@@ -16,7 +16,7 @@ frame_model (CodeJoining level node joint) = Joining level (node_model node) bla
 unfoldable pub stack_model : List CodeFrame → List (Frame OpenRule Node)
 stack_model fs = map frame_model (reverse fs)
 
--- how many more rules that count are open with a frame
+-- the number of counted rules that a frame adds
 abbrev pub opened : CodeFrame → ℕ
 opened (CodeInRule rule) = depth_of rule.root
 opened (CodeJoining level node joint) = 0

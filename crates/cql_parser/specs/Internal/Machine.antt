@@ -1,4 +1,4 @@
--- Reading token by token, as the private functions give it.
+-- The machine that reads token by token, for the contracts of private functions.
 use Rattle.std.specs.Prelude.{ℕ, ◌+◌, Bool, true, false, List, [], ◌∷◌, ◌++◌, Option, Some, None, nat_le, fold}
 use Rattle.cql_syntax.specs.declared.token.QueryToken.{QueryToken}
 use Rattle.cql_parser.specs.declared.rule_state.OperandContext.{OperandContext}
@@ -12,7 +12,7 @@ use Rattle.cql_parser.specs.declared.role.Role.TheVariants.{End}
 use Rattle.cql_parser.specs.RuleStates.{role, heads, opens, goes, context, least, next, whole, level_of, depth_of, joint, infix_level, takes, joins}
 use Rattle.cql_parser.specs.Grammar.{Phrase, made, joined, Parts, first, add, put, root, end, Items, none, more}
 
--- What is made of what is read: of the head of a query an H, of a rule's parts a D, of a filter an A, of items a B.
+-- The values that are built while reading: an H for the head of a query, a D for a rule's parts, an A for a filter, a B for items.
 pub record Builder (H D A B : Type 0) : Type 0 where
   pub no_head : H
   pub with_head_token : H → QueryToken → H
@@ -23,17 +23,17 @@ pub record Builder (H D A B : Type 0) : Type 0 where
   pub end_of : D → RuleState
   pub made_of : D → A
   pub joined_of : ℕ → A → QueryToken → InfixOperator → A → A
-  -- what is kept of a token between two filters
+  -- the part that is kept of a token between two filters
   pub kept : QueryToken → QueryToken
   pub none_of : B
   pub more_of : B → A → B
 
--- what is open: the parts of a rule, or a filter of a level and the token after it
+-- an open frame: the parts of a rule, or a filter of a level and the token after it
 pub data Frame (D A : Type 0) : Type 0 where
   InRule : D → Frame D A
   Joining : ℕ → A → QueryToken → InfixOperator → Frame D A
 
--- the innermost frame first; where no query goes on: for the depth alone, or by the grammar
+-- The frames have the innermost one first. No query goes on from `Deep`, because of the depth alone, nor from `Stuck`, by the grammar.
 pub data State (H D A B : Type 0) : Type 0 where
   Opening : H → HeadState → State H D A B
   Reading : H → B → List (Frame D A) → State H D A B
@@ -41,13 +41,13 @@ pub data State (H D A B : Type 0) : Type 0 where
   Deep : State H D A B
   Stuck : State H D A B
 
--- how many rules that count are open
+-- the number of counted rules that are open
 abbrev pub depth : {H D A B : Type 0} → Builder H D A B → List (Frame D A) → ℕ
 depth m [] = 0
 depth m (InRule d ∷ k) = depth m k + depth_of (m.root_of d)
 depth m (Joining l a x j ∷ k) = depth m k
 
--- the least level of the filter that is due, and what is around it
+-- the least level of the filter that is due, and its context
 abbrev pub due : {H D A B : Type 0} → Builder H D A B → List (Frame D A) → ℕ
 due m [] = 0
 due m (InRule d ∷ k) = least (m.end_of d)
@@ -73,7 +73,7 @@ begin_at m limit h b k x None = Stuck
 begin_at m limit h b k x (Some s) =
     open_if (nat_le (due m k) (level_of s)) (nat_le (depth m k + depth_of s) limit) (Reading h b (InRule (m.first_of x s) ∷ k))
 
--- a token where a filter is due
+-- a token at a point where a filter is due
 abbrev pub start : {H D A B : Type 0} → Builder H D A B → ℕ → H → B → List (Frame D A) → QueryToken → Role → State H D A B
 start m limit h b k x r = begin_at m limit h b k x (opens (around m k) r)
 
@@ -93,7 +93,7 @@ onward_by m limit h b d k x r (Some s) is_whole ended = Reading h b (InRule (m.a
 onward_by m limit h b d k x r None true ended = ended
 onward_by m limit h b d k x r None false ended = start m limit h b (InRule d ∷ k) x r
 
--- a token after the parts of a rule; where the rule is at its end, what comes of the token is given
+-- a token after the parts of a rule; the state for a rule at its end is given
 abbrev pub onward : {H D A B : Type 0} → Builder H D A B → ℕ → H → B → D → List (Frame D A) → QueryToken → Role
     → State H D A B → State H D A B
 onward m limit h b d k x r ended = onward_by m limit h b d k x r (goes (m.end_of d) r) (whole (m.end_of d)) ended

@@ -1,4 +1,4 @@
--- What the contracts of the private functions see of the code's values.
+-- The models of the code's values, for the contracts of private functions.
 use Rattle.std.specs.Option.{option_map}
 use Rattle.cql_syntax.specs.TreeOf.{filter_tree, filters_tree, parts_tree, body_tree, written_tree}
 use Rattle.cql_parser.specs.PartialFilters.{Node, a_filter, a_group, PartialFilter, Opening}

@@ -1,4 +1,4 @@
--- What the contracts of the private functions see of reading.
+-- The models of the parser's states, for the contracts of private functions.
 use Rattle.std.specs.Prelude.{◌≡◌, Bool, true, false, List}
 use Rattle.cql_syntax.specs.Limits.{most_open}
 use Rattle.cql_syntax.specs.Trees.{FilterTrees, QueryTree}
@@ -44,25 +44,25 @@ state_model reached.Stuck r = Stuck
 abbrev pub at_start : ParserState
 at_start = reached.Opening Start
 
--- no query goes on so
+-- no query goes on from this state
 abbrev pub is_fault : ParserState → Bool
 is_fault reached.Deep = true
 is_fault reached.Stuck = true
 is_fault state = false
 
--- why no query goes on with a token
+-- the reason why no query goes on with a token
 abbrev pub reason_of : QueryTokenKind → ParserState → QueryReason
 reason_of (Reserved name) state = OutsideProfile name
 reason_of End state = UnexpectedEnd
 reason_of kind reached.Deep = TooDeep
 reason_of kind state = UnexpectedToken
 
--- what comes of a token after a rule, where at the rule's end it follows what the rule made
+-- the state that a step leads to; at a rule's end the token is read after the rule's node
 abbrev pub step_model : ParserStep → Parser → QueryToken → Role → MachineState
 step_model (Ended level node) r x role = after tree_builder most_open (head_in r) (items_in r) level (node_model node) (frames_in r) x role
 step_model (Continued state) r x role = state_model state r
 
--- what is around a rule at its end is all that is open
+-- the open frames around a rule at its end are all frames
 abbrev pub HasEnded : ParserStep → Parser → Parser → Type 0
 HasEnded (Ended level node) old new = frames_in new ≡ frames_in old
 HasEnded (Continued state) old new = Unit {0}

@@ -1,4 +1,4 @@
--- The trees of what is read, as the private functions give them.
+-- The trees that are built while reading, for the contracts of private functions.
 use Rattle.cql_syntax.specs.Trees.{FilterTrees, no_filters, with_filter}
 use Rattle.cql_syntax.specs.declared.token.QueryToken.{QueryToken}
 use Rattle.cql_syntax.specs.declared.token.QueryTokenKind.TheVariants as tokens
@@ -6,13 +6,13 @@ use Rattle.cql_parser.specs.declared.rule_state.RuleState.{RuleState}
 use Rattle.cql_parser.specs.PartialFilters.{Node, PartialFilter, partial_filter_of, say, take, node_of, filter_of, infix_node, Opening, no_opening, add_token}
 use Rattle.cql_parser.specs.Internal.Machine.{Builder}
 
--- the place after the first token of a rule, the place after its last part, and what its parts say
+-- the state after the first token of a rule, the state after its last part, and the filter so far
 pub record OpenRule : Type 0 where
   pub root : RuleState
   pub end : RuleState
   pub draft : PartialFilter
 
--- of a token between two filters nothing but what it makes of them is kept
+-- the token kept between two filters: only its operation matters
 abbrev pub blank : QueryToken
 blank = record { at = 0; kind = tokens.End }
 

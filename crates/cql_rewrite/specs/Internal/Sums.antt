@@ -1,25 +1,25 @@
--- The text of a sum in one pass, as the private functions give it: first the parentheses of its pairs, the last pair's first, and then
--- the terms, each at its pair's end.
+-- The text of a sum in one pass, for the contracts of private functions. The openings of its pairs come first, the last pair's first. Then
+-- come the terms, each at its pair's end.
 use Rattle.std.specs.Prelude.{ℕ, Bool, true, false, List, [], ◌∷◌, ◌++◌, codes}
 use Rattle.std.specs.List.{concat}
 use Rattle.cql_syntax.specs.Trees.{TermTrees, no_terms, more_terms}
 
--- what opens the pair of a term
+-- the opening of a term's pair
 abbrev pub opening : Bool → List ℕ
 opening true = codes "(- "
 opening false = codes "(+ "
 
--- what opens the pairs of terms
+-- the openings of the terms' pairs
 abbrev pub openings : TermTrees → List ℕ
 openings no_terms = []
 openings (more_terms minus f ts) = openings ts ++ opening minus
 
--- what stands directly before a first term: one that is subtracted is subtracted from 0
+-- the text directly before a first term: one that is subtracted is subtracted from 0
 abbrev pub before_first : Bool → List ℕ
 before_first true = codes "(- 0"
 before_first false = []
 
--- what stands before the terms of a sum; with none, the whole text
+-- the text before the terms of a sum; without terms, the whole text
 abbrev pub sum_start : TermTrees → List ℕ
 sum_start no_terms = codes "(+)"
 sum_start (more_terms minus f ts) = openings ts ++ before_first minus

@@ -9,7 +9,7 @@ use Rattle.cql_syntax.specs.Unplaced.{with_places, form_with}
 use Rattle.cql_syntax.specs.declared.tree.Form.{Form}
 use Rattle.cql_rewrite.proofs.same.+same.Goals as goal
 
--- what holds of two forms that are known holds of those compared
+-- a result for two forms that are known is the result for those compared
 of_these : (placed : Bool) (f g x y : Form) (same : Bool) → f ≡ x → g ≡ y
     → same ≡ same_form (form_with placed (form_tree x)) (form_with placed (form_tree y)) → same ≡ same_form (form_with placed (form_tree f)) (form_with placed (form_tree g))
 of_these placed f g x y same p q e = e ∙ sym (ap₂ (λ x y. same_form (form_with placed (form_tree x)) (form_with placed (form_tree y))) p q)

@@ -8,7 +8,7 @@ use Rattle.cql_parser.specs.Internal.Models.{partial_filter_model}
 use Rattle.cql_parser.specs.declared.production.Production.{Production}
 use Rattle.cql_parser.proofs.partial_filter.PartialFilter.form.Goals as goal
 
--- what a call makes by one production is what the draft's production makes
+-- the form made by a call for one production is that of the partial filter's production
 made_by : {E : Type 0} (d : PartialFilter) (made : Result Form E) (m n : Production) → n ≡ m → IfOk made (λ f. form_tree f ≡ form_of d m) → IfOk made (λ f. form_tree f ≡ form_of d n)
 made_by d made m n is = subst (λ k. IfOk made (λ f. form_tree f ≡ form_of d k)) (sym is)
 
