@@ -123,8 +123,8 @@ pub fn if_of(x: Value, y: Value, z: Value) -> Value
     Value::Truth(if x.holds() { y.holds() } else { z.holds() })
 }
 
-/// Returns the value of a word or mark before a part, by the part's value at the same node. The words that search other nodes give here
-/// what `not` gives.
+/// Returns the value of a word or mark before a part, by the part's value at the same node. For a word that searches other nodes the result
+/// is that of `not`.
 #[inline(always)]
 pub fn unary_of_value(word: Unary, position: &Position, x: Value) -> Value
     ensures { as_value result ≡ unary_result position.now.men word (as_value x) }
