@@ -1,4 +1,4 @@
--- Nodes that are taken out of a set one by one.
+-- Nodes taken out of a set one by one.
 use Rattle.std.proofs.Common.{◌≡◌, ℕ, ◌+◌, ◌<◌, ◌≤◌, Bool, true, false, ◌&&◌, List, ◌++◌, length, take, drop, get_or, refl, sym, ap, ◌∙◌, subst, arith, ⊎_elim}
 use Rattle.std.specs.Prelude.{slice_set, is_some, not, if◌then◌else◌}
 use Rattle.std.proofs.Math.Seq.{take-append_seam}

@@ -1,4 +1,4 @@
--- Squares among which are those that are wanted.
+-- Sets with all squares that are needed at some nodes.
 use Rattle.std.proofs.Common.{◌≡◌, ℕ, ◌+◌, ◌<◌, ◌≤◌, Bool, true, false, not, ◌&&◌, ◌||◌, List, length, refl, sym, ap, ap₂, ◌∙◌, subst, arith, max, ⊎_elim}
 use Rattle.std.specs.Prelude.{bit_or, if◌then◌else◌}
 use Rattle.std.proofs.lemmas.Nat.Bits.{bit_at_or}

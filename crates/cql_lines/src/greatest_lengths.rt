@@ -62,7 +62,7 @@ fn used_len(row: &[u32; 64], count: usize) -> usize
     used
 }
 
-// The greatest lengths that the places read from a node, by the row of the nodes joined to it.
+// The greatest lengths that the places read from a node, by the row of the nodes after it on the paths.
 fn own_lengths(rules: &[Transition], held: u64, below: &[u32; 64]) -> [u32; 64]
     requires count { length rules.now ≤ 64 }
     requires atoms { (i : ℕ) (r : RuleValue) → slice_get rules.now i ≡ Some r → r.atom < 64 }

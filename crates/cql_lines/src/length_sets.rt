@@ -76,7 +76,7 @@ fn greatest_within(set: u128, least: u32, most: u32) -> Option<u32>
     None
 }
 
-// The lengths that the places read from a node, by the row of the nodes joined to it.
+// The lengths that the places read from a node, by the row of the nodes after it on the paths.
 fn own_length_sets(rules: &[Transition], held: u64, below: &[u128; 64]) -> [u128; 64]
     requires count { length rules.now ≤ 64 }
     requires atoms { (i : ℕ) (r : RuleValue) → slice_get rules.now i ≡ Some r → r.atom < 64 }

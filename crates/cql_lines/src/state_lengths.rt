@@ -17,7 +17,7 @@ pub trait StateLengths: Copy {
     fn blank() -> Self
         ensures { (j : ℕ) → cells result j ≡ 0 };
 
-    /// Returns the lengths that the places read from a node, by the row of the nodes joined to it.
+    /// Returns the lengths that the places read from a node, by the row of the nodes after it on the paths.
     fn own(&self, rules: &[Transition], held: u64) -> Self
         requires count { length rules.now ≤ 64 }
         requires atoms { (i : ℕ) (r : RuleValue) → slice_get rules.now i ≡ Some r → r.atom < 64 }

@@ -36,6 +36,11 @@ use cql_values::walks::is_searched;
 use cql_values::words::directions;
 
 /// Returns the value of a filter at a node.
+///
+/// # Errors
+///
+/// - `NotLocal` if the value depends on a filter that can't be evaluated at one node.
+/// - `NoMemory` if out of memory.
 #[cycle(evaluate)]
 pub(crate) fn evaluate(
     f: &Filter,
@@ -345,6 +350,11 @@ fn common_of(
 }
 
 /// Returns true if a condition holds for every square of a set, or for some.
+///
+/// # Errors
+///
+/// - `NotLocal` if the value depends on a filter that can't be evaluated at one node.
+/// - `NoMemory` if out of memory.
 #[cycle(evaluate)]
 pub(crate) fn square_at(
     every: bool,
@@ -437,7 +447,7 @@ fn played_at(
     is_met(&played.promoted, promoted_on(&led), place, names)
 }
 
-// True if the square is there and in the set of the part. A part that is left out agrees with every square, and with none.
+// True if the square exists and is in the set of the part. A part that is left out always agrees.
 #[cycle(evaluate)]
 fn is_met(
     part: &Option<Box<Filter>>,

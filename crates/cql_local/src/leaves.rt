@@ -16,7 +16,11 @@ use cql_values::numbers::count_value;
 use cql_values::value::Value;
 use cql_values::words::{is_mated, is_stalemated, is_white, standing_on};
 
-/// Returns the value of a filter without parts. Fails with `NotLocal` if the filter has parts, or if its value depends on other nodes.
+/// Returns the value of a filter without parts.
+///
+/// # Errors
+///
+/// `NotLocal` if the filter has parts, or if its value depends on other nodes.
 #[inline(always)]
 #[tactic(auto, unfolding(cql_syntax::specs::Meaning::value, cql_syntax::specs::Contexts::designator_image))]
 pub(crate) fn local_leaf(

@@ -56,7 +56,8 @@ fn is_cheap_part(part: &Option<Box<Filter>>, upwards: bool) -> bool {
     }
 }
 
-/// Returns true if a condition may hold only for squares of a move: its origin, its goal or the square of its capture.
+/// Returns true if a condition on some square plainly holds only for squares of a move: its origin, its goal or the square of its capture.
+/// With `every` the result is false.
 #[cycle(is_moved)]
 pub(crate) fn is_moved(every: bool, name: &[u8], asked: &Filter) -> bool {
     match &asked.form {
@@ -108,7 +109,7 @@ fn is_cheap_mark(word: Unary, upwards: bool) -> bool {
     }
 }
 
-// True for the mark that searches the nodes above. From those nodes the search is not repeated.
+// True for the mark that searches the nodes above. A second search upwards from each of those nodes is not cheap.
 fn goes_up(word: Unary) -> bool {
     match word {
         Unary::FindUp => true,

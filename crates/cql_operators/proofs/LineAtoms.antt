@@ -97,7 +97,7 @@ mutual
 pub atoms_below : (cs : PartTrees) (p : Pattern ℕ) (n : ℕ) → p ≡ parts_numbered 0 cs → parts_atoms cs ≤ n → AtomsBelow p n
 atoms_below cs p n is h = subst (λ q. AtomsBelow q n) (sym is) (parts_below 0 n cs (omega (arith, h)))
 
--- what is left of parts in a row
+-- the rest of the parts in a row
 
 drop_next : (xs : List Constituent) (i : ℕ) (c : Constituent) → i < length xs → c ≡ get_or xs i c → part_trees (drop i xs) ≡ more_parts (body_tree c.body) c.mark (part_trees (drop (suc i) xs))
 drop_next [] zero c h e = absurd (omega (arith, h))

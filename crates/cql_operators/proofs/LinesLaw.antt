@@ -1,4 +1,4 @@
--- The tree of a game as a line has it, the line's number from the table, and what it costs.
+-- The tree of a game in the form that a line has, the line's number by the table, and its cost.
 use Rattle.std.proofs.Common.{◌≡◌, ℕ, zero, suc, ◌+◌, ◌*◌, ◌<◌, ◌≤◌, ◌&&◌, ◌||◌, pos, ℤ, Bool, true, false, List, [], ◌∷◌, ◌++◌, length, map, drop, take, get_or, Option, Some, None, option_map, refl, sym, ap, ap₂, ◌∙◌, subst, arith, ⊎_elim}
 use denote.Hole.Carrier as Carrier
 use Rattle.std.specs.Prelude.{not, IfSome, slice_get, if◌then◌else◌}
@@ -211,7 +211,7 @@ pub record ShapeOf (tree : SearchedTree) (l : OneLine) : Type 0 where
   pub primary_is : primary ≡ (out-Line l).primary
   pub limits_are : limits ≡ limits_in (out-Line l).extent
 
--- the parts of a line stand in a table, and a pattern has their numbers
+-- the parts of a line are in a table, and a pattern has their numbers
 pub line_spelled : {L : Type 0} {own : _} (tree : SearchedTree) (e : Names) (l : OneLine) (table : AtomTable L own) (p : Pattern ℕ) → p ≡ parts_numbered 0 (parts_tree (out-Line l).parts)
     → AreTabled tree (out-Line l).back (IsSearchedNode tree) table (0 + parts_atoms (parts_tree (out-Line l).parts))
     (parts_numbered 0 (parts_tree (out-Line l).parts)) (pattern tree [] e (parts_tree (out-Line l).parts))
@@ -250,7 +250,7 @@ pub held_put : (tree : SearchedTree) (live : List Bool) (c : FilterColumn) (held
     → test n ≡ (is_live live n && value_holds (shown c n))
 held_put tree live c held shown_held test count part same put n h = put n h ∙ ap (λ l. is_live l n) same ∙ part.narrowed.each n
 
--- where a line's pattern is never spelled it has no number
+-- a line whose pattern is never spelled has no number
 pub no_line : (tree : SearchedTree) → IsTree tree.game.nodes → (e : Names) (l : OneLine) (wide : List (Option ℤ)) → wide ≡ []
     → IsNever (IsStep tree (out-Line l).back false) (IsSearchedNode tree) (pattern tree [] e (parts_tree (out-Line l).parts)) → (n : ℕ) → IsSearchedNode tree n
     → as_number (get_or wide n None) ≡ line_value tree [] e (line_tree l) n

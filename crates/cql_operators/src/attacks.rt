@@ -15,7 +15,7 @@ use cql_columns::standing_squares::standing_sets;
 use cql_syntax::{Designator, Pair};
 use std::alloc::Global;
 
-/// Returns true for each live node at which a man on some square of a column attacks a man of a designator.
+/// Returns, for each live node, true if a man on some square of a column attacks a man of a designator.
 ///
 /// # Errors
 ///

@@ -23,7 +23,7 @@ use cql_values::value::Value;
 use pgn_tree::Game;
 use std::alloc::Global;
 
-/// Returns true for each live node at which a column doesn't hold.
+/// Returns, for each live node, true if the column doesn't hold there.
 ///
 /// # Errors
 ///
@@ -49,7 +49,7 @@ fn fails(asked: bool, column: &FilterColumn, n: usize) -> bool
     asked && !column.at(n).holds()
 }
 
-/// Returns true for each live node at which a column holds.
+/// Returns, for each live node, true if the column holds there.
 ///
 /// # Errors
 ///

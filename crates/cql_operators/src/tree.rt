@@ -31,7 +31,7 @@ pub fn below(alloc: Global, scope: &Scope, live: &[bool]) -> Result<Vec<bool>, N
     Ok(wide)
 }
 
-// True if a node is searched, and is live or the child of a node of the result. All nodes before it are given.
+// True if a node is searched, and is live or a child of a node in `wide`, which has all nodes before it.
 fn is_wide(scope: &Scope, live: &[bool], wide: &[bool], k: u32) -> bool
     requires { k < length scope.now.game.now.nodes }
     ensures { result ≡ is_below_live (tree_in scope.now) live.now wide.now k }

@@ -9,7 +9,7 @@ use cq_common::NoMemory;
 use cql_values::walks::both;
 use std::alloc::Global;
 
-/// Returns the set of place 0 alone, followed by one place for each of `nodes` nodes.
+/// Returns the set of place 0 alone, among the places before and after `nodes` nodes.
 pub(crate) fn only_first(alloc: Global, nodes: usize) -> Result<Vec<bool>, NoMemory>
     ensures { IfOk result (λ set. set.items ≡ true ∷ replicate nodes false) }
 {

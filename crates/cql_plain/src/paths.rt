@@ -133,7 +133,7 @@ fn no_steps(alloc: Global, nodes: u32) -> Result<Vec<Option<PathStep>>, NoMemory
     Ok(steps)
 }
 
-// The parent of a node. With `primary` only a first child has one.
+// The parent of a node. With `primary` there is none unless the node is a first child.
 fn above(game: &Game, primary: bool, k: u32) -> Option<u32>
     requires { k < length game.now.nodes }
     ensures value { result ≡ path.above (searched_tree game.now false) primary k }

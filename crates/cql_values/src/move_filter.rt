@@ -69,7 +69,7 @@ fn goal_if(led: &Led) -> Option<Square>
     if led.promoted { Some(led.goal) } else { None }
 }
 
-// True if the square is there and in the set of the part. A part that is left out agrees with every square, and with none.
+// True if the square exists and is in the set of the part. A part that is left out always agrees.
 fn meets(asked: Option<Value>, square: Option<Square>) -> bool
     ensures { result ≡ meaning.meets (option_map as_value asked) square }
 {

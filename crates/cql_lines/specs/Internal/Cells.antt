@@ -29,7 +29,7 @@ abbrev pub LeavesRoom : Bool → ℕ → Type 0
 LeavesRoom true m = Unit {0}
 LeavesRoom false m = m < 4294967295
 
--- sets need limits of at most `longest_limit`, and greatest lengths need no limits
+-- rows of sets are for limits of at most `longest_limit`, and rows of greatest lengths for lines without limits
 abbrev pub Counts : Bool → Option Limits → Type 0
 Counts true (Some e) = e.most ≤ longest_limit
 Counts false None = Unit {0}
