@@ -57,7 +57,7 @@ kept_all test live left k end had = record {
       (split_at n k);
 }
 
--- the same, where no node is in the set from k on
+-- the same if no node is in the set from k on
 pub kept_to : (test : ℕ → Bool) (live left : List Bool) (end k : ℕ) → end ≤ k → ((n : ℕ) → end ≤ n → get_or live n false ≡ false) → KeptTo test live k left → AreKept test live left
 kept_to test live left end k done none had = record {
   count = had.count;

@@ -42,7 +42,7 @@ wanted_all x live k wanted end had = record { each = λ n s a b. had.each n s (o
 pub wanted_same : (x : ℕ → Value) (live left : List Bool) (wanted : ℕ) → left ≡ live → CoverSquares x live wanted → CoverSquares x left wanted
 wanted_same x live left wanted same are = subst (λ l. CoverSquares x l wanted) (sym same) are
 
--- they are still, where fewer nodes are left
+-- the same if fewer nodes are left
 pub wanted_kept : (every : Bool) (x : ℕ → Value) (asked : ℕ → Bool) (s : ℕ) (left later : List Bool) (wanted : ℕ)
     → CoverSquares x left wanted → AreUnsettled every x asked s left later → CoverSquares x later wanted
 wanted_kept every x asked s left later wanted are is = record {

@@ -330,7 +330,7 @@ module _ (test : ℕ → ℕ → Bool) (rules : List Transition) where
     emptied = λ s. some_emptied P b mp.emptied (suc m) s;
   }
 
-  -- the places read what the pattern spells
+  -- the places read exactly the lists that the pattern spells
   pub pattern_means : (p : Pattern ℕ) → Means (Built rules p) (nullable p) (Spells test p)
   pattern_means (one a) = record {
     sound = λ next f w t s. one_front a next f t.0 w t.1 t.2 s;

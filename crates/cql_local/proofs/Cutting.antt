@@ -90,7 +90,7 @@ named name fs i f low is own = record {
   own = λ tree e n s t all. own.own tree e n s t (each_passes (λ v. has v t) tree ((name, s) ∷ e) n fs i f low is all);
 }
 
--- some square of both that passes, where one of them is alone
+-- some square of both sets that passes, if one of them has a single square
 pub first_is : (test : ℕ → ℕ → Bool) (x y : Value) (s : ℕ) → x ≡ squares_where (λ t. s == t) → holds (related test x y) ≡ true
     → list_any (λ t. has y t && test s t) squares ≡ true
 first_is test x y s is e =
@@ -133,7 +133,7 @@ cut_common test set old more keeps cut = record {
 pub uncut : (test : ℕ → Bool) (set : ℕ) → KeepsCandidates test set set
 uncut test set = record { within = λ s e. e; keeps = λ s e h. e }
 
--- a square that all sets of a list have, where one of them is the name
+-- a square that all sets of a list have, if the name is one of them
 pub in_common : (tree : SearchedTree) (e : Names) (n s : ℕ) (name : List ℕ) (fs : FilterTrees) → IntersectInName name fs → holds (intersection_of (values tree [] ((name, s) ∷ e) fs n)) ≡ true
     → list_all (λ v. has v s) (values tree [] ((name, s) ∷ e) fs n) ≡ true
 in_common tree e n s name fs named h =
@@ -190,7 +190,7 @@ cut_same test set new cut =
     (λ e. both (is_in set s) (test s) (cut.within s (left (is_in new s) (test s) e)) (right (is_in new s) (test s) e))))
     ∙ sym (by_settling false (as_squares (is_in set)) test (list_any (settles false (is_in set) test) squares) refl)
 
--- the parts of a move, as they are kept
+-- the parts of a move in memory
 held_is : (o : Held-Played-origin) → written_tree (view-Played-origin o) ≡ held_tree o
 held_is None' = refl
 held_is (Some' p i f) = refl

@@ -168,7 +168,7 @@ unfolding value
 square_value tree e n at every text a b set x of_a of_set =
     square_of_has every (as_squares (is_in set)) (value tree [] e a n) (λ s. holds (value tree [] ((text, s) ∷ e) b n)) (sym of_set ∙ ap has of_a)
 
--- the union of sets, and what they have in common
+-- the union and the intersection of sets
 pub union_whole : (tree : SearchedTree) (e : Names) (n : ℕ) (xs : List Filter) (fs : FilterTrees) (i mask : ℕ) → mask < 2 ^ 64 → length xs ≤ i → filter_trees xs ≡ fs
     → IsBitboard mask (λ s. list_any (λ f. has (value tree [] e (filter_tree f) n) s) (take i xs)) → as_squares (is_in mask) ≡ union_of (values tree [] e fs n)
 union_whole tree e n xs fs i mask fits high is m =

@@ -140,7 +140,7 @@ atoms_left xs i c h e = ap parts_atoms (drop_parts xs i c h e)
 pub atoms_end : (xs : List Constituent) (i : ℕ) → length xs ≤ i → parts_atoms (part_trees (drop i xs)) ≡ 0
 atoms_end xs i h = ap parts_atoms (drop_all xs i h)
 
--- The pattern of parts one by one: what the patterns so far spell, followed by the pattern of the parts that are left.
+-- The pattern of parts one by one: the patterns so far, followed by the pattern of the parts that are left.
 
 abbrev pub followed_by : Pattern ℕ → List Given → Pattern ℕ
 followed_by q [] = q

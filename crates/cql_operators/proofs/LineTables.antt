@@ -62,7 +62,7 @@ row_in s back parts begun = record { walk = walk_in s back; parts = parts; begun
 abbrev pub NeverSpelled : Walk → List Bool → PartTrees → Type 0
 NeverSpelled walk live cs = IsNever (IsStep walk.tree walk.back false) (IsLive live) (pattern walk.tree [] walk.names cs)
 
--- a test spells by numbers what parts in a row spell on ways from some nodes
+-- a pattern of numbers, by a test, spells the same as parts in a row on ways from some nodes
 abbrev pub SpelledFrom : Walk → (ℕ → ℕ → Bool) → ℕ → List Bool → PartTrees → Type 0
 SpelledFrom walk test first live cs = AreAlike (IsStep walk.tree walk.back false) (IsLive live) test (parts_numbered first cs) (pattern walk.tree [] walk.names cs)
 

@@ -65,7 +65,7 @@ module _ (Step : ℕ → ℕ → Type 0) where
         (x.0, x.1, x.2, (f x.0 (way_left In x.0 x.1 parts)).1 x.3, (g x.1 (way_right Out on x.0 x.1 (way_wider In Out own (x.0 ++ x.1) parts))).1 x.4),
   )
 
-  -- an atom is one node, and what follows it follows a node where it holds
+  -- an atom is one node, and the rest of the pattern follows a node at which the atom holds
   pub after_atom : (In Next : ℕ → Type 0) (test : ℕ → ℕ → Bool) (a : ℕ) (v : ℕ → Value) → ((n : ℕ) → In n → test a n ≡ holds (v n))
       → ((n m : ℕ) → In n → holds (v n) ≡ true → Step n m → Next m)
       → (q : Pattern ℕ) (s : Pattern (ℕ → Value)) → AreAlike Step Next test q s → AreAlike Step In test (joined (one a) q) (joined (one v) s)
@@ -186,7 +186,7 @@ pub record Reach (tree : SearchedTree) (back : Bool) : Type 0 where
   pub asked : IsNodeSet tree old
   pub reached : AreReached tree back old wide
 
--- the same, where the first are given by others that are equal to them
+-- the same for equal sets
 abbrev pub reach_from : (tree : SearchedTree) (back : Bool) (old given wide : List Bool) → given ≡ old → IsNodeSet tree old → AreReached tree back given wide → Reach tree back
 reach_from tree back old given wide is asked reached = record { old = old; wide = wide; asked = asked; reached = subst (λ l. AreReached tree back l wide) is reached }
 
@@ -284,7 +284,7 @@ pub all_never : (tree : SearchedTree) (back : Bool) (all : List Bool) (r : Patte
     → IsNever (IsStep tree back false) (IsLive all) r → IsNever (IsStep tree back false) (IsSearchedNode tree) r
 all_never tree back all r every f = never_wider (IsStep tree back false) (IsSearchedNode tree) (IsLive all) (λ n asked. every.covers n asked) r f
 
--- the same, where sets are given by others that are equal to them
+-- the same for equal sets
 
 pub leads_at : {L : Type 0} {own : _} (tree : SearchedTree) (back : Bool) (old given new : List Bool) → given ≡ old → (part : InTable (AtomTable L own))
     → LeadsOn tree back given new part.table part.past part.numbered part.stands_for → LeadsOn tree back old new part.table part.past part.numbered part.stands_for

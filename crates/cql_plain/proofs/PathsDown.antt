@@ -87,7 +87,7 @@ cases : (steps : List (Option PathStep)) (n k j : ℕ) (by : Option ℕ) (b : Bo
 cases steps n k j by true is e = inl (record { node = eqb-true k n is; place = sym (some_same 0 j e); nodes = refl })
 cases steps n k j by false is e = inr (refl, after steps by j e)
 
--- the first k nodes are told
+-- the first k nodes are filled in
 pub record AreDown (tree : SearchedTree) (primary : Bool) (n k : ℕ) (steps : List (Option PathStep)) : Type 0 where
   pub count : length steps ≡ k
   pub told : (i : ℕ) → i < k → get_or steps i None ≡ step_down tree primary n steps i

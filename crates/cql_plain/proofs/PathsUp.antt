@@ -26,7 +26,7 @@ pub record IsStart (n k before nodes : ℕ) : Type 0 where
 abbrev pub IsReached : SearchedTree → Bool → ℕ → List (Option PathStep) → ℕ → PathStep → Type 0
 IsReached tree primary n steps k r = IsStart n k r.before r.length ⊎ IsFrom tree primary steps k r.before r.length
 
--- those up to some node are told, and it is the next
+-- the steps on the way up are filled in, except at the next node and above it
 pub record AreUp (tree : SearchedTree) (primary : Bool) (n : ℕ) (steps : List (Option PathStep)) (next : Option ℕ) (reached : PathStep) : Type 0 where
   pub count : length steps ≡ length tree.game.nodes
   pub told : (k : ℕ) (r : PathStep) → get_or steps k None ≡ Some r → IsReached tree primary n steps k r
