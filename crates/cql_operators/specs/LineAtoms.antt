@@ -53,7 +53,7 @@ spot_at tree n = record {
 abbrev pub AreClearFrom : {L : Type 0} {own : _} → AtomTable L own → ℕ → Type 0
 AreClearFrom table k = (a n : ℕ) → k ≤ a → holds_in table a n ≡ false
 
--- the atoms from first on and below past can be put into the table of count nodes, and none of them holds there
+-- the atoms from `first` on and below `past` can be put into a table of `count` nodes, and no atom from `first` on holds there
 pub record HasRoom {L : Type 0} {own : _} (count first past : ℕ) (table : AtomTable L own) : Type 0 where
   pub few : past ≤ 64
   pub atoms : past ≤ atoms_of table

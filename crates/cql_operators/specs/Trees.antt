@@ -44,7 +44,7 @@ pub record AreBeforeLive (tree : SearchedTree) (live wide : List Bool) : Type 0 
   pub asked : IsNodeSet tree wide
   pub covers : (n : ℕ) → is_live live n ≡ true → is_live wide (before tree n) ≡ true
 
--- the parent of k is added if there is true
+-- the parent of k is added if `there` is true
 pub record AddsParent (nodes : List Node) (k : ℕ) (there : Bool) (old new : List Bool) : Type 0 where
   pub count : length new ≡ length old
   pub each : (n : ℕ) → get_or new n false ≡ (get_or old n false || (there && is_child_of nodes n k))

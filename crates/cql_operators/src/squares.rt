@@ -94,7 +94,8 @@ fn has_one(value: Value, square: Square) -> bool
     has_square(value.squares(), square)
 }
 
-/// Returns the nodes of a set that stay open. A node of `there` is settled if the column holds there or, with `every`, if it doesn't.
+/// Returns the nodes of a set that stay open. Without `every`, a node of `there` is settled if the column holds there. With `every`, it is
+/// settled if the column doesn't.
 pub fn unsettled(every: bool, left: Vec<bool>, there: &[bool], column: &FilterColumn) -> Vec<bool>
     requires { length there.now ≡ length left.items }
     ensures { AreLeftOpen every (λ n. spec.holds (shown column.now n)) left.items there.now result.items }

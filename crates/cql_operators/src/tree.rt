@@ -182,7 +182,7 @@ pub fn parents(alloc: Global, scope: &Scope, live: &[bool]) -> Result<Vec<bool>,
     Ok(with_parents(scope.game, live, start))
 }
 
-/// Returns the live nodes and their parents.
+/// Returns the live nodes and their parents. These have the node before each live node, which for the root is the root itself.
 ///
 /// # Errors
 ///

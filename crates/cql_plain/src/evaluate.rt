@@ -96,7 +96,7 @@ pub(crate) fn evaluate(
     }
 }
 
-// True if the tag of a field has a text.
+// True if a text is part of the tag of a field, by the field's image in the context.
 fn tagged(field: Field, text: &[u8], scope: &Scope) -> Value
     ensures { as_value result ≡ spec.as_truth
         (headers.has_text scope.now.game.now (contexts.field_image scope.now.context.now field) text.now) }
@@ -105,7 +105,7 @@ fn tagged(field: Field, text: &[u8], scope: &Scope) -> Value
     Value::Truth(has_text(scope.game, field, text))
 }
 
-// True if the game has a result.
+// True if the game's result is the one of the filter, by its image in the context.
 fn ended(outcome: Outcome, scope: &Scope) -> Value
     ensures { as_value result ≡ spec.as_truth
         (headers.is_result (contexts.outcome_image scope.now.context.now outcome) scope.now.game.now.result) }
