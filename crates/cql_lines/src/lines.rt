@@ -15,8 +15,8 @@ use cq_common::{NoMemory, Steps};
 use std::alloc::Global;
 use std::sync::ledger::Ledger;
 
-/// Returns for each node the greatest length of a path from it that the pattern spells and the limits allow. The value is `None` if there
-/// is no such path, or if the node is not searched.
+/// Returns for each node the greatest length, in nodes, of a path from it that the pattern spells and the limits allow. The value is `None`
+/// if there is no such path, or if the node is not searched.
 ///
 /// Each look at the table is a step. A call that succeeds takes one step for each atom and searched node, and none takes more.
 ///

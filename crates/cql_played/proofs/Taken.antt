@@ -1,4 +1,4 @@
--- A legal move takes a man on a square exactly if a man of the other side is there before it and none after it.
+-- A legal move takes a man on a square exactly if a man of the other side is there before it, and no man of that side after it.
 use Rattle.std.proofs.Common.{◌≡◌, ◌≢◌, ◌↔◌, ℕ, Bool, true, false, cond, not, ◌&&◌, Option, Some, None, List, length, refl, sym, ap, ap₂, ◌∙◌, subst, inl, inr, arith}
 use Rattle.std.specs.Prelude.{slice_set, nat_lt, ◌==◌}
 use Rattle.std.proofs.lemmas.Bool.{cases_Bool, cases_eq, cond-true, cond-false, and_parts, eq-eqb, ne_eqb}

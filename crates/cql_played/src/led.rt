@@ -56,8 +56,8 @@ fn taken_by(before: &Position, m: &Move) -> Option<Square>
     }
 }
 
-/// A legal move takes a man on a square exactly if a man of the other side is there before the move and none after it. If there is no such
-/// square, the move takes none. A null move never takes.
+/// A legal move takes a man on a square exactly if a man of the other side is there before the move, and no man of that side after it. If
+/// there is no such square, the move takes none. A null move never takes.
 #[tactic(auto, using(crate::proofs::Taken::taken_law))]
 pub fn taken_men_are_gone()
     ensures { (p : Board) (m : MoveValue) (q : Board) → IsPosition p → Leads p m q → (s : ℕ) →

@@ -25,7 +25,7 @@ impl Value {
         }
     }
 
-    /// Returns the value as a set. It is empty if the value is none.
+    /// Returns the value as a set, which is empty if the value is no set.
     #[tactic(auto, using(crate::proofs::Masks::no_squares))]
     pub fn squares(self) -> u64
         ensures { spec.has (as_value self) ≡ is_in result }

@@ -102,7 +102,7 @@ fn is_below_by(game: &Game, n: u32, k: u32, before: &[bool]) -> bool
     }
 }
 
-/// Returns true if both hold. Both are evaluated, which `&&` doesn't do.
+/// Returns true if both hold. Unlike `&&`, a call evaluates both.
 pub fn both(a: bool, b: bool) -> bool
     ensures { result ≡ (a && b) }
 {
