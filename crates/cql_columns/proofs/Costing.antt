@@ -19,7 +19,7 @@ pub record ItemOf {A : Type 0} (xs : List A) : Type 0 where
   pub below : index < length xs
   pub is : item ≡ get_or xs index item
 
--- what is left of the costs of a list, each item of which has its own
+-- the rest of the costs of a list, each item of which has its own cost
 module _ {A : Type 0} (all : List A → ℕ) (one : A → ℕ) (step : (x : A) (xs : List A) → all (x ∷ xs) ≡ one x + all xs) where
   next : (xs : List A) (i : ℕ) (x : A) → i < length xs → x ≡ get_or xs i x → all (drop i xs) ≡ one x + all (drop (i + 1) xs)
   next xs i x h is = ap all (drop_more xs i x h) ∙ step (get_or xs i x) (drop (suc i) xs) ∙ ap₂ (λ y j. one y + all (drop j xs)) (sym is) (sym (add-one i))

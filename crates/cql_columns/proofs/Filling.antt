@@ -1,4 +1,4 @@
--- Columns that are filled node by node.
+-- Columns filled node by node.
 use Rattle.std.proofs.Common.{◌≡◌, ℕ, zero, suc, ◌+◌, ◌<◌, ◌≤◌, ◌⊎◌, Bool, true, false, List, [], ◌∷◌, length, get_or, ◌&&◌, ◌||◌, refl, ap, sym, subst, ◌∙◌, arith, ⊎_elim, inl, inr}
 use Rattle.cq_position.specs.Search.{SearchedTree}
 use Rattle.std.specs.Prelude.{◌-◌, is_some, slice_set}
@@ -35,7 +35,7 @@ pub none_past : (live : List Bool) (end : ℕ) → 0 < end → get_or live (end 
     → (n : ℕ) → end - 1 ≤ n → get_or live n false ≡ false
 none_past live end some is had n h = ⊎_elim (λ same. ap (λ i. get_or live i false) (sym same) ∙ is) (λ away. had n (omega (arith, h, some, away))) (equal_or (end - 1) n)
 
--- how the entries of a column are read, and what stands for one past the end
+-- the entries of a column as values, with a default after the end
 pub record Reading (A B : Type 0) : Type 0 where
   pub show : A → B
   pub none : A
@@ -55,7 +55,7 @@ of_masks = record { show = λ set. set; none = 0 }
 abbrev pub of_values : Reading Kept Value
 of_values = record { show = as_value; none = Truth false }
 
--- the first k nodes have their values where they are asked for, in a column that reaches as far as these and is written over
+-- the live nodes among the first k have their values, in a column that is long enough and is overwritten
 pub record FilledTo {A B : Type 0} (read : Reading A B) (live : List Bool) (v : ℕ → B) (end k : ℕ) (items : List A) : Type 0 where
   pub count : length items ≡ end
   pub each : (n : ℕ) → n < k → get_or live n false ≡ true → read.show (get_or items n read.none) ≡ v n
@@ -98,7 +98,7 @@ pub record Told (test : ℕ → Bool) (k : ℕ) (items : List Bool) : Type 0 whe
   pub count : length items ≡ k
   pub each : (n : ℕ) → n < k → get_or items n false ≡ test n
 
--- a list that reaches so far has an entry there, whatever stands for one past the end
+-- the default has no effect on an entry that a list has
 pub any_default : {A : Type 0} (l : List A) (k : ℕ) (d e : A) → k < length l → get_or l k d ≡ get_or l k e
 any_default [] k d e h = absurd (omega (arith, h))
 any_default (x ∷ l) zero d e h = refl
@@ -122,7 +122,7 @@ put_told test end k items later x low is new had = record {
 pub told_whole : (test : ℕ → Bool) (end k : ℕ) (items : List Bool) → end ≡ k → ToldTo test end k items → Told test k items
 told_whole test end k items same had = record { count = had.count ∙ same; each = had.each }
 
--- the same of nodes of a set
+-- the same of the nodes of a set
 pub put_asked : (live : List Bool) (test : ℕ → Bool) (end k : ℕ) (items : List Bool) (d x : Bool) → k < length live → k < end → x ≡ (get_or live k d && test k)
     → ToldTo (λ n. get_or live n false && test n) end k items → ToldTo (λ n. get_or live n false && test n) end (k + 1) (slice_set items k x)
 put_asked live test end k items d x inside low new had =

@@ -1,4 +1,4 @@
--- Nodes that are taken out of a set one by one.
+-- Nodes taken out of a set one by one.
 use Rattle.std.proofs.Common.{◌≡◌, ℕ, ◌+◌, ◌<◌, ◌≤◌, Bool, true, false, ◌&&◌, List, ◌++◌, length, take, drop, get_or, refl, sym, ap, ◌∙◌, subst, arith, ⊎_elim}
 use Rattle.std.specs.Prelude.{slice_set, is_some, not, if◌then◌else◌}
 use Rattle.std.proofs.Math.Seq.{take-append_seam}
@@ -57,7 +57,7 @@ kept_all test live left k end had = record {
       (split_at n k);
 }
 
--- the same, where no node is in the set from k on
+-- the same if no node is in the set from k on
 pub kept_to : (test : ℕ → Bool) (live left : List Bool) (end k : ℕ) → end ≤ k → ((n : ℕ) → end ≤ n → get_or live n false ≡ false) → KeptTo test live k left → AreKept test live left
 kept_to test live left end k done none had = record {
   count = had.count;

@@ -1,4 +1,4 @@
--- Squares among which are those that are wanted.
+-- Sets with all squares that are needed at some nodes.
 use Rattle.std.proofs.Common.{◌≡◌, ℕ, ◌+◌, ◌<◌, ◌≤◌, Bool, true, false, not, ◌&&◌, ◌||◌, List, length, refl, sym, ap, ap₂, ◌∙◌, subst, arith, max, ⊎_elim}
 use Rattle.std.specs.Prelude.{bit_or, if◌then◌else◌}
 use Rattle.std.proofs.lemmas.Nat.Bits.{bit_at_or}
@@ -42,7 +42,7 @@ wanted_all x live k wanted end had = record { each = λ n s a b. had.each n s (o
 pub wanted_same : (x : ℕ → Value) (live left : List Bool) (wanted : ℕ) → left ≡ live → CoverSquares x live wanted → CoverSquares x left wanted
 wanted_same x live left wanted same are = subst (λ l. CoverSquares x l wanted) (sym same) are
 
--- they are still, where fewer nodes are left
+-- the same if fewer nodes are left
 pub wanted_kept : (every : Bool) (x : ℕ → Value) (asked : ℕ → Bool) (s : ℕ) (left later : List Bool) (wanted : ℕ)
     → CoverSquares x left wanted → AreUnsettled every x asked s left later → CoverSquares x later wanted
 wanted_kept every x asked s left later wanted are is = record {

@@ -1,13 +1,14 @@
--- The steps that a column takes at most: for each atom of a line a look at each searched node, and what is asked of a square 64 times.
+-- An upper bound of the steps of a column: for each atom of a line a look at each searched node. The condition of a `square` counts 64
+-- times.
 use Rattle.std.specs.Prelude.{ℕ, ◌+◌, ◌*◌, length}
 use Rattle.cq_position.specs.Search.{SearchedTree, nodes_in}
 use Rattle.cql_syntax.specs.Trees.{FilterTree, filter_at, FormTree, designator, number, name, plain, tagged, outcome, elo, unary, direction, chain, sum_of, pair, if_, square, line, played, transform, sort, comment, any, FilterTrees, no_filters, more_filters, TermTrees, no_terms, more_terms, LineTree, path, PlayedTree, move_of, WrittenTree, left_out, written, PartTrees, no_parts, more_parts, BodyTree, atom, group}
 
--- how many nodes are searched
+-- the number of searched nodes
 abbrev pub searched_len : SearchedTree → ℕ
 searched_len tree = length (nodes_in tree)
 
--- how many atoms stand in a line as it is written
+-- the number of atoms in a line as it is written
 abbrev mutual
   pub parts_atoms : PartTrees → ℕ
   parts_atoms no_parts = 0
@@ -51,7 +52,7 @@ unfoldable mutual
   terms_cost searched no_terms = 0
   terms_cost searched (more_terms minus f ts) = filter_cost searched f + terms_cost searched ts
 
-  -- a look at each searched node for each atom, and what the atoms' own columns take
+  -- a look at each searched node for each atom, and the steps of the atoms' own columns
   pub line_cost : ℕ → LineTree → ℕ
   line_cost searched (path back primary extent cs) = parts_atoms cs * searched + parts_cost searched cs
 

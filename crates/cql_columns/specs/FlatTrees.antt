@@ -1,9 +1,9 @@
--- Filters that the evaluator takes: no family is in them, and no line in them has more places than an automaton may have.
+-- Filters that the evaluator takes. They have no family, and no line with more places than an automaton may have.
 use Rattle.std.specs.Prelude.{◌≡◌, ℕ, ◌+◌, ◌-◌}
 use Rattle.cql_syntax.specs.Places.{parts_places}
 use Rattle.cql_syntax.specs.Trees.{FilterTree, filter_at, FormTree, designator, number, name, plain, tagged, outcome, elo, unary, direction, chain, sum_of, pair, if_, square, line, played, transform, sort, comment, any, FilterTrees, no_filters, more_filters, TermTrees, no_terms, more_terms, LineTree, path, PlayedTree, move_of, WrittenTree, left_out, written, PartTrees, no_parts, more_parts, BodyTree, atom, group}
 
--- how many families are in it that stand in no other, and by how many places its lines go past what an automaton has, added up
+-- the number of outermost families, plus, for each line, the number of its places over 64
 unfoldable mutual
   pub unflat : FilterTree → ℕ
   unflat (filter_at at f) = unflat_form f

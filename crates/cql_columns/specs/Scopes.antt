@@ -1,4 +1,4 @@
--- Where a filter is asked.
+-- The values of filters in a scope.
 use Rattle.std.specs.Prelude.{ℕ, List, []}
 use Rattle.cq_common.specs.Spelling.{Pattern}
 use Rattle.cq_position.specs.Search.{SearchedTree}
@@ -12,7 +12,7 @@ use Rattle.cql_columns.specs.declared.scope.Scope.{Scope}
 abbrev pub tree_in : Scope → SearchedTree
 tree_in s = searched_tree s.game.now s.variations
 
--- what a filter of a flat query gives, inside of no mapping
+-- the value of a filter of a flat query, outside of all mappings
 abbrev pub value_in : Scope → FilterTree → ℕ → Value
 value_in s f = value (tree_in s) [] s.names.now f
 
@@ -26,7 +26,7 @@ value_with s f e = value (tree_in s) [] e f
 abbrev pub values_with : Scope → FilterTrees → Names → ℕ → List Value
 values_with s fs e = values (tree_in s) [] e fs
 
--- the pattern of parts of a line in a row, and of one of them
+-- the pattern of the parts of a line in a row, and of one of them
 abbrev pub parts_in : Scope → PartTrees → Pattern (ℕ → Value)
 parts_in s parts = pattern (tree_in s) [] s.names.now parts
 

@@ -1,7 +1,7 @@
-//! Columns: what a filter gives at the nodes of a game that are asked for, and sets of such nodes.
+//! Columns: the values of a filter at the live nodes of a game, and sets of such nodes. A live node is one at which a filter is evaluated.
 //!
-//! `cql_syntax/specs/Meaning` has the meaning, `specs/Columns` what a column promises. `cql_operators` makes columns of columns,
-//! `cql_pruning` tells what need not be asked, `cql_eval` asks the parts of a filter; they all stand on this.
+//! `cql_syntax/specs/Meaning` has the meaning, and `specs/Columns` the promise of a column. `cql_operators` makes columns of columns.
+//! `cql_pruning` finds the nodes that need no evaluation, and `cql_eval` evaluates the parts of a filter. All three use this crate.
 #![tactic(auto)]
 
 pub mod binding;

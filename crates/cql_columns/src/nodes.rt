@@ -5,14 +5,18 @@ ghost use Rattle.std.specs.List.{list_any};
 use cq_common::NoMemory;
 use std::alloc::Global;
 
-/// Whether a set has some node.
+/// Returns true if a set has some node.
 pub fn any_live(live: &[bool]) -> bool
     ensures { result ≡ list_any (λ b. b) live.now }
 {
     live.iter().any(|there| *there)
 }
 
-/// The same set.
+/// Returns a copy of a set.
+///
+/// # Errors
+///
+/// `NoMemory` if out of memory.
 pub fn same(alloc: Global, live: &[bool]) -> Result<Vec<bool>, NoMemory>
     ensures { IfOk result (λ copy. copy.items ≡ live.now) }
 {

@@ -1,7 +1,7 @@
-//! Where the nodes of a set begin and end.
+//! The first node of a set, and the end of the set.
 ghost use Rattle.std.specs.Prelude.{◌≡◌, ℕ, ◌<◌, ◌≤◌, length, get_or, false};
 
-/// The first node of a set; where it has none, how many nodes there are.
+/// Returns the first node of a set, or the number of nodes if the set is empty.
 pub fn first_live(live: &[bool]) -> usize
     ensures most { result ≤ length live.now }
     ensures none { (n : ℕ) → n < result → get_or live.now n false ≡ false }
@@ -14,7 +14,7 @@ pub fn first_live(live: &[bool]) -> usize
     live.len()
 }
 
-/// Where a set ends: past its last node.
+/// Returns the end of a set: one past its last node, or 0 if the set is empty.
 pub fn live_end(live: &[bool]) -> usize
     ensures most { result ≤ length live.now }
     ensures none { (n : ℕ) → result ≤ n → get_or live.now n false ≡ false }
@@ -29,7 +29,7 @@ pub fn live_end(live: &[bool]) -> usize
     0
 }
 
-/// The first node of a set of the nodes of a game; where it has none, how many there are.
+/// Returns the first node of a set of the nodes of a game, or the number of nodes if the set is empty.
 pub fn first_live_node(live: &[bool], nodes: u32) -> u32
     requires { length live.now ≡ nodes }
     ensures most { result ≤ nodes }
@@ -43,7 +43,7 @@ pub fn first_live_node(live: &[bool], nodes: u32) -> u32
     nodes
 }
 
-/// Where a set of the nodes of a game ends: past its last node.
+/// Returns the end of a set of the nodes of a game: one past its last node, or 0 if the set is empty.
 pub fn live_node_end(live: &[bool], nodes: u32) -> u32
     requires { length live.now ≡ nodes }
     ensures most { result ≤ nodes }

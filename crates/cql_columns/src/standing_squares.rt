@@ -1,4 +1,4 @@
-//! Where the men of a designator stand.
+//! The squares that have the men of a designator.
 ghost use Rattle.std.specs.Prelude.{◌≡◌, ◌<◌, length, true, Some, IfOk};
 ghost use Rattle.cq_position.specs.Games.{node_at};
 ghost use Rattle.cq_symmetry.specs.Images.{is_in};
@@ -18,7 +18,11 @@ use cql_values::words::{listed_men, standing_of};
 use pgn_tree::Game;
 use std::alloc::Global;
 
-/// The squares of a designator on which its men stand.
+/// Returns for each live node the squares of a designator that have one of its men.
+///
+/// # Errors
+///
+/// `NoMemory` if out of memory.
 pub fn standing_sets(
     alloc: Global,
     d: &Designator,

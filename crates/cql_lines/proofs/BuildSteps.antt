@@ -1,4 +1,4 @@
--- Steps of building.
+-- Steps of building an automaton.
 use Rattle.std.proofs.Common.{◌≡◌, ℕ, zero, suc, ◌+◌, ◌-◌, ◌*◌, ◌<◌, ◌≤◌, List, ◌++◌, length, refl, sym, ap, ◌∙◌, subst, Bool, true, false, arith, length-append, append_assoc}
 use Rattle.std.specs.Prelude.{bit_or}
 use Rattle.std.specs.Int.Bits.{or_zero_r}
@@ -10,7 +10,7 @@ use Rattle.cql_lines.specs.Places.{when}
 pub or_nothing : (a more : ℕ) (b : Bool) → b ≡ false → a ≡ bit_or a (when b more)
 or_nothing a more b e = rw e (sym (or_zero_r a))
 
--- whether so many parts may be empty
+-- a number of parts, at least the lower bound, may all be empty
 pub null_enough : (b : Bool) (m n : ℕ) → 0 < m → m ≤ n → b ≡ null_times b m n
 null_enough b zero n some h = absurd (omega arith)
 null_enough b (suc m) zero some h = absurd (omega arith)

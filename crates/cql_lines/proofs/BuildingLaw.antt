@@ -16,7 +16,7 @@ get_right [] ys i j r h e = (let same : j ≡ i = omega arith in ap (slice_get y
 get_right (x ∷ xs) ys i zero r h e = absurd (omega arith)
 get_right (x ∷ xs) ys i (suc j) r h e = get_right xs ys i j r (omega arith) e
 
--- the rows stand among the rules from the place k on
+-- the rows are in the rules from place k on
 pub record Sit (rules : List Transition) (k : ℕ) (rs : List Transition) : Type 0 where
   pub at : (i : ℕ) (r : Transition) → slice_get rs i ≡ Some r → slice_get rules (k + i) ≡ Some r
 

@@ -1,4 +1,4 @@
--- What is asked of cells holds of both kinds.
+-- The laws of cells, for both kinds of cells.
 use Rattle.std.proofs.Common.{◌≡◌, ℕ, ◌<◌, ◌≤◌, Bool, true, false, List, length, Option, Some, None, sym, subst}
 use Rattle.cq_common.specs.Greatest.{IsGreatest}
 use Rattle.cql_lines.specs.Internal.Cells.{Represents, both_kinds, place_cell, LeavesRoom, Counts, IsGreatestAllowed, AllowedLength}

@@ -1,4 +1,4 @@
--- How many of the first nodes, and of the last, are searched, and the looks at these.
+-- The number of searched nodes among the first nodes and among the last, and the looks at them.
 use Rattle.std.proofs.Common.{◌≡◌, ℕ, ◌+◌, ◌-◌, ◌*◌, ◌<◌, ◌≤◌, Bool, true, false, List, None, length, take, drop, refl, sym, ap, ◌∙◌, subst, arith}
 use Rattle.std.specs.Prelude.{cond}
 use Rattle.std.proofs.lemmas.List.Sums.{sum_by_more, sum_by-take-drop}
@@ -10,7 +10,7 @@ use Rattle.cql_lines.specs.Shapes.{is_searched, searched_by, searched_count}
 abbrev one : TreeNode → ℕ
 one s = cond s.searched 1 0
 
--- stands for a node where there is none
+-- a node in place of one that is missing
 abbrev blank : TreeNode
 blank = record { parent = None; searched = false; first = false }
 

@@ -1,4 +1,4 @@
--- From what the places read to what the pattern spells.
+-- The step from the reading of places to the spelling of the pattern.
 use Rattle.std.proofs.Common.{◌≡◌, ℕ, zero, suc, ◌+◌, ◌-◌, ◌*◌, ◌<◌, ◌≤◌, List, [], ◌∷◌, ◌++◌, length, refl, sym, ap, ◌∙◌, subst, Bool, true, false, Option, Some, None, inl, inr, arith, slice_get}
 use Rattle.std.specs.Prelude.{◌⊎◌}
 use Rattle.cql_lines.specs.declared.automaton.FollowSet.{FollowSet}
@@ -40,7 +40,7 @@ get_either (x ∷ xs) ys (suc i) r e = elim (get_either xs ys i r e) [
   | inr b ↦ inr b
 ]
 
--- rules ask for the first so many atoms alone
+-- rules use only atoms below a number
 abbrev RulesBelow : List Transition → ℕ → Type 0
 RulesBelow rules atoms = (i : ℕ) (r : Transition) → slice_get rules i ≡ Some r → r.atom < atoms
 
@@ -125,7 +125,7 @@ pub built_on : (a : Automaton) (given : Given) (p : Pattern ℕ) (old : List Tra
 built_on a given p old empty is rules first = built_of a given p is (rules_are a.rules.items old (rows (plain_tree given) end) rules empty)
     (first_is a.first old (firsts (plain_tree given)) first empty)
 
--- what the automaton of a pattern reads on the way from a node is what the pattern spells
+-- the automaton of a pattern reads exactly the lists that the pattern spells, on the ways from a node
 module _ (words : List ℕ) (a : Automaton) (p : Pattern ℕ) (of : IsAutomatonOf a p) (tree_nodes : List TreeNode) (E : ℕ → ℕ → Type 0) where
   line_of : (n k : ℕ) → AcceptedLength (holds words) a.rules.items E a.first n k → Line (holds words) E p n k
   line_of n k r = (r.0, r.1, r.2, (of.reads (holds words) n r.0).0 r.3)

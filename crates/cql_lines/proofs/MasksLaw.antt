@@ -28,7 +28,7 @@ highest_bit mask count fits j past less =
     let high = past_least (64 - leading_zeros w64 mask) count j past less in
     ap (λ b. b == 1) (bit_at_above mask top.0 j top.2 (omega (arith, sum, high)))
 
--- what a mask's places come to, one by one
+-- a total over the places of a mask, one by one
 module _ (mask : ℕ) (total : ℕ → ℕ) (skips : (j : ℕ) → is_set mask j ≡ false → total (suc j) ≡ total j) where
   before_first : (n : ℕ) → ((j : ℕ) → j < n → is_set mask j ≡ false) → total n ≡ total 0
   before_first zero off = refl

@@ -1,4 +1,4 @@
--- What is asked of the numbers that stand for lengths, whether for the greatest or for their set.
+-- The laws of the numbers that represent lengths, by the greatest of them or by their set.
 use Rattle.std.proofs.Common.{◌≡◌, ℕ, List, length, Some, slice_get}
 use Rattle.std.specs.Prelude.{◌⊎◌}
 use Rattle.cql_lines.specs.declared.automaton.Transition.{Transition}

@@ -40,7 +40,7 @@ module _ (words : List ℕ) (rules : List Transition) (E : ℕ → ℕ → Type 
       (λ r. (let e = r.2 in omega arith))
       (read_here (holds words) rules E f n own known)
 
--- what a node's own row has
+-- the contents of a node's own row
 module _ (Represents : Measure) (none : HasNone Represents) (place : Transition → ℕ → (ℕ → ℕ) → ℕ → ℕ) (goes : Goes Represents place) (words : List ℕ) (rules : List Transition) (E : ℕ → ℕ → Type 0) where
   own_past : (n : ℕ) (own : ℕ → ℕ) (i : ℕ) → length rules ≤ i → own i ≡ 0 → Represents (AcceptedLengthFrom (holds words) rules E i n) (own i)
   own_past n own i past v =

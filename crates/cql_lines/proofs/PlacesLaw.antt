@@ -1,4 +1,4 @@
--- The places read what the pattern spells.
+-- Places read exactly the lists that the pattern spells.
 use Rattle.std.proofs.Common.{◌≡◌, ℕ, zero, suc, ◌-◌, ◌^◌, ◌≤◌, Bool, true, false, ◌&&◌, List, [], ◌∷◌, ◌++◌, length, refl, sym, ap, ◌∙◌, subst, Option, Some, None, inl, inr, arith, append_assoc, length-append, slice_get}
 use Rattle.std.specs.Prelude.{IfSome, ◌⊎◌, bit_or}
 use Rattle.std.specs.Int.{bit_at}
@@ -92,7 +92,7 @@ module _ (test : ℕ → ℕ → Bool) (rules : List Transition) where
     pub spelled : P (x ∷ u)
     pub read : Accepts test rules next v
 
-  -- what it means that places are those of a part
+  -- the places are those of a part
   pub record Means (B : FollowSet → ℕ → Type 0) (b : Bool) (P : List ℕ → Type 0) : Type 0 where
     pub sound : (next : FollowSet) (f : ℕ) (w : List ℕ) → B next f → Accepts test rules (from f) w → Front P next w
     pub complete : (next : FollowSet) (f : ℕ) (x : ℕ) (u v : List ℕ) → B next f → P (x ∷ u) → Accepts test rules next v → Accepts test rules (from f) (x ∷ (u ++ v))
@@ -330,7 +330,7 @@ module _ (test : ℕ → ℕ → Bool) (rules : List Transition) where
     emptied = λ s. some_emptied P b mp.emptied (suc m) s;
   }
 
-  -- the places read what the pattern spells
+  -- the places read exactly the lists that the pattern spells
   pub pattern_means : (p : Pattern ℕ) → Means (Built rules p) (nullable p) (Spells test p)
   pattern_means (one a) = record {
     sound = λ next f w t s. one_front a next f t.0 w t.1 t.2 s;

@@ -1,4 +1,4 @@
--- A bit that is put into a table, and a node that is added to a tree.
+-- A bit put into a table, and a node added to a tree.
 use Rattle.std.proofs.Common.{◌≡◌, ◌≢◌, ℕ, zero, suc, ◌<◌, ◌⊎◌, inl, inr, Bool, true, false, ◌&&◌, ◌||◌, not, List, [], ◌∷◌, ◌++◌, length, get_or, Option, Some, None, slice_get, slice_set, refl, sym, ap, ◌∙◌, subst, arith}
 use Rattle.std.specs.Prelude.{if◌then◌else◌, IfSome}
 use Rattle.std.proofs.lemmas.Bool.{cases_eq}
@@ -19,7 +19,7 @@ put_there words node word atom a n low same other = elim (cases_eq n node) [
   | inr apart ↦ ap (λ w. is_set w a) (get_or-set_other words node n word 0 apart)
 ]
 
--- what stands in a longer list
+-- the nodes of a list with one more at its end
 in_longer : (tree_nodes : List TreeNode) (s : TreeNode) (n : ℕ) → (slice_get (tree_nodes ++ s ∷ []) n ≡ slice_get tree_nodes n) ⊎ ((n ≡ length tree_nodes) × (slice_get (tree_nodes ++ s ∷ []) n ≡ Some s))
 in_longer [] s zero = inr (refl, refl)
 in_longer [] s (suc n) = inl refl
@@ -57,7 +57,7 @@ whole_more primary tree_nodes s parent all n p e = elim (in_longer tree_nodes s 
   | inr new ↦ let h = above_is primary s p (sym (ap (joined_by primary) new.1) ∙ e) in stays_searched tree_nodes s p (parent p h.0 h.1)
 ]
 
--- each node stands after the one above it, and that one is searched
+-- each node comes after the one above it, which is searched
 pub record IsTree (primary : Bool) (tree_nodes : List TreeNode) : Type 0 where
   pub below : (n p : ℕ) → joined primary tree_nodes n ≡ Some p → p < n
   pub whole : (n p : ℕ) → joined primary tree_nodes n ≡ Some p → is_searched tree_nodes p ≡ true

@@ -1,4 +1,4 @@
--- What a visit of a node leaves.
+-- The state after the visit of a node.
 use Rattle.std.proofs.Common.{◌≡◌, ℕ, ◌+◌, ◌-◌, ◌<◌, ◌≤◌, Bool, true, false, List, length, get_or, refl, sym, ap, ◌∙◌, subst, Option, Some, None, inl, inr, arith, slice_get}
 use Rattle.std.proofs.Common.{slice_set}
 use Rattle.std.proofs.lemmas.Bool.{cases_eq}
@@ -79,7 +79,7 @@ stands_first Represents none words rules primary tree_nodes rows size blank = re
       let both = sym off ∙ l.2 in cc));
 }
 
--- the nodes whose turn it was, from the last one, have their answers
+-- the nodes visited so far, from the last one, have their values
 abbrev pub HasAnswers : (ℕ → ℕ → Type 0) → (searched : ℕ → Bool) → (size turn : ℕ) → List (Option ℕ) → Type 0
 HasAnswers P searched size turn values = (n : ℕ) → size ≤ n + turn → n < size → GreatestWhere (searched n) (P n) (get_or values n None)
 

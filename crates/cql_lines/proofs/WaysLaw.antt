@@ -145,7 +145,7 @@ module _ (test : ℕ → ℕ → Bool) (rules : List Transition) where
   at_end [] t = refl
   at_end (x ∷ v) t = absurd (in_none t.0 t.2)
 
-  -- what the first places read is what the pattern spells
+  -- the first places read exactly the lists that the pattern spells
   pub read_spelled : (p : Pattern ℕ) (f : ℕ) → Built rules p end f → (n : ℕ) (w : List ℕ) → Accepts test rules (from f) (n ∷ w) → Spells test p (n ∷ w)
   read_spelled p f built n w r =
       let m = pattern_means test rules p in

@@ -1,16 +1,16 @@
--- The rules of a pattern, as the private functions give them, numbered from a place on: those of what comes after a part stand before
--- its own.
+-- The rules of a pattern, as the private functions give them, numbered from a place on. The rules of a later part have lower numbers than
+-- those of an earlier part.
 use Rattle.std.specs.Prelude.{ℕ, zero, suc, ◌+◌, ◌-◌, ◌*◌, ◌^◌, ◌<◌, List, [], ◌∷◌, ◌++◌, Bool, true, false, ◌&&◌, Option, Some, None, bit_or}
 use Rattle.cql_lines.specs.declared.automaton.FollowSet.{FollowSet}
 use Rattle.cql_lines.specs.declared.automaton.Transition.{Transition}
 use Rattle.cq_common.specs.Spelling.{Pattern, one, nothing, joined, repeated}
 use Rattle.cql_lines.specs.Places.{when}
 
--- these places, and where the part may be empty also what comes after it
+-- the places of the mask and, if the part may be empty, also the ways on after it
 abbrev pub begins : ℕ → Bool → FollowSet → FollowSet
 begins mask b next = record { places = bit_or mask (when b next.places); ends = b && next.ends }
 
--- whether the empty list is spelled
+-- true if the repeated part may be empty, by b of one part; m and n are the bounds
 abbrev pub null_times : Bool → ℕ → ℕ → Bool
 null_times b zero n = true
 null_times b (suc m) zero = false
@@ -27,7 +27,7 @@ nullable nothing = true
 nullable (joined p q) = nullable p && nullable q
 nullable (repeated least most p) = null_repeated (nullable p) least most
 
--- how many rules a pattern has
+-- the number of rules of a pattern
 abbrev pub size : Pattern ℕ → ℕ
 size (one a) = 1
 size nothing = 0
@@ -59,7 +59,7 @@ rows (joined p q) next k = rows q next k ++ rows p (begins (firsts q k) (nullabl
 rows (repeated least (Some n) p) next k = rows_times (rows p) (firsts p) (nullable p) (size p) least n next k
 rows (repeated least None p) next k = rows p (begins (firsts p k) true next) k
 
--- without an end only from none or one
+-- a part that is repeated without an upper bound has the lower bound 0 or 1
 abbrev pub IsPlain : Pattern ℕ → Type 0
 IsPlain (one a) = Unit {0}
 IsPlain nothing = Unit {0}

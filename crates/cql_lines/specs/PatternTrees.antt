@@ -1,4 +1,4 @@
--- What a pattern is as plain data.
+-- A pattern as plain data.
 use Rattle.std.specs.Prelude.{ℕ, List, [], ◌∷◌, Some, None}
 use Rattle.cq_common.specs.Spelling.{Pattern, one, nothing, joined, repeated}
 use Rattle.cql_lines.specs.declared.pattern.Pattern.{Pattern as Given, Atom, Sequence', Star', Plus', Maybe', Times', Row_of-Pattern, end_of-Pattern, more_of-Pattern}

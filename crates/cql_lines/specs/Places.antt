@@ -1,4 +1,4 @@
--- Places: how an automaton reads a list node by node.
+-- Places: the reading of a list by an automaton, node by node.
 use Rattle.std.specs.Prelude.{◌≡◌, ℕ, List, [], ◌∷◌, Bool, true, false, Some, slice_get, if◌then◌else◌}
 use Rattle.std.specs.Int.{bit_at}
 use Rattle.cql_lines.specs.declared.automaton.FollowSet.{FollowSet}
@@ -8,15 +8,15 @@ use Rattle.cql_lines.specs.declared.automaton.Transition.{Transition}
 abbrev pub IsIn : ℕ → ℕ → Type 0
 IsIn mask i = bit_at mask i ≡ 1
 
--- to go on at one of these places, and not to end
+-- a path goes on at one of these places, and doesn't end
 abbrev pub from : ℕ → FollowSet
 from mask = record { places = mask; ends = false }
 
--- a mask where something holds, else the empty one
+-- the mask if b is true, else the empty one
 abbrev pub when : Bool → ℕ → ℕ
 when b mask = if b then mask else 0
 
--- The automaton reads a list to its end: some place that is in reads the first node, and what comes after that place reads the rest.
+-- The automaton reads a list to its end. A place of the set reads the first node, and the ways on after that place read the rest.
 abbrev pub Accepts : (ℕ → ℕ → Bool) → List Transition → FollowSet → List ℕ → Type 0
 Accepts test rules s [] = s.ends ≡ true
 Accepts test rules s (x ∷ w) =

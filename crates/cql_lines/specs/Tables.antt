@@ -1,9 +1,9 @@
--- Tables of atoms as their callers see them.
+-- The contents of a table of atoms.
 use Rattle.std.specs.Prelude.{◌==◌, ℕ, List, Bool, length, get_or}
 use Rattle.std.specs.Int.{bit_at}
 use Rattle.cql_lines.specs.declared.table.AtomTable.{AtomTable}
 
--- how many atoms it has
+-- the number of atoms
 abbrev pub atoms_of : {L : Type 0} {g : _} → AtomTable L g → ℕ
 atoms_of table = table.atoms
 
@@ -11,13 +11,13 @@ atoms_of table = table.atoms
 abbrev pub words_of : {L : Type 0} {g : _} → AtomTable L g → List ℕ
 words_of table = table.words.items
 
--- a word has a bit for each atom
+-- bit a of the word of node n is set
 abbrev pub holds : List ℕ → ℕ → ℕ → Bool
 holds words a n = bit_at (get_or words n 0) a == 1
 
 abbrev pub nodes_of : {L : Type 0} {g : _} → AtomTable L g → ℕ
 nodes_of table = length (words_of table)
 
--- whether an atom holds at a node
+-- an atom holds at a node
 abbrev pub holds_in : {L : Type 0} {g : _} → AtomTable L g → ℕ → ℕ → Bool
 holds_in table a n = holds (words_of table) a n

@@ -1,4 +1,4 @@
--- Trees as their callers see them.
+-- The contents of a tree.
 use Rattle.std.specs.Prelude.{List, Bool, Option}
 use Rattle.cql_lines.specs.declared.shape.Limits.{Limits}
 use Rattle.cql_lines.specs.declared.shape.Shape.{Shape}
@@ -16,6 +16,6 @@ goes_back shape = shape.back
 abbrev pub is_primary : Shape → Bool
 is_primary shape = shape.primary
 
--- the lengths that count, none where all do
+-- the lengths that count; none if all do
 abbrev pub limits_of : Shape → Option Limits
 limits_of shape = shape.extent

@@ -16,13 +16,13 @@ abbrev pub allows : Option Limits → ℕ → Bool
 allows None len = true
 allows (Some limits) len = is_within limits.least limits.most len
 
--- where something is asked the greatest number with a property, or none where no number has it; elsewhere none
+-- if b is true, the greatest number with a property, or none if no number has it; else none
 abbrev pub GreatestWhere : Bool → (ℕ → Type 0) → Option ℕ → Type 0
 GreatestWhere true P o = IsGreatest P o
 GreatestWhere false P o = o ≡ None
 
--- At a searched node the greatest length of those paths from it that the pattern spells and whose length the limits allow, or none where
--- there is no such path; none at another node.
+-- At a searched node, the greatest length of a path from it that the pattern spells and the limits allow, or none if there is no such path.
+-- At another node none.
 abbrev pub IsValueAt : {L : Type 0} {g : _} → AtomTable L g → Shape → Pattern ℕ → ℕ → Option ℕ → Type 0
 IsValueAt table shape p n value =
     GreatestWhere

@@ -3,21 +3,21 @@ ghost use Rattle.std.specs.Prelude.{◌≤◌, length};
 
 use cq_common::Shared;
 
-/// How a path may go on: the places that may read its next node, and whether it may end.
+/// The ways on after a node of a path: the places that may read the next node, and whether the path may end.
 #[derive(Clone, Copy, Debug)]
 pub struct FollowSet {
     pub places: u64,
     pub ends: bool,
 }
 
-/// What a place reads, and how the path goes on after it.
+/// A place: the atom that it reads, and the ways on after it.
 #[derive(Clone, Copy, Debug)]
 pub struct Transition {
     pub atom: u32,
     pub after: FollowSet,
 }
 
-/// The places of a pattern: one for each atom in it, repeated parts counted as often as they may stand.
+/// The places of a pattern: one for each atom in it. A repeated part counts as often as it may occur.
 #[derive(Drop)]
 pub struct Automaton {
     pub(crate) rules: Vec<Transition>,

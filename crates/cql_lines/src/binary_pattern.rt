@@ -1,4 +1,4 @@
-//! Patterns without lists: a sequence is its first part and the rest.
+//! Patterns without lists. A sequence is its first part and the rest.
 ghost use Rattle.std.specs.Prelude.{◌≡◌, IfOk};
 ghost use Rattle.cq_common.specs.Spelling.{joined};
 ghost use Rattle.cql_lines.specs.PatternTrees.{pattern_tree, pattern_trees, patterns_in};
@@ -20,7 +20,11 @@ pub enum BinaryPattern {
     Times(u32, u32, Box<BinaryPattern>),
 }
 
-/// The pattern without lists that spells the same.
+/// Returns the pattern without lists that spells the same paths.
+///
+/// # Errors
+///
+/// `NoMemory` if out of memory.
 #[tactic(auto, using(crate::proofs::Lists::sequence_tree))]
 #[cycle(plain_of)]
 pub fn plain_of(alloc: Global, pattern: &Pattern) -> Result<BinaryPattern, NoMemory>
@@ -38,7 +42,7 @@ pub fn plain_of(alloc: Global, pattern: &Pattern) -> Result<BinaryPattern, NoMem
     }
 }
 
-// The same, to stand in another.
+// The same in a box, as a part of another pattern.
 #[cycle(plain_of)]
 fn boxed(alloc: Global, pattern: &Pattern) -> Result<Box<BinaryPattern>, NoMemory>
     ensures { IfOk result (λ plain. plain_tree plain.value ≡ pattern_tree pattern.now) }

@@ -1,4 +1,4 @@
-//! How the automaton of a pattern is built.
+//! Building the automaton of a pattern.
 
 ghost use Rattle.std.specs.Prelude.{◌≡◌, ℕ, ◌+◌, ◌-◌, ◌*◌, ◌<◌, ◌≤◌, ◌&&◌, ◌||◌, ◌++◌, length, IfOk, OnOk, true, false, bit_or};
 ghost use Rattle.cql_lines.specs.Building.{AtomsBelow, size, firsts, firsts_times, rows, rows_times, begins, nullable, null_times};
@@ -14,8 +14,12 @@ use cq_common::NoMemory;
 use std::alloc::{AllocError, Global};
 
 impl Automaton {
-    /// The automaton of a pattern of at most 64 places. A part without places may be repeated as often as a bound says, and each
-    /// turn takes time.
+    /// Returns the automaton of a pattern of at most 64 places. A part without places may be repeated as often as a bound says, and each
+    /// repetition takes time.
+    ///
+    /// # Errors
+    ///
+    /// `NoMemory` if out of memory.
     #[tactic(auto, using(crate::proofs::LinesLaw::few_rules))]
     pub fn build(alloc: Global, pattern: &Pattern) -> Result<Automaton, NoMemory>
         requires places { places (pattern_tree pattern.now) ≤ 64 }
@@ -37,7 +41,7 @@ impl Automaton {
     }
 }
 
-/// Whether it spells the empty list.
+/// Returns true if the pattern spells the empty list.
 #[cycle(nullable)]
 pub fn is_nullable(p: &BinaryPattern) -> bool
     ensures { result ≡ nullable (plain_tree p.now) }
@@ -51,7 +55,7 @@ pub fn is_nullable(p: &BinaryPattern) -> bool
     }
 }
 
-/// How many places it has.
+/// Returns the number of places of the pattern.
 #[cycle(size)]
 pub fn size_of(p: &BinaryPattern) -> usize
     requires { size (plain_tree p.now) ≤ 64 }
@@ -86,7 +90,7 @@ fn with_where(first: u64, empty: bool, more: u64) -> u64
     if empty { first | more } else { first }
 }
 
-/// The places that read its first node, where its places begin at a number.
+/// Returns the places that read the first node of the pattern, if its places begin at number `at`.
 #[cycle(first)]
 pub fn first_of(p: &BinaryPattern, at: usize) -> u64
     requires { at + size (plain_tree p.now) ≤ 64 }
@@ -121,7 +125,11 @@ fn first_of_times(p: &BinaryPattern, n: u32, at: usize) -> u64
     first
 }
 
-/// Adds the places of a pattern, after which a path goes on by `next`, and answers those that read its first node.
+/// Adds the places of a pattern, after which a path goes on by `next`. Returns the places that read its first node.
+///
+/// # Errors
+///
+/// `AllocError` if out of memory.
 #[cycle(build)]
 pub fn build(
     p: &BinaryPattern,

@@ -1,4 +1,4 @@
-//! Rows of the greatest lengths, where all lengths count.
+//! Rows of the greatest lengths, for lines without limits.
 ghost use Rattle.std.specs.Prelude.{◌≡◌, ℕ, ◌<◌, ◌≤◌, get_or, length, max, if◌then◌else◌, slice_get, Some, false};
 ghost use Rattle.cql_lines.specs.Internal.DownwardPass.{found};
 ghost use Rattle.cql_lines.specs.Internal.Lengths.{greatest_in, place_value, is_set, at};
@@ -9,7 +9,7 @@ use crate::masks::{first_place, past_places};
 use crate::shape::Limits;
 use crate::state_lengths::StateLengths;
 
-// The greatest value of the first places that are in the mask.
+// The greatest value among the first `count` places that are in the mask.
 fn greatest(mask: u64, row: &[u32; 64], count: usize) -> u32
     requires { count ≤ 64 }
     ensures { result ≡ greatest_in mask (at row.now) count }
@@ -49,7 +49,7 @@ fn length_at(rule: Transition, held: u64, below: &[u32; 64], count: usize) -> u3
     rule.after.ends as u32
 }
 
-// How many of the first places there are before the last that has a length. Most nodes have none.
+// The number of places up to the last that has a length. Most nodes have none.
 fn used_len(row: &[u32; 64], count: usize) -> usize
     requires { count ≤ 64 }
     ensures within { result ≤ count }
@@ -62,7 +62,7 @@ fn used_len(row: &[u32; 64], count: usize) -> usize
     used
 }
 
-// The greatest lengths that the places read from a node, by the row of those below it.
+// The greatest lengths that the places read from a node, by the row of the nodes after it on the paths.
 fn own_lengths(rules: &[Transition], held: u64, below: &[u32; 64]) -> [u32; 64]
     requires count { length rules.now ≤ 64 }
     requires atoms { (i : ℕ) (r : RuleValue) → slice_get rules.now i ≡ Some r → r.atom < 64 }
@@ -79,7 +79,7 @@ fn own_lengths(rules: &[Transition], held: u64, below: &[u32; 64]) -> [u32; 64]
     own
 }
 
-// Each length is at least the other's, of which the first alone are more than 0.
+// Raises each length to that of the other row, which has 0 from place `count` on.
 #[tactic(auto, using(crate::proofs::RowsLaw::raised_all))]
 fn raise(row: &mut [u32; 64], own: &[u32; 64], count: usize)
     requires count { count ≤ 64 }

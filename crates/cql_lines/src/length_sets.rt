@@ -1,5 +1,4 @@
-//! Rows of the sets of lengths, where the lengths that count are limited: bit k of a cell is the length k, and no greater length than 127
-//! counts.
+//! Rows of sets of lengths, for lines with limits. Bit k of a cell is the length k, and no length above 127 counts.
 ghost use Rattle.std.specs.Prelude.{◌≡◌, ℕ, ◌<◌, ◌≤◌, length, if◌then◌else◌, bit_or, slice_get, Some, true};
 ghost use Rattle.cq_common.specs.Greatest.{IsGreatest};
 ghost use Rattle.cql_lines.specs.Internal.Lengths.{is_set, at};
@@ -23,7 +22,7 @@ fn with_lengths(set: u128, mask: u64, j: usize, more: u128) -> u128
     }
 }
 
-// The lengths of the first places that are in the mask.
+// The lengths of the places, among the first `count`, that are in the mask.
 fn union_of(mask: u64, row: &[u128; 64], count: usize) -> u128
     requires { count ≤ 64 }
     ensures { result ≡ union_in mask (at row.now) count }
@@ -35,7 +34,7 @@ fn union_of(mask: u64, row: &[u128; 64], count: usize) -> u128
     all
 }
 
-// Each length one more.
+// Each length plus one.
 fn longer(set: u128) -> u128
     ensures { result ≡ shifted set }
 {
@@ -77,7 +76,7 @@ fn greatest_within(set: u128, least: u32, most: u32) -> Option<u32>
     None
 }
 
-// The lengths that the places read from a node, by the row of those below it.
+// The lengths that the places read from a node, by the row of the nodes after it on the paths.
 fn own_length_sets(rules: &[Transition], held: u64, below: &[u128; 64]) -> [u128; 64]
     requires count { length rules.now ≤ 64 }
     requires atoms { (i : ℕ) (r : RuleValue) → slice_get rules.now i ≡ Some r → r.atom < 64 }
@@ -92,7 +91,7 @@ fn own_length_sets(rules: &[Transition], held: u64, below: &[u128; 64]) -> [u128
     own
 }
 
-// The other lengths too, which the first places alone have.
+// Adds the lengths of the other row, which has none from place `count` on.
 #[tactic(auto, using(crate::proofs::RowsLaw::united_all))]
 fn merge(row: &mut [u128; 64], own: &[u128; 64], count: usize)
     requires count { count ≤ 64 }

@@ -1,4 +1,4 @@
-//! Lines: for each node of a tree the greatest length of a path from it, down or up, that a pattern spells. No path is listed: each place
+//! Lines: for each node of a tree, the greatest length of a path from it, down or up, that a pattern spells. No path is listed. Each place
 //! of the pattern keeps the greatest length that it reads from a node, and passes it on to the nodes joined to that one.
 #![tactic(auto)]
 

@@ -15,9 +15,14 @@ use cq_common::{NoMemory, Steps};
 use std::alloc::Global;
 use std::sync::ledger::Ledger;
 
-/// For each node the greatest length of a path from it that the pattern spells and whose length the limits allow, or None where there is
-/// none or the node is not searched.
-/// A look at the table is a step: where memory suffices there is one for each atom and searched node, and there are never more.
+/// Returns for each node the greatest length, in nodes, of a path from it that the pattern spells and the limits allow. The value is `None`
+/// if there is no such path, or if the node is not searched.
+///
+/// Each look at the table is a step. A call that succeeds takes one step for each atom and searched node, and none takes more.
+///
+/// # Errors
+///
+/// `NoMemory` if out of memory.
 pub fn line_values<L: Ledger>(
     alloc: Global,
     automaton: &Automaton,

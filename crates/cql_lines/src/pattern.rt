@@ -5,21 +5,21 @@ ghost use Rattle.cql_lines.specs.PatternTrees.{patterns_in};
 use cq_common::NoMemory;
 use std::alloc::Global;
 
-/// What a path has to be, node by node.
+/// A pattern of paths, node by node.
 #[cycle(pattern)]
 #[derive(Drop)]
 pub enum Pattern {
     /// One node at which the atom of this number holds.
     Atom(u32),
-    /// A path that is split into parts, one for each pattern in order.
+    /// A path in parts, one for each pattern in order.
     Sequence(Patterns),
-    /// Any number of parts, none included.
+    /// Any number of parts, or none.
     Star(Box<Pattern>),
     /// One part or more.
     Plus(Box<Pattern>),
     /// No part or one.
     Maybe(Box<Pattern>),
-    /// At least as many parts as the first number says, and at most as many as the second.
+    /// A number of parts from the first number to the second.
     Times(u32, u32, Box<Pattern>),
 }
 
@@ -31,7 +31,7 @@ pub struct Patterns {
 }
 
 impl Patterns {
-    /// No patterns.
+    /// Returns an empty list of patterns.
     pub fn new(alloc: Global) -> Patterns
         ensures { patterns_in result ≡ [] }
     {
@@ -40,7 +40,11 @@ impl Patterns {
         }
     }
 
-    /// Adds a pattern at the end. A pattern for which no memory is found is dropped.
+    /// Adds a pattern at the end.
+    ///
+    /// # Errors
+    ///
+    /// `NoMemory` if out of memory. The pattern is then dropped.
     pub fn push(&mut self, item: Pattern) -> Result<(), NoMemory>
         ensures more { OnOk result (patterns_in self.new ≡ patterns_in self.old ++ item ∷ []) }
         ensures same { OnErr result (patterns_in self.new ≡ patterns_in self.old) }
@@ -49,14 +53,14 @@ impl Patterns {
         Ok(())
     }
 
-    /// How many there are.
+    /// Returns the number of patterns.
     pub fn len(&self) -> usize
         ensures { result ≡ length (patterns_in self.now) }
     {
         self.items.len()
     }
 
-    /// All of them, in order.
+    /// Returns all patterns in order.
     pub fn as_slice(&self) -> &[Pattern]
         ensures { result.now ≡ patterns_in self.now }
     {

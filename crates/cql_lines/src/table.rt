@@ -1,4 +1,4 @@
-//! Which atoms hold at which nodes.
+//! Tables of the atoms that hold at each node.
 ghost use Rattle.std.specs.Prelude.{◌≤◌, length};
 ghost use Rattle.cql_lines.specs.Limits.{most_nodes};
 
@@ -8,8 +8,8 @@ use std::sync::ledger::Ledger;
 
 mod looks;
 
-/// Which atoms hold at which nodes: for each node a word with a bit for each atom. The words are private to this module, which
-/// reads one only where it counts a step, by a counter of the table's own ledger.
+/// The atoms that hold at each node: a word for each node, with a bit for each atom. The words are private to this module. It reads a bit
+/// only if it counts a step, by a counter of the table's own ledger.
 #[derive(Drop)]
 pub struct AtomTable<L: Ledger> {
     atoms: u32,

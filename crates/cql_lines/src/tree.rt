@@ -1,4 +1,4 @@
-//! Trees, made node by node and read.
+//! Building and reading of trees.
 ghost use Rattle.std.specs.Prelude.{◌≡◌, ◌<◌, ◌≤◌, ◌++◌, ◌∷◌, [], length, true, Some, None, IfSome, OnOk, OnErr};
 ghost use Rattle.cql_lines.specs.Limits.{longest_limit};
 ghost use Rattle.cql_lines.specs.Shapes.{joined, is_searched};
@@ -9,8 +9,8 @@ use cq_common::NoMemory;
 use std::alloc::Global;
 
 impl Shape {
-    /// A tree without nodes, for paths down or, with `back`, up. With `primary` each step joins a node and its first child.
-    /// Paths of every length count.
+    /// Returns a tree without nodes, for paths down or, with `back`, up. With `primary` each step joins a node and its first child. Paths
+    /// of every length count.
     pub fn new(alloc: Global, back: bool, primary: bool) -> Shape
         ensures { (tree_nodes_of result ≡ []) × (goes_back result ≡ back) × (is_primary result ≡ primary) × (limits_of result ≡ None) }
     {
@@ -22,7 +22,8 @@ impl Shape {
         }
     }
 
-    /// From now on only paths of `least` to `most` nodes count, both numbers from 1 to 127; of none, where `least` is above `most`.
+    /// Restricts the paths that count to those of `least` to `most` nodes, both numbers from 1 to 127. If `least` is above `most`, none
+    /// counts.
     pub fn limit(&mut self, least: u32, most: u32)
         requires least { (0 < least) × (least ≤ longest_limit) }
         requires most { (0 < most) × (most ≤ longest_limit) }
@@ -33,7 +34,11 @@ impl Shape {
         self.extent = Some(Limits { least, most });
     }
 
-    /// Adds a node: its parent, whether it is searched, and whether it is its parent's first child. A refused call changes nothing.
+    /// Adds a node. `searched` is true if the node is searched, `first` if it is its parent's first child.
+    ///
+    /// # Errors
+    ///
+    /// `NoMemory` if out of memory. The tree is then unchanged.
     pub fn push(&mut self, parent: Option<u32>, searched: bool, first: bool) -> Result<(), NoMemory>
         requires parent { IfSome parent (λ p. p < length (tree_nodes_of self.old)) }
         requires searched { IfSome parent (λ p. searched ≡ true → is_searched (tree_nodes_of self.old) p ≡ true) }
@@ -51,7 +56,7 @@ impl Shape {
         Ok(())
     }
 
-    /// The node above that a node is joined to.
+    /// Returns the parent to which a node is joined, if it is joined to one.
     pub(crate) fn joined_to(&self, node: usize) -> Option<u32>
         requires { node < length self.now.tree_nodes.items }
         ensures { result ≡ joined self.now.primary self.now.tree_nodes.items node }
@@ -63,7 +68,7 @@ impl Shape {
         None
     }
 
-    /// Whether a node is searched.
+    /// Returns true if a node is searched.
     pub(crate) fn searched(&self, node: usize) -> bool
         requires { node < length self.now.tree_nodes.items }
         ensures { result ≡ is_searched self.now.tree_nodes.items node }
@@ -71,7 +76,7 @@ impl Shape {
         self.tree_nodes[node].searched
     }
 
-    /// How many nodes there are.
+    /// Returns the number of nodes.
     pub(crate) fn len(&self) -> usize
         ensures { result ≡ length self.now.tree_nodes.items }
     {

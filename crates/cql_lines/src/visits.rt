@@ -1,4 +1,4 @@
-//! The nodes of a tree visited one by one, each after those whose lengths it needs.
+//! Visits of the nodes of a tree, each after the nodes whose lengths it needs.
 ghost use Rattle.std.specs.Prelude.{◌≡◌, ℕ, ◌+◌, ◌*◌, ◌<◌, ◌≤◌, get_or, length, map, None, ◌-◌, false, IfOk, OnErr, OnOk, replicate, true};
 ghost use Rattle.cql_lines.specs.Internal.Cells.{Represents, both_kinds, Counts, AllowedLength};
 ghost use Rattle.cql_lines.specs.Internal.DownwardPass.{IsParentUpdate, DownInvariant, cell};
@@ -17,7 +17,7 @@ use cq_common::{NoMemory, Steps};
 use std::alloc::{AllocError, Global};
 use std::sync::ledger::Ledger;
 
-// What a node's lengths give to those of the node above.
+// Adds a node's lengths to the row of the node above.
 fn merge_into_parent<R: StateLengths>(
     shape: &Shape,
     node: usize,
@@ -38,7 +38,7 @@ fn merge_into_parent<R: StateLengths>(
     rows[above as usize].merge(own, count);
 }
 
-// The greatest allowed length at one node, and what its lengths give to the row of the node above.
+// Returns the greatest allowed length at one node, and adds the node's lengths to the row of the node above.
 fn visit_down<L: Ledger, R: StateLengths>(
     rules: &[Transition],
     first: u64,
@@ -89,7 +89,7 @@ fn blank_values(alloc: Global, nodes: usize) -> Result<Vec<Option<u32>>, AllocEr
     vec![in alloc; None; nodes]
 }
 
-// For each node the greatest allowed length of a way down that is read.
+// For each node, the greatest allowed length of a way down that is read.
 fn longest_down<L: Ledger, R: StateLengths>(
     alloc: Global,
     rules: &[Transition],
@@ -121,7 +121,7 @@ fn longest_down<L: Ledger, R: StateLengths>(
     Ok(values)
 }
 
-// The lengths of the node above, none where there is no such node.
+// The row of the node above, or a row without lengths if there is no such node.
 fn row_above<R: StateLengths>(shape: &Shape, node: usize, rows: &[R]) -> R
     requires node { node < length shape.now.tree_nodes.items }
     requires rows { length rows.now ≡ length shape.now.tree_nodes.items }
@@ -133,7 +133,7 @@ fn row_above<R: StateLengths>(shape: &Shape, node: usize, rows: &[R]) -> R
     }
 }
 
-// The greatest allowed length at one node, and its lengths in its row.
+// Returns the greatest allowed length at one node, and puts the node's lengths in its row.
 fn visit_up<L: Ledger, R: StateLengths>(
     rules: &[Transition],
     first: u64,
@@ -167,7 +167,7 @@ fn visit_up<L: Ledger, R: StateLengths>(
     own.greatest_allowed(first, rules.len(), shape.extent)
 }
 
-// For each node the greatest allowed length of a way up that is read.
+// For each node, the greatest allowed length of a way up that is read.
 fn longest_up<L: Ledger, R: StateLengths>(
     alloc: Global,
     rules: &[Transition],
@@ -198,7 +198,11 @@ fn longest_up<L: Ledger, R: StateLengths>(
     Ok(values)
 }
 
-/// For each node the greatest allowed length of a way that is read.
+/// Returns for each node the greatest allowed length of a way that is read.
+///
+/// # Errors
+///
+/// `NoMemory` if out of memory.
 pub fn longest<L: Ledger, R: StateLengths>(
     alloc: Global,
     rules: &[Transition],

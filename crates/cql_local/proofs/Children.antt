@@ -15,11 +15,11 @@ module _ (p : ℕ → Bool) (nodes : List Node) (variations : Bool) (n c : ℕ) 
   one_more = ap (λ l. list_any p (filter (is_searched variations nodes) l)) (child_next nodes n c o parent next)
       ∙ any_kept p (is_searched variations nodes c) c (filter (is_searched variations nodes) (children_from nodes n o))
 
-  -- at a child that is searched it holds
+  -- the filter holds at a child that is searched
   pub child_found : (is_searched variations nodes c && p c) ≡ true → list_any p (filter (is_searched variations nodes) (children_from nodes n (Some c))) ≡ whole → true ≡ whole
   child_found is had = sym (ap (λ b. b || list_any p (filter (is_searched variations nodes) (children_from nodes n o))) is) ∙ sym one_more ∙ had
 
-  -- a child that isn't searched, or at which it doesn't hold
+  -- the child isn't searched, or the filter doesn't hold there
   pub child_passed : (is_searched variations nodes c && p c) ≡ false → list_any p (filter (is_searched variations nodes) (children_from nodes n (Some c))) ≡ whole
       → list_any p (filter (is_searched variations nodes) (children_from nodes n o)) ≡ whole
   child_passed is had = sym (ap (λ b. b || list_any p (filter (is_searched variations nodes) (children_from nodes n o))) is) ∙ sym one_more ∙ had

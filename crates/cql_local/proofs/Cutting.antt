@@ -28,7 +28,7 @@ use Rattle.cql_values.proofs.Ranges.{left, right, both, same_any, same_truth, so
 use Rattle.cql_values.specs.FilterValues.{settles}
 use Rattle.cql_local.specs.Internal.Candidates.{KeepsCandidates, IsName, GivesOnlyName, IntersectInName}
 
--- cut twice, where what is asked asks as much each time
+-- candidates of candidates, for tests that the filter implies
 pub cut_again : (test more : ℕ → Bool) (old mid new : ℕ) → ((s : ℕ) → is_in old s ≡ true → test s ≡ true → more s ≡ true) → KeepsCandidates test old mid → KeepsCandidates more mid new → KeepsCandidates test old new
 cut_again test more old mid new implies first second = record {
   within = λ s e. first.within s (second.within s e);
@@ -90,7 +90,7 @@ named name fs i f low is own = record {
   own = λ tree e n s t all. own.own tree e n s t (each_passes (λ v. has v t) tree ((name, s) ∷ e) n fs i f low is all);
 }
 
--- some square of both that passes, where one of them is alone
+-- some square of both sets that passes, if one of them has a single square
 pub first_is : (test : ℕ → ℕ → Bool) (x y : Value) (s : ℕ) → x ≡ squares_where (λ t. s == t) → holds (related test x y) ≡ true
     → list_any (λ t. has y t && test s t) squares ≡ true
 first_is test x y s is e =
@@ -133,7 +133,7 @@ cut_common test set old more keeps cut = record {
 pub uncut : (test : ℕ → Bool) (set : ℕ) → KeepsCandidates test set set
 uncut test set = record { within = λ s e. e; keeps = λ s e h. e }
 
--- a square that all sets of a list have, where one of them is the name
+-- a square that all sets of a list have, if the name is one of them
 pub in_common : (tree : SearchedTree) (e : Names) (n s : ℕ) (name : List ℕ) (fs : FilterTrees) → IntersectInName name fs → holds (intersection_of (values tree [] ((name, s) ∷ e) fs n)) ≡ true
     → list_all (λ v. has v s) (values tree [] ((name, s) ∷ e) fs n) ≡ true
 in_common tree e n s name fs named h =
@@ -145,7 +145,7 @@ in_common tree e n s name fs named h =
 pub all_in : (t : ℕ) → t < 64 → is_in 18446744073709551615 t ≡ true
 all_in t low = is_in_bit 18446744073709551615 t true (bit_at_ones 64 t low)
 
--- where men of a designator stand
+-- the squares that have the men of a designator
 pub standing_is : (tree : SearchedTree) (e : Names) (n : ℕ) (f : Filter) (d : Designator) (mask : ℕ) → f.form ≡ Squares d → mask < 2 ^ 64
     → IsBitboard mask (stands_on (position_at tree n).men (Some d)) → as_squares (is_in mask) ≡ value tree [] e (filter_tree f) n
 unfolding value designator_image
@@ -156,7 +156,7 @@ pub standing_fixed : (tree : SearchedTree) (e : Names) (n : ℕ) (f : Filter) (d
     → IsBitboard mask (stands_on (position_at tree n).men (Some d)) → has (value tree [] e (filter_tree f) n) ≡ is_in mask
 standing_fixed tree e n f d mask is fits m = sym (ap has (standing_is tree e n f d mask is fits m))
 
--- a move is asked for, where none led
+-- the filter on a move doesn't hold if no move led to the node
 pub none_met : (tree : SearchedTree) (e : Names) (n : ℕ) (p : PlayedTree) → led_to tree.game.nodes n ≡ None → played_value tree [] e p n ≡ true → ⊥
 unfolding value
 none_met tree e n (move_of origin goal taken promoted) none h =
@@ -176,12 +176,12 @@ no_led (Some l) e = cc
 pub not_led : (l : Option PlainLed) (o : Option Led) → o ≡ option_map as_led l → o ≡ None → l ≡ None
 not_led l o is none = no_led l (sym is ∙ none)
 
--- what holds of every square of a set, or of some, hangs on what it has
+-- the value of a condition on squares depends only on the squares of the set
 pub square_of_has : (every : Bool) (x y : Value) (asked : ℕ → Bool) → has x ≡ has y → square_of every x asked ≡ square_of every y asked
 square_of_has true x y asked e = ap (λ h. as_truth (list_all asked (filter h squares))) e
 square_of_has false x y asked e = ap (λ h. as_truth (list_any asked (filter h squares))) e
 
--- it holds of some square of a set where it holds of one of those that are left
+-- a condition holds for some square of a set exactly if it holds for one of the candidates
 pub cut_same : (test : ℕ → Bool) (set new : ℕ) → KeepsCandidates test set new → square_of false (as_squares (is_in new)) test ≡ square_of false (as_squares (is_in set)) test
 cut_same test set new cut =
     by_settling false (as_squares (is_in new)) test (list_any (settles false (is_in set) test) squares) (same_any (settles false (is_in set) test) (settles false (is_in new) test)
@@ -190,7 +190,7 @@ cut_same test set new cut =
     (λ e. both (is_in set s) (test s) (cut.within s (left (is_in new s) (test s) e)) (right (is_in new s) (test s) e))))
     ∙ sym (by_settling false (as_squares (is_in set)) test (list_any (settles false (is_in set) test) squares) refl)
 
--- the parts of a move, as they are kept
+-- the parts of a move in memory
 held_is : (o : Held-Played-origin) → written_tree (view-Played-origin o) ≡ held_tree o
 held_is None' = refl
 held_is (Some' p i f) = refl
@@ -242,7 +242,7 @@ are_met (Some m) l x y z w is e =
       taken_met = ap (λ k. meets z k.taken) same ∙ all.2;
     }
 
--- what is asked of a move, where it holds with a square bound to a name
+-- the filter on a move holds with a square bound to a name
 pub move_meets : (tree : SearchedTree) (e : Names) (n : ℕ) (p : Played) (l : Led) → Some l ≡ option_map as_led (led_to tree.game.nodes n) → played_value tree [] e (played_tree p) n ≡ true
     → AreMet l (written_value tree [] e (origin_of p) (before tree n)) (written_value tree [] e (goal_of p) n) (written_value tree [] e (taken_of p) (before tree n))
     (written_value tree [] e (promoted_of p) n)

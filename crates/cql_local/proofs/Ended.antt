@@ -1,4 +1,4 @@
--- Where a move began and ended, and what is met of it.
+-- The squares of the move to a node, and the parts of the filter that agree with them.
 use Rattle.std.proofs.Common.{◌≡◌, ℕ, true, false, List, Some, None, refl, ap, ap₂, ◌∙◌}
 use Rattle.std.specs.Prelude.{if◌then◌else◌, not}
 use Rattle.cq_position.specs.Games.{Node, node_at}

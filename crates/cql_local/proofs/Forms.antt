@@ -1,4 +1,4 @@
--- What a form gives, from what its parts give.
+-- The value of a form, by the values of its parts.
 use Rattle.std.proofs.Common.{◌≡◌, ℕ, Bool, List, [], refl, ap, ap₂, ◌∙◌}
 use Rattle.std.specs.Prelude.{is_some}
 use Rattle.cq_position.specs.Games.{node_at}

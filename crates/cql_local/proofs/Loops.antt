@@ -38,7 +38,7 @@ pub any_values : (test : Value → Bool) (tree : SearchedTree) (e : Names) (n : 
     → list_any test (values tree [] e (filter_trees xs) n) ≡ list_any (λ f. test (value tree [] e (filter_tree f) n)) xs
 any_values test tree e n xs = ap (list_any test) (values_mapped tree e n xs) ∙ any_mapped test (λ f. value tree [] e (filter_tree f) n) xs
 
--- what is left of a list, one item on
+-- the rest of a list after one more item
 next_item : {A : Type 0} (xs : List A) (i : ℕ) (x : A) → i < length xs → x ≡ get_or xs i x → drop i xs ≡ x ∷ drop (i + 1) xs
 next_item xs i x low is = drop_more xs i x low ∙ ap (λ y. y ∷ drop (i + 1) xs) (sym is)
 
@@ -107,7 +107,7 @@ module _ (every : Bool) (test : ℕ → Bool) (set : ℕ) (some : 0 < set) (fits
   lowest_first = same_truth (list_any (settles every (is_in set) test) squares) (passes low || list_any rest squares)
       (λ e. let f = square_found (settles every (is_in set) test) e in there f.k (omega (arith, f.high)) f.passes) back
 
--- the same where the lowest square and its bit have names
+-- the same with names for the lowest square and its bit
 pub settled_first : (every : Bool) (test : ℕ → Bool) (set least bit : ℕ) → 0 < set → set < 2 ^ 64 → least ≡ trailing_zeros w64 set → bit ≡ least
     → list_any (settles every (is_in set) test) squares ≡ ((if every then not (test least) else test least) || list_any (settles every (is_in (cleared set bit)) test) squares)
 settled_first every test set least bit some fits e f =
@@ -122,7 +122,7 @@ none_settles every test set none = ap (λ m. list_any (settles every (is_in m) t
     ∙ same_truth (list_any (settles every (is_in 0) test) squares) false
     (λ e. let f = square_found (settles every (is_in 0) test) e in let g = sym (nothing_in f.k) ∙ left (is_in 0 f.k) (if every then not (test f.k) else test f.k) f.passes in cc) (λ e. cc)
 
--- a truth that differs from what is asked of every square, or that is as asked of some
+-- a truth other than `every` settles the condition
 pub settling : (every b t : Bool) → b ≡ t → not (beq b every) ≡ true → (if every then not t else t) ≡ true
 settling true true t is e = cc
 settling true false t is e = ap not (sym is)
@@ -161,14 +161,14 @@ pub rebound_length : (a : Names) (s : ℕ) → length (rebound a s) ≡ length a
 rebound_length [] s = refl
 rebound_length (x ∷ a) s = refl
 
--- what is asked of each square of a set
+-- the condition on each square of a set
 pub square_value : (tree : SearchedTree) (e : Names) (n at : ℕ) (every : Bool) (text : List ℕ) (a b : FilterTree) (set : ℕ) (x : Value) → x ≡ value tree [] e a n → has x ≡ is_in set
     → square_of every (as_squares (is_in set)) (λ s. holds (value tree [] ((text, s) ∷ e) b n)) ≡ value tree [] e (filter_at at (square every text a b)) n
 unfolding value
 square_value tree e n at every text a b set x of_a of_set =
     square_of_has every (as_squares (is_in set)) (value tree [] e a n) (λ s. holds (value tree [] ((text, s) ∷ e) b n)) (sym of_set ∙ ap has of_a)
 
--- the union of sets, and what they have in common
+-- the union and the intersection of sets
 pub union_whole : (tree : SearchedTree) (e : Names) (n : ℕ) (xs : List Filter) (fs : FilterTrees) (i mask : ℕ) → mask < 2 ^ 64 → length xs ≤ i → filter_trees xs ≡ fs
     → IsBitboard mask (λ s. list_any (λ f. has (value tree [] e (filter_tree f) n) s) (take i xs)) → as_squares (is_in mask) ≡ union_of (values tree [] e fs n)
 union_whole tree e n xs fs i mask fits high is m =

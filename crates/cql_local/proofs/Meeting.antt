@@ -1,4 +1,4 @@
--- What is asked of the move to a node, part by part.
+-- The filter on the move to a node, part by part.
 use Rattle.std.proofs.Common.{◌≡◌, ℕ, Bool, true, false, ◌&&◌, [], Option, Some, None, option_map, refl, sym, ap, ap₂, ◌∙◌}
 use Rattle.std.specs.Prelude.{is_some, unwrap_or}
 use Rattle.std.specs.declared.alloc.Global.{Global}

@@ -1,4 +1,4 @@
--- After which moves a filter may hold.
+-- The moves after which a filter may hold.
 use Rattle.std.proofs.Common.{◌≡◌, ℕ, Bool, true, false, ◌&&◌, List, [], Option, Some, None, refl, sym, ap, ◌∙◌}
 use Rattle.std.specs.Prelude.{IfSome}
 use Rattle.cq_position.specs.Games.{Node}
@@ -26,7 +26,7 @@ bound_meets e f (Some set) is = record { keeps = λ tree n s h. sym (ap (λ has_
 pub any_meets : (e : Names) (w : WrittenTree) → MayMeet e w None
 any_meets e w = record { keeps = λ tree n s h. refl }
 
--- where all parts of a move are met
+-- all parts agree with the move
 all_met : (o : Option PlainLed) (x y z w : Option Value) (moves : MoveConstraint) (nodes : List Node) (n : ℕ) → led_to nodes n ≡ o → ((s : ℕ) → meets x (Some s) ≡ true → allows moves.origins s ≡ true)
     → ((s : ℕ) → meets y (Some s) ≡ true → allows moves.goals s ≡ true) → meets_all o x y z w ≡ true → LedByAllowedMove moves nodes n
 all_met None x y z w moves nodes n is origins goals h = cc
@@ -58,7 +58,7 @@ ends_allowed moves nodes n e ends led =
 pub no_ends_led : (moves : MoveConstraint) (nodes : List Node) (n : ℕ) → led_to nodes n ≡ None → LedByAllowedMove moves nodes n → ⊥
 no_ends_led moves nodes n none led = let h = sym none ∙ led.is in cc
 
--- what would be so if it held isn't, and so it doesn't hold
+-- a filter doesn't hold if something that follows from it is false
 pub not_held : (holds_here passes : Bool) → (holds_here ≡ true → passes ≡ true) → passes ≡ false → false ≡ holds_here
 not_held true passes implies is = let h = implies refl in cc
 not_held false passes implies is = refl

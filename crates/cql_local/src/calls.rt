@@ -1,4 +1,4 @@
-//! The public calls.
+//! The public functions.
 ghost use Rattle.std.specs.Prelude.{◌≡◌, ◌<◌, ◌∷◌, [], length, IfOk, IfSome};
 ghost use Rattle.cql_local.specs.NodeScopes.{tree_of};
 ghost use Rattle.cql_syntax.specs.Meaning as meaning;
@@ -15,9 +15,15 @@ use cql_values::names::Names;
 use cql_values::value::Value;
 use pgn_tree::Game;
 
-/// Whether what is asked holds of every square of a set, or of some, at one of the game's nodes, with the name bound to the square. Nothing
-/// of a filter that is not answered node by node: of a line, a family, a sum, `find` downwards, `*`, `max`, `min`, or a word that counts
-/// plies or asks for what comes after. Memory is asked for the names alone.
+/// Returns the truth of a condition with the name bound to each square of a set, at one of the game's nodes. With `every` it must hold for
+/// every square, else for some.
+///
+/// The result is `None` if the value depends on a filter that is not local: a line, a family, a sum, `find` downwards, `*`, `max`, `min`,
+/// `terminal`, `ply` or `depth`. Only the names take memory.
+///
+/// # Errors
+///
+/// `NoMemory` if out of memory.
 pub fn local_square_truth(
     every: bool,
     name: &[u8],
@@ -40,11 +46,11 @@ pub fn local_square_truth(
     }
 }
 
-/// The most nodes of a game in which the nodes above each node are looked at, one by one.
+/// The greatest number of nodes of a game in which the nodes above each node are searched, one by one.
 const MOST_NODES: u32 = 1_024;
 
-/// Whether what is asked of every square, or of some, is answered node by node, and cheaply in this game. It is a guess, on which nothing
-/// rests. The nodes above a node are looked at where few squares are looked at there.
+/// Returns true if a condition on every square, or on some, can be evaluated node by node, and cheaply in this game. The result is an
+/// estimate, and no contract depends on it. The nodes above a node are searched only if few squares are candidates there.
 pub fn is_cheap_locally(every: bool, name: &[u8], asked: &Filter, game: &Game) -> bool {
     is_cheap(
         asked,

@@ -1,4 +1,4 @@
-//! Squares that are candidates for a name: of the squares of a set those with which what is asked may hold.
+//! Candidates for a name: those squares of a set for which a condition may hold.
 ghost use Rattle.std.specs.Prelude.{◌≡◌, ℕ, ◌<◌, ◌⊎◌, ◌&&◌, [], ◌∷◌, true, IfSome};
 ghost use Rattle.std.specs.List.{list_any, list_all};
 ghost use Rattle.cq_geometry.specs.Squares.{squares};
@@ -21,16 +21,16 @@ use cql_values::sets::{attacked_by, attacking};
 use cql_values::value::Value;
 use cql_values::words::standing_on;
 
-/// A name, which is bound to candidate squares at a node.
+/// A name that is bound to candidate squares at a node.
 #[derive(Clone, Copy)]
 struct LocalBinding<'a, 'b> {
     name: &'a [u8],
     place: &'a NodeScope<'b>,
-    /// What is bound outside, the name itself perhaps, which is hidden here.
+    /// The bindings outside. One of them may have the same name, which is hidden here.
     names: &'a Names,
 }
 
-/// Squares of a set by which is answered whether what is asked holds of every square of it, or of some.
+/// Returns squares of a set that suffice to tell if a condition holds for every square of the set, or for some.
 pub(crate) fn squares_to_try<'x, 'y>(
     every: bool,
     name: &'x [u8],
@@ -50,7 +50,7 @@ pub(crate) fn squares_to_try<'x, 'y>(
     candidates(&trial, asked, set)
 }
 
-// Of the squares of a set those with which what is asked may hold.
+// The squares of a set for which a filter may hold.
 #[cycle(candidates)]
 #[tactic(auto, unfolding(cql_syntax::specs::Meaning::value))]
 fn candidates(trial: &LocalBinding, asked: &Filter, set: u64) -> u64
@@ -68,7 +68,7 @@ fn candidates(trial: &LocalBinding, asked: &Filter, set: u64) -> u64
     }
 }
 
-// The same of a chain of filters.
+// The candidates of a chain of filters.
 #[cycle(candidates)]
 fn candidates_in_chain(trial: &LocalBinding, chain: Chain, parts: &Filters, set: u64) -> u64
     requires { IsAt trial.now.place.now }
@@ -81,7 +81,7 @@ fn candidates_in_chain(trial: &LocalBinding, chain: Chain, parts: &Filters, set:
     }
 }
 
-// Of filters that must all hold.
+// The candidates of filters that must all hold.
 #[cycle(candidates)]
 fn candidates_in_all(trial: &LocalBinding, parts: &Filters, set: u64) -> u64
     requires { IsAt trial.now.place.now }
@@ -94,7 +94,7 @@ fn candidates_in_all(trial: &LocalBinding, parts: &Filters, set: u64) -> u64
     left
 }
 
-// Of sets that have a square in common.
+// The candidates of sets that must have a square in common.
 fn candidates_in_common(trial: &LocalBinding, parts: &Filters, set: u64) -> u64
     requires { IsAt trial.now.place.now }
     ensures { KeepsCandidates (λ s. spec.holds (spec.intersection_of (values_with trial.now (filters_tree parts.now) s))) set result }
@@ -109,7 +109,7 @@ fn candidates_in_common(trial: &LocalBinding, parts: &Filters, set: u64) -> u64
     left
 }
 
-// Whether one of some sets has no square but the one that is bound to the name.
+// True only if one of some sets has no square but the one that is bound to the name.
 fn some_gives_only_name(name: &[u8], parts: &Filters) -> bool
     ensures { result ≡ true → IntersectInName name.now (filters_tree parts.now) }
 {
@@ -121,7 +121,7 @@ fn some_gives_only_name(name: &[u8], parts: &Filters) -> bool
     false
 }
 
-// The squares with which a filter of two parts may hold.
+// The candidates of a filter of two parts. For another filter all squares are candidates.
 #[tactic(auto, unfolding(cql_syntax::specs::Meaning::value))]
 fn candidates_if_pair(trial: &LocalBinding, asked: &Filter, set: u64) -> u64
     requires { IsAt trial.now.place.now }
@@ -133,7 +133,7 @@ fn candidates_if_pair(trial: &LocalBinding, asked: &Filter, set: u64) -> u64
     }
 }
 
-// The squares of a filter, as far as they are known; else all.
+// The squares of a filter if they don't depend on the name, else all squares.
 fn fixed_or_all(trial: &LocalBinding, part: &Filter) -> u64
     requires { IsAt trial.now.place.now }
     ensures { (s t : ℕ) → t < 64 → spec.has (value_with trial.now (filter_tree part.now) s) t ≡ true → is_in result t ≡ true }
@@ -144,7 +144,7 @@ fn fixed_or_all(trial: &LocalBinding, part: &Filter) -> u64
     }
 }
 
-// Of men that attack a square, or that are attacked from it.
+// The candidates of a filter on men that attack a square, or that are attacked from it.
 fn candidates_in_pair(
     trial: &LocalBinding,
     pair: Pair,
@@ -179,7 +179,7 @@ fn candidates_in_pair(
     }
 }
 
-// The squares of a set whose men attack a square of a filter, as far as its squares are known.
+// The squares of a set whose men attack a square of a filter. All are candidates if the filter may depend on the name.
 fn attacking_some(trial: &LocalBinding, goal: &Filter, set: u64) -> u64
     requires { IsAt trial.now.place.now }
     ensures { KeepsCandidates (λ s. list_any (λ t. spec.has (value_with trial.now (filter_tree goal.now) s) t
@@ -194,7 +194,7 @@ fn attacking_some(trial: &LocalBinding, goal: &Filter, set: u64) -> u64
     }
 }
 
-// The squares of a set that a man on a square of a filter attacks, as far as its squares are known.
+// The squares of a set that a man on a square of a filter attacks. All are candidates if the filter may depend on the name.
 fn attacked_by_some(trial: &LocalBinding, origin: &Filter, set: u64) -> u64
     requires { IsAt trial.now.place.now }
     ensures { KeepsCandidates (λ s. list_any (λ t. spec.has (value_with trial.now (filter_tree origin.now) s) t
@@ -209,7 +209,7 @@ fn attacked_by_some(trial: &LocalBinding, origin: &Filter, set: u64) -> u64
     }
 }
 
-// The squares of the move that led to the node, as far as its parts are the name.
+// The candidates of a filter on the move to the node: a part that is the name allows one square of the move.
 #[tactic(auto, unfolding(cql_syntax::specs::Meaning::value))]
 fn candidates_in_move(trial: &LocalBinding, played: &Played, set: u64) -> u64
     requires { IsAt trial.now.place.now }
@@ -241,7 +241,7 @@ fn allowed(name: &[u8], part: &Option<Box<Filter>>, square: Option<Square>) -> u
     }
 }
 
-// The squares of a filter whose value the name does not change, where it is plain that it doesn't.
+// The squares of a filter that plainly doesn't depend on the name.
 #[tactic(auto, unfolding(cql_syntax::specs::Meaning::value, cql_syntax::specs::Contexts::designator_image))]
 fn fixed(trial: &LocalBinding, f: &Filter) -> Option<u64>
     requires { IsAt trial.now.place.now }
@@ -260,7 +260,7 @@ fn fixed(trial: &LocalBinding, f: &Filter) -> Option<u64>
     }
 }
 
-// Whether a filter has no square but the one that is bound to the name.
+// True only if a filter has no square but the one that is bound to the name.
 #[tactic(auto, unfolding(cql_syntax::specs::Meaning::value))]
 fn gives_only_name(name: &[u8], f: &Filter) -> bool
     ensures { result ≡ true → GivesOnlyName name.now (filter_tree f.now) }
@@ -272,7 +272,7 @@ fn gives_only_name(name: &[u8], f: &Filter) -> bool
     }
 }
 
-// Whether a pair asks which squares of the first set attack the second, or are attacked by it.
+// True only for the two filters of attack.
 fn is_attack(pair: Pair) -> bool
     ensures { result ≡ true → (pair ≡ Attacks) ⊎ (pair ≡ AttackedBy) }
 {
@@ -282,7 +282,7 @@ fn is_attack(pair: Pair) -> bool
     }
 }
 
-// Whether a filter is the name alone.
+// True only if a filter is the name alone.
 #[tactic(auto, unfolding(cql_syntax::specs::Meaning::value))]
 fn is_name(name: &[u8], f: &Filter) -> bool
     ensures { result ≡ true → IsName name.now (filter_tree f.now) }

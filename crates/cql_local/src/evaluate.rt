@@ -1,4 +1,4 @@
-//! What a filter gives at a node, by recursion on the filter.
+//! The value of a filter at a node, by recursion on the filter.
 ghost use Rattle.std.specs.Prelude.{◌≡◌, ◌<◌, ◌&&◌, [], length, ℕ, Some, IfOk, option_to_list};
 ghost use Rattle.std.specs.List.{list_any};
 ghost use Rattle.cq_geometry.specs.Squares.{squares};
@@ -35,7 +35,12 @@ use cql_values::value::Value;
 use cql_values::walks::is_searched;
 use cql_values::words::directions;
 
-/// What a filter gives at a node.
+/// Returns the value of a filter at a node.
+///
+/// # Errors
+///
+/// - `NotLocal` if the value depends on a filter that can't be evaluated at one node.
+/// - `NoMemory` if out of memory.
 #[cycle(evaluate)]
 pub(crate) fn evaluate(
     f: &Filter,
@@ -89,7 +94,7 @@ pub(crate) fn evaluate(
     }
 }
 
-// What a word or mark before a part gives.
+// The value of a word or mark before a part.
 #[cycle(evaluate)]
 fn unary_at(
     word: Unary,
@@ -114,7 +119,7 @@ fn unary_at(
     }
 }
 
-// Whether a filter holds at the parent of a node, if it has one.
+// True if a filter holds at the parent of a node. It is false at the root.
 #[cycle(evaluate)]
 fn at_parent(
     part: &Filter,
@@ -137,7 +142,7 @@ fn at_parent(
     Ok(Value::Truth(value.holds()))
 }
 
-// Whether a filter holds at a child of a node, one of those that are searched.
+// True if a filter holds at a child of a node that is searched.
 #[cycle(evaluate)]
 fn some_child(
     part: &Filter,
@@ -164,7 +169,7 @@ fn some_child(
     Ok(Value::Truth(false))
 }
 
-// Whether a node is searched, and a filter holds there.
+// True if a node is searched and a filter holds there.
 #[cycle(evaluate)]
 fn holds_searched(
     part: &Filter,
@@ -183,7 +188,7 @@ fn holds_searched(
     Ok(value.holds())
 }
 
-// Whether a filter holds at a node or at one above it.
+// True if a filter holds at a node or at one above it.
 #[cycle(evaluate)]
 fn some_above(
     part: &Filter,
@@ -208,7 +213,7 @@ fn some_above(
     Ok(Value::Truth(false))
 }
 
-// Whether a filter holds at a node, which it does after some moves alone.
+// True if a filter holds at a node. It isn't evaluated after a move that excludes it.
 #[cycle(evaluate)]
 fn holds_after(
     moves: &MoveConstraint,
@@ -228,7 +233,7 @@ fn holds_after(
     Ok(value.holds())
 }
 
-// What a chain gives.
+// The value of a chain.
 #[cycle(evaluate)]
 fn chain_at(
     chain: Chain,
@@ -250,7 +255,7 @@ fn chain_at(
     }
 }
 
-// What one of some filters of a kind gives, or all of them together.
+// The value of any of some filters of a kind.
 #[cycle(evaluate)]
 fn any_at(
     kind: Kind,
@@ -269,7 +274,7 @@ fn any_at(
     }
 }
 
-// Whether all of some filters hold.
+// True if all of some filters hold.
 #[cycle(evaluate)]
 fn all_of(parts: &Filters, place: &NodeScope, names: &mut Names) -> Result<Value, Refusal<NotLocal>>
     requires { IsAt place.now }
@@ -285,7 +290,7 @@ fn all_of(parts: &Filters, place: &NodeScope, names: &mut Names) -> Result<Value
     Ok(Value::Truth(true))
 }
 
-// Whether one of some filters holds.
+// True if one of some filters holds.
 #[cycle(evaluate)]
 fn some_of(
     parts: &Filters,
@@ -344,7 +349,12 @@ fn common_of(
     Ok(Value::Set(mask))
 }
 
-/// Whether what is asked holds of every square of a set, or of some.
+/// Returns true if a condition holds for every square of a set, or for some.
+///
+/// # Errors
+///
+/// - `NotLocal` if the value depends on a filter that can't be evaluated at one node.
+/// - `NoMemory` if out of memory.
 #[cycle(evaluate)]
 pub(crate) fn square_at(
     every: bool,
@@ -372,7 +382,7 @@ pub(crate) fn square_at(
     }
 }
 
-// Whether a square of a set settles what is asked of every square of it, or of some, with the innermost name bound to it.
+// True if a square of a set settles a condition on every square of it, or on some. The innermost name is bound to the square.
 #[cycle(evaluate)]
 fn some_settles(
     every: bool,
@@ -400,8 +410,8 @@ fn some_settles(
     Ok(false)
 }
 
-// Whether the move that led to a node is as it is asked for: where it came from and what it took is asked at the node before, its goal and
-// what it became at the node itself.
+// True if the move to a node agrees with the filter. Its origin and its capture are evaluated at the node before, its goal and its
+// promotion at the node itself.
 #[cycle(evaluate)]
 fn played_at(
     played: &Played,
@@ -437,7 +447,7 @@ fn played_at(
     is_met(&played.promoted, promoted_on(&led), place, names)
 }
 
-// Whether a square that is asked for is there and in the set; nothing is asked by a part that is left out.
+// True if the square exists and is in the set of the part. A part that is left out always agrees.
 #[cycle(evaluate)]
 fn is_met(
     part: &Option<Box<Filter>>,
@@ -460,7 +470,7 @@ fn is_met(
     Ok(has_square(value.squares(), square))
 }
 
-// A goal where a pawn promoted.
+// The goal of a promotion; none if the move is no promotion.
 fn promoted_on(led: &Led) -> Option<Square>
     ensures { result ≡ meaning.goal_if led.now.promoted led.now.goal }
 {

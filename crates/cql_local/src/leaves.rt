@@ -16,7 +16,11 @@ use cql_values::numbers::count_value;
 use cql_values::value::Value;
 use cql_values::words::{is_mated, is_stalemated, is_white, standing_on};
 
-/// What a filter without parts gives; one that has parts, or asks for other nodes, is answered elsewhere.
+/// Returns the value of a filter without parts.
+///
+/// # Errors
+///
+/// `NotLocal` if the filter has parts, or if its value depends on other nodes.
 #[inline(always)]
 #[tactic(auto, unfolding(cql_syntax::specs::Meaning::value, cql_syntax::specs::Contexts::designator_image))]
 pub(crate) fn local_leaf(
@@ -43,7 +47,7 @@ pub(crate) fn local_leaf(
     }
 }
 
-/// What a word gives; nothing of those that ask for other nodes, `terminal`, `ply` and `depth`.
+/// Returns the value of a word. The result is `None` for `terminal`, `ply` and `depth`, which depend on other nodes.
 pub(crate) fn local_word(word: Plain, place: &NodeScope) -> Option<Value>
     requires { place.now.node < length place.now.game.now.nodes }
     ensures { IfSome result (λ v. as_value v ≡ meaning.word_of (tree_of place.now) word place.now.node) }

@@ -1,7 +1,7 @@
-//! Queries asked node by node: what a filter gives at one node of a game, square by square, with no list of nodes made, where it looks at
-//! the node alone, at its move, at its children or at the nodes above it.
+//! Queries evaluated node by node: the value of a filter at one node of a game, square by square, without a list of nodes. The filter may
+//! look at the node alone, at its move, at its children, or at the nodes above it.
 //!
-//! `cql_syntax/specs/Meaning` has the meaning. Of a filter that needs more nothing is told.
+//! `cql_syntax/specs/Meaning` has the meaning. A filter that needs more has no value here.
 #![tactic(auto)]
 
 mod calls;

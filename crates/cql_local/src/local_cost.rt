@@ -1,9 +1,10 @@
-//! Filters that are answered node by node, and cheaply.
+//! Filters that are cheap to evaluate node by node.
 
 use cql_syntax::{Chain, Filter, Filters, Form, Kind, Plain, Played, Unary};
 
-/// Whether a filter is answered node by node, and cheaply, where the nodes above each may be looked at or may not. What is the same at all
-/// nodes, as a tag, and what takes many steps, as a direction, is left to be asked before.
+/// Returns true if a filter is cheap to evaluate node by node. With `upwards` it may search the nodes above each node.
+///
+/// Filters that are the same at all nodes, as a tag, and those that take many steps, as a direction, are left to columns.
 #[cycle(is_cheap)]
 pub(crate) fn is_cheap(f: &Filter, upwards: bool) -> bool {
     match &f.form {
@@ -55,7 +56,8 @@ fn is_cheap_part(part: &Option<Box<Filter>>, upwards: bool) -> bool {
     }
 }
 
-/// Whether of the squares of a name those of a move alone are candidates: a square that the move came from, went to or took on.
+/// Returns true if a condition on some square plainly holds only for squares of a move: its origin, its goal or the square of its capture.
+/// With `every` the result is false.
 #[cycle(is_moved)]
 pub(crate) fn is_moved(every: bool, name: &[u8], asked: &Filter) -> bool {
     match &asked.form {
@@ -90,7 +92,7 @@ fn is_name_part(name: &[u8], part: &Option<Box<Filter>>) -> bool {
     }
 }
 
-// A search for legal moves, or of the nodes above or below, is not cheap.
+// True for a word that takes no search for legal moves or of the nodes above or below.
 fn is_cheap_word(word: Plain) -> bool {
     match word {
         Plain::Mate | Plain::Stalemate | Plain::Terminal | Plain::Ply | Plain::Depth => false,
@@ -107,7 +109,7 @@ fn is_cheap_mark(word: Unary, upwards: bool) -> bool {
     }
 }
 
-// Among the nodes above each those above are not looked at again.
+// True for the mark that searches the nodes above. A second search upwards from each of those nodes is not cheap.
 fn goes_up(word: Unary) -> bool {
     match word {
         Unary::FindUp => true,

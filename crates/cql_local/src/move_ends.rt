@@ -1,4 +1,4 @@
-//! Where the move to a node began and ended.
+//! The squares at which the move to a node began and ended.
 ghost use Rattle.std.specs.Prelude.{◌≡◌, ◌<◌, length, None, IsNone, IfSome};
 ghost use Rattle.cq_position.specs.Led.{led_to};
 ghost use Rattle.cql_local.specs.Internal.MovesSought.{AreMoveEnds};
@@ -6,16 +6,16 @@ ghost use Rattle.cql_local.specs.Internal.MovesSought.{AreMoveEnds};
 use cq_geometry::Square;
 use pgn_tree::Game;
 
-/// Where the move to a node began and ended.
+/// The squares at which the move to a node began and ended.
 #[derive(Clone, Copy)]
 pub(crate) struct MoveEnds {
-    /// The node before.
+    /// The node before the move.
     pub(crate) before: u32,
     pub(crate) origin: Square,
     pub(crate) goal: Square,
 }
 
-/// Where the move to a node began and ended; the root has none, nor a node after a null move.
+/// Returns the squares at which the move to a node began and ended. The root has none, and neither has a node after a null move.
 pub(crate) fn ends_of(game: &Game, n: u32) -> Option<MoveEnds>
     requires { n < length game.now.nodes }
     ensures none { IsNone result → led_to game.now.nodes n ≡ None }

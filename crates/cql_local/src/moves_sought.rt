@@ -1,4 +1,4 @@
-//! After which moves a filter may hold, as far as that is plain.
+//! The moves after which a filter may hold, as far as its form tells them.
 ghost use Rattle.std.specs.Prelude.{◌≡◌, ◌<◌, ◌&&◌, true, length, IfSome};
 ghost use Rattle.cql_local.specs.Internal.MovesSought.{allows, IsBound, LedByAllowedMove, HoldsAfterMoves, MayMeet};
 ghost use Rattle.cql_syntax.specs.TreeOf.{filter_tree, written_tree};
@@ -10,18 +10,18 @@ use cql_values::names::Names;
 use cql_values::sets::has_square;
 use pgn_tree::Game;
 
-/// The moves after which a filter may hold, and nowhere else.
+/// The only moves after which a filter may hold.
 #[derive(Clone, Copy)]
 pub(crate) struct MoveConstraint {
-    /// Whether it holds after a move alone; else it may hold anywhere.
+    /// True if the filter holds only after a move. If false, it may hold at any node.
     pub(crate) moved: bool,
-    /// The squares that the move may come from; all where there is no set.
+    /// The squares that the move may come from; all if it is `None`.
     pub(crate) origins: Option<u64>,
-    /// The squares that it may go to.
+    /// The squares that the move may go to; all if it is `None`.
     pub(crate) goals: Option<u64>,
 }
 
-/// The moves after which a filter may hold, as far as their squares are asked for by names.
+/// Returns the moves after which a filter may hold. Only parts of a move that are names restrict them.
 pub(crate) fn moves_sought(f: &Filter, names: &Names) -> MoveConstraint
     ensures { HoldsAfterMoves names.now (filter_tree f.now) result }
 {
@@ -39,7 +39,7 @@ pub(crate) fn moves_sought(f: &Filter, names: &Names) -> MoveConstraint
     }
 }
 
-// The squares that meet a part of a move, where it is a name.
+// The squares that agree with a part of a move, if the part is a name.
 fn squares_met(part: &Option<Box<Filter>>, names: &Names) -> Option<u64>
     ensures { MayMeet names.now (written_tree part.now) result }
 {
@@ -60,7 +60,7 @@ fn bound(f: &Filter, names: &Names) -> Option<u64>
     }
 }
 
-/// Whether a filter may hold at a node.
+/// Returns true if a filter may hold at a node.
 pub(crate) fn may_hold(moves: &MoveConstraint, game: &Game, n: u32) -> bool
     requires { n < length game.now.nodes }
     ensures { (moves.now.moved ≡ true → LedByAllowedMove moves.now game.now.nodes n) → result ≡ true }
@@ -74,14 +74,14 @@ pub(crate) fn may_hold(moves: &MoveConstraint, game: &Game, n: u32) -> bool
     }
 }
 
-// Whether a move is one of those that are sought.
+// True if a move satisfies the constraint.
 fn allows_move(moves: &MoveConstraint, ends: &MoveEnds) -> bool
     ensures { result ≡ (allows moves.now.origins ends.now.origin && allows moves.now.goals ends.now.goal) }
 {
     is_allowed(moves.origins, ends.origin) && is_allowed(moves.goals, ends.goal)
 }
 
-// Whether a square is one of a set, or any where there is none.
+// True if a square is in the set. Without a set, every square is allowed.
 fn is_allowed(set: Option<u64>, square: Square) -> bool
     ensures { result ≡ allows set square }
 {

@@ -1,12 +1,12 @@
-//! Where filters are asked.
+//! The node at which filters are evaluated.
 
 use pgn_tree::Game;
 
-/// A node of a game at which filters are asked.
+/// A node of a game at which filters are evaluated.
 #[derive(Clone, Copy)]
 pub struct NodeScope<'a> {
     pub game: &'a Game,
-    /// Whether the variations are searched, or the main line alone.
+    /// True if the variations are searched, and false if the main line alone is.
     pub variations: bool,
     pub node: u32,
 }

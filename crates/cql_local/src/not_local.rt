@@ -1,5 +1,5 @@
-//! The refusal of a filter that has no value at one node alone.
+//! The error of a filter that has no value at one node alone.
 
-/// A filter whose value is not found at one node: columns give it.
+/// A filter that can't be evaluated at one node. Its value is in a column.
 #[derive(Clone, Copy)]
 pub(crate) struct NotLocal;

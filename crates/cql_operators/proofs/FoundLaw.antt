@@ -1,4 +1,4 @@
--- What a word gives that asks its part at other nodes.
+-- The values of a word that evaluates its part at other nodes.
 use Rattle.std.proofs.Common.{◌≡◌, ℕ, ◌<◌, ◌&&◌, ◌||◌, Bool, true, false, List, length, get_or, Option, Some, None, refl, sym, ap, ◌∙◌, arith, inr, ⊎_elim}
 use Rattle.std.specs.Prelude.{option_to_list, replicate}
 use Rattle.std.specs.List.{list_any}
@@ -20,7 +20,7 @@ use Rattle.cql_operators.proofs.Parents.{none_there}
 use Rattle.cql_operators.proofs.Raising.{is_child}
 use Rattle.cql_operators.proofs.UnaryLaws.{any_at, any_child, start_wide, start_holds, starts}
 
--- the nodes that each word finds
+-- the nodes at which each word holds, by the nodes at which its part does
 pub raised_found : (nodes : List Node) (set found : List Bool) → AreWithAncestors nodes set found → FindSourceNodes nodes Find set found
 raised_found nodes set found is = record { each = λ n low. is.each n }
 
@@ -44,7 +44,7 @@ flags_found nodes set found flags = record {
 pub never_found : (nodes : List Node) (word : Unary) (set found : List Bool) → is_from_other_nodes word ≡ false → is_from_other_nodes word ≡ true → FindSourceNodes nodes word set found
 never_found nodes word set found away sure = absurd (let no : false ≡ true = sym away ∙ sure in cc)
 
--- it holds at a node at which a word asks it
+-- a word holds if its part holds at a node at which the word evaluates it
 held_at : (tree : SearchedTree) (word : Unary) (v : ℕ → Value) (n m : ℕ) → is_from_other_nodes word ≡ true → ReadsFrom tree.game.nodes word n m → m < length tree.game.nodes → Searched tree m
     → holds (v m) ≡ true → holds (unary_of tree word v n) ≡ true
 held_at tree Find v n m sure asks low seen h =
@@ -77,7 +77,7 @@ truth_of tree Power v n sure = cc
 truth_of tree Light v n sure = cc
 truth_of tree Dark v n sure = cc
 
--- the nodes at which a word's part is asked, where it is asked at the nodes of a set, and those of them at which the part holds
+-- The nodes at which a word evaluates its part, if the word is evaluated at the live nodes, and those of them at which the part holds.
 pub record HeldElsewhere (tree : SearchedTree) (word : Unary) (live : List Bool) (v : ℕ → Value) (set : List Bool) : Type 0 where
   pub wide : List Bool
   pub column : FilterColumn

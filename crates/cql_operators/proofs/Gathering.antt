@@ -54,7 +54,7 @@ terms_all tree e live xs i ts columns end is had = λ n l. had n l ∙ ap (λ ys
 take_next : {A : Type 0} (xs : List A) (i : ℕ) (x : A) → i < length xs → x ≡ get_or xs i x → take (i + 1) xs ≡ take i xs ++ x ∷ []
 take_next xs i x h is = take_more xs i x h ∙ ap (λ y. take i xs ++ y ∷ []) (sym is)
 
--- the kept values of columns at a node
+-- the values of columns at a node, in memory
 pub kept_more : (columns : List FilterColumn) (n i : ℕ) (c : FilterColumn) (before later : List Kept) → i < length columns → c ≡ get_or columns i c
     → map as_value before ≡ all_shown (take i columns) n → later ≡ before ++ kept_at c n ∷ [] → map as_value later ≡ all_shown (take (i + 1) columns) n
 kept_more columns n i c before later below is had more =

@@ -97,7 +97,7 @@ mutual
 pub atoms_below : (cs : PartTrees) (p : Pattern ℕ) (n : ℕ) → p ≡ parts_numbered 0 cs → parts_atoms cs ≤ n → AtomsBelow p n
 atoms_below cs p n is h = subst (λ q. AtomsBelow q n) (sym is) (parts_below 0 n cs (omega (arith, h)))
 
--- what is left of parts in a row
+-- the rest of the parts in a row
 
 drop_next : (xs : List Constituent) (i : ℕ) (c : Constituent) → i < length xs → c ≡ get_or xs i c → part_trees (drop i xs) ≡ more_parts (body_tree c.body) c.mark (part_trees (drop (suc i) xs))
 drop_next [] zero c h e = absurd (omega (arith, h))
@@ -140,7 +140,7 @@ atoms_left xs i c h e = ap parts_atoms (drop_parts xs i c h e)
 pub atoms_end : (xs : List Constituent) (i : ℕ) → length xs ≤ i → parts_atoms (part_trees (drop i xs)) ≡ 0
 atoms_end xs i h = ap parts_atoms (drop_all xs i h)
 
--- The pattern of parts one by one: what the patterns so far spell, followed by the pattern of the parts that are left.
+-- The pattern of parts one by one: the patterns so far, followed by the pattern of the parts that are left.
 
 abbrev pub followed_by : Pattern ℕ → List Given → Pattern ℕ
 followed_by q [] = q

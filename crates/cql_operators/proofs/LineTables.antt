@@ -1,4 +1,4 @@
--- The atoms of a line one by one in a table.
+-- The atoms of a line, put into a table one by one.
 use Rattle.std.proofs.Common.{◌≡◌, ℕ, ◌+◌, ◌<◌, ◌≤◌, ◌&&◌, ◌||◌, Bool, true, false, List, [], ◌∷◌, length, drop, refl, sym, ap, ◌∙◌, subst, arith, ⊎_elim}
 use Rattle.std.specs.List.{list_any}
 use Rattle.cq_common.specs.Spelling.{one}
@@ -34,11 +34,12 @@ pub record Walk : Type 0 where
 abbrev pub walk_in : Scope → Bool → Walk
 walk_in s back = record { tree = tree_in s; back = back; names = s.names.now }
 
--- the body of a part, whose atoms stand in a table from the first on
+-- the body of a part, whose atoms are in a table from the first on
 abbrev pub of_body : {L : Type 0} {own : _} → Walk → AtomTable L own → ℕ → BodyTree → InTable (AtomTable L own)
 of_body walk table first b = record { table = table; past = first + body_atoms b; numbered = body_numbered first b; stands_for = body_pattern walk.tree [] walk.names b }
 
--- how far a row has come: its next atom, the nodes at which its next part may begin, whether each atom so far holds somewhere, and the table
+-- The state of a row: its next atom, the nodes at which its next part may begin, and the table. `met` is true if each atom so far holds at
+-- some node.
 pub record Stage (T : Type 0) : Type 0 where
   pub at : ℕ
   pub starts : List Bool
@@ -61,16 +62,16 @@ row_in s back parts begun = record { walk = walk_in s back; parts = parts; begun
 abbrev pub NeverSpelled : Walk → List Bool → PartTrees → Type 0
 NeverSpelled walk live cs = IsNever (IsStep walk.tree walk.back false) (IsLive live) (pattern walk.tree [] walk.names cs)
 
--- a test spells by numbers what parts in a row spell on ways from some nodes
+-- a pattern of numbers, by a test, spells the same as parts in a row on ways from some nodes
 abbrev pub SpelledFrom : Walk → (ℕ → ℕ → Bool) → ℕ → List Bool → PartTrees → Type 0
 SpelledFrom walk test first live cs = AreAlike (IsStep walk.tree walk.back false) (IsLive live) test (parts_numbered first cs) (pattern walk.tree [] walk.names cs)
 
--- what is left of the parts tells the whole, given the table of those so far
+-- the rest of the parts tells the whole, given the table of the parts so far
 abbrev pub TellsAll : {L : Type 0} {own : _} → Row (AtomTable L own) → PartTrees → Stage (AtomTable L own) → Type 0
 TellsAll row rest now =
     (test : ℕ → ℕ → Bool) → Agrees test now.table now.at → SpelledFrom row.walk test now.at now.starts rest → SpelledFrom row.walk test row.begun.at row.begun.starts (part_trees row.parts)
 
--- where what is left is never spelled, the whole isn't
+-- if the rest is never spelled, the whole isn't
 abbrev pub NeverAll : {L : Type 0} {own : _} → Row (AtomTable L own) → PartTrees → List Bool → Type 0
 NeverAll row rest starts = NeverSpelled row.walk starts rest → NeverSpelled row.walk row.begun.starts (part_trees row.parts)
 
@@ -244,7 +245,7 @@ put_more test which k there old table new is step had = record {
   };
 }
 
--- an atom's column stands in the table, at the nodes for which it is asked
+-- an atom's column is in the table, at the live nodes
 module _ {L : Type 0} {own : _} (tree : SearchedTree) (back : Bool) (table : AtomTable L own) (which : ℕ) (c : FilterColumn) (v : ℕ → Value) (live : List Bool) (asked : IsNodeSet tree live)
     (column : IsColumn c live v)
     (put : (n : ℕ) → n < length tree.game.nodes → holds_in table which n ≡ (is_live live n && value_holds (shown c n))) where
@@ -259,7 +260,7 @@ module _ {L : Type 0} {own : _} (tree : SearchedTree) (back : Bool) (table : Ato
     is_held : (n : ℕ) → IsLive live n → value_holds (v n) ≡ true → IsLive held n
     is_held n l h = part.narrowed.each n ∙ ap (λ b. b && value_holds (shown c n)) l ∙ ap value_holds (column n l) ∙ h
 
-    -- the next part may begin a step on from where the atom holds
+    -- the next part may begin one step after a node at which the atom holds
     pub atom_leads : (next : List Bool) → AreOnward tree back held next → LeadsOn tree back live next table (which + 1) (one which) (one v)
     atom_leads next on = record {
       asked = on.asked;
@@ -274,7 +275,7 @@ module _ {L : Type 0} {own : _} (tree : SearchedTree) (back : Bool) (table : Ato
     pub atom_ends : list_any (λ b. b) held ≡ false → SpellsNothing tree back live (one v)
     atom_ends none s = never_there (IsStep tree back false) (IsLive live) v (λ n l h. none_live held none n (is_held n l h)) s
 
--- an atom that is asked for nowhere holds nowhere
+-- an atom without live nodes holds at no node
 module _ (tree : SearchedTree) (back : Bool) (v : ℕ → Value) (live : List Bool) (none : list_any (λ b. b) live ≡ false) where
   pub none_ends : SpellsNothing tree back live (one v)
   none_ends s = never_there (IsStep tree back false) (IsLive live) v (λ n l h. none_live live none n l) s

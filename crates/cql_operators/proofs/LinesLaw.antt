@@ -1,4 +1,4 @@
--- The tree of a game as a line has it, the line's number from the table, and what it costs.
+-- The tree of a game in the form that a line has, the line's number by the table, and its cost.
 use Rattle.std.proofs.Common.{◌≡◌, ℕ, zero, suc, ◌+◌, ◌*◌, ◌<◌, ◌≤◌, ◌&&◌, ◌||◌, pos, ℤ, Bool, true, false, List, [], ◌∷◌, ◌++◌, length, map, drop, take, get_or, Option, Some, None, option_map, refl, sym, ap, ap₂, ◌∙◌, subst, arith, ⊎_elim}
 use denote.Hole.Carrier as Carrier
 use Rattle.std.specs.Prelude.{not, IfSome, slice_get, if◌then◌else◌}
@@ -121,7 +121,7 @@ answer_there false P o e h = cc
 abbrev Wanted : (ℕ → ℕ → Bool) → Pattern ℕ → ℕ → Option ℕ → List TreeNode → Bool → Bool → Option Limits → Type 0
 Wanted test p n o xs x y z = IsGreatest (λ len. Line test (Edge x y xs) p n len × (values.allows z len ≡ true)) o
 
--- a pattern's numbers spell at a node what the parts of a line spell there
+-- a pattern of numbers spells at a node the same as the parts of a line
 abbrev pub SpellsLine : SearchedTree → Names → OneLine → (ℕ → ℕ → Bool) → Pattern ℕ → ℕ → Type 0
 SpellsLine tree e l test p n = SpellTheSame tree (out-Line l).back (out-Line l).primary test p (pattern tree [] e (parts_tree (out-Line l).parts)) n
 
@@ -200,7 +200,7 @@ same_words d zero (suc m) = refl
 same_words d (suc j) zero = refl
 same_words d (suc j) (suc m) = same_words d j m
 
--- the parts of the shape that was made of a game for a line
+-- the fields of the shape made of a game for a line
 pub record ShapeOf (tree : SearchedTree) (l : OneLine) : Type 0 where
   pub spots : List TreeNode
   pub back : Bool
@@ -211,7 +211,7 @@ pub record ShapeOf (tree : SearchedTree) (l : OneLine) : Type 0 where
   pub primary_is : primary ≡ (out-Line l).primary
   pub limits_are : limits ≡ limits_in (out-Line l).extent
 
--- the parts of a line stand in a table, and a pattern has their numbers
+-- the parts of a line are in a table, and a pattern has their numbers
 pub line_spelled : {L : Type 0} {own : _} (tree : SearchedTree) (e : Names) (l : OneLine) (table : AtomTable L own) (p : Pattern ℕ) → p ≡ parts_numbered 0 (parts_tree (out-Line l).parts)
     → AreTabled tree (out-Line l).back (IsSearchedNode tree) table (0 + parts_atoms (parts_tree (out-Line l).parts))
     (parts_numbered 0 (parts_tree (out-Line l).parts)) (pattern tree [] e (parts_tree (out-Line l).parts))
@@ -225,7 +225,7 @@ line_spelled tree e l table p is tabled n asked =
 pub wide_at : (wide : List (Option ℤ)) (found : List (Option ℕ)) → wide ≡ map (option_map pos) found → (n : ℕ) → as_number (get_or wide n None) ≡ as_number (option_map pos (get_or found n None))
 wide_at wide found is n = ap as_number (ap (λ xs. get_or xs n None) is ∙ get_or-map (option_map pos) found n None)
 
--- the value at a searched node, by the shape that was made of the game
+-- the value at a searched node, by the shape made of the game
 pub numbers_are : (tree : SearchedTree) → IsTree tree.game.nodes → (e : Names) (l : OneLine) (shape : ShapeOf tree l) (test : ℕ → ℕ → Bool) (p : Pattern ℕ) (n : ℕ)
     → IsSearchedNode tree n → SpellsLine tree e l test p n → (o : Option ℕ)
     → GreatestWhere (shapes.is_searched shape.spots n) (λ len. Line test (Edge shape.back shape.primary shape.spots) p n len × (values.allows shape.limits len ≡ true)) o
@@ -244,13 +244,13 @@ nothing_at [] zero is = refl
 nothing_at [] (suc n) is = refl
 nothing_at (x ∷ xs) n is = cc
 
--- an atom that is put where its column holds
+-- an atom put at the nodes at which its column holds
 pub held_put : (tree : SearchedTree) (live : List Bool) (c : FilterColumn) (held shown_held : List Bool) (test : ℕ → Bool) (count : ℕ)
     → IsPart tree live c true held → shown_held ≡ held → ((n : ℕ) → n < count → test n ≡ is_live shown_held n) → (n : ℕ) → n < count
     → test n ≡ (is_live live n && value_holds (shown c n))
 held_put tree live c held shown_held test count part same put n h = put n h ∙ ap (λ l. is_live l n) same ∙ part.narrowed.each n
 
--- where a line's pattern is never spelled it has no number
+-- a line whose pattern is never spelled has no number
 pub no_line : (tree : SearchedTree) → IsTree tree.game.nodes → (e : Names) (l : OneLine) (wide : List (Option ℤ)) → wide ≡ []
     → IsNever (IsStep tree (out-Line l).back false) (IsSearchedNode tree) (pattern tree [] e (parts_tree (out-Line l).parts)) → (n : ℕ) → IsSearchedNode tree n
     → as_number (get_or wide n None) ≡ line_value tree [] e (line_tree l) n

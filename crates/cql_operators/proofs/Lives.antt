@@ -1,4 +1,4 @@
--- All searched nodes are asked for, or none is.
+-- All searched nodes are live, or none is.
 use Rattle.std.proofs.Common.{◌≡◌, ℕ, zero, suc, Bool, true, false, List, [], ◌∷◌, length, get_or, sym, ◌∙◌, arith}
 use Rattle.std.specs.List.{list_any}
 use Rattle.cq_position.specs.Games.{is_searched}

@@ -1,4 +1,4 @@
--- What a word asks at other nodes, and squares that are brought back from there.
+-- The nodes at which a word evaluates its part, and squares brought back from there.
 use Rattle.std.proofs.Common.{◌≡◌, ℕ, zero, suc, ◌+◌, ◌<◌, ◌≤◌, ◌&&◌, ◌||◌, Bool, true, false, List, length, get_or, Option, Some, None, refl, sym, ap, ◌∙◌, subst, arith, ⊎_elim}
 use Rattle.std.specs.Prelude.{slice_set, bit_or, option_to_list}
 use Rattle.std.specs.List.{list_any}
@@ -24,7 +24,7 @@ use Rattle.cql_operators.proofs.UnaryLaws.{any_child, at_any}
 some_is : (a b : ℕ) → ◌≡◌ {A = Option ℕ} (Some a) (Some b) → a ≡ b
 some_is a b e = cc
 
--- other words ask nothing elsewhere
+-- other words evaluate nothing at other nodes
 never : (nodes : List Node) (word : Unary) (n m : ℕ) → is_from_other_nodes word ≡ false → ReadsFrom nodes word n m → ⊥
 never nodes Not n m away asks = asks
 never nodes Complement n m away asks = asks
@@ -37,7 +37,7 @@ never nodes FindUp n m away asks = cc
 never nodes Child n m away asks = cc
 never nodes Parent n m away asks = cc
 
--- the nodes at which the part is asked
+-- the nodes at which the part is evaluated
 pub below_looked : (tree : SearchedTree) (live wide : List Bool) → IsBelowLive tree live wide → CoverSourceNodes tree Find live wide
 below_looked tree live wide is = record { asked = is.asked; covers = λ n m l asks down. is.covers n m l (down refl).0 asks (down refl).1 }
 
@@ -240,7 +240,7 @@ lowered_sets_all nodes there back k tree end had = record {
   each = λ n m s low b h. down_within nodes tree there back (length nodes) k had (n + 1) m n s (omega arith) (omega (arith, low, end)) b h;
 }
 
--- where a word holds its part holds at a node at which it is asked
+-- a word holds, and so its part holds at a node at which it is evaluated
 pub record HoldsAt (tree : SearchedTree) (word : Unary) (v : ℕ → Value) (n : ℕ) : Type 0 where
   pub m : ℕ
   pub asks : ReadsFrom tree.game.nodes word n m

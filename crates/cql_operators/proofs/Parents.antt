@@ -1,4 +1,4 @@
--- The parents of the nodes of a set, by one pass over them; and the nodes on the ways up.
+-- The parents of the nodes of a set, by one pass over them, and the nodes on the ways up.
 use Rattle.std.proofs.Common.{◌≡◌, ℕ, zero, suc, ◌+◌, ◌<◌, ◌≤◌, ◌⊎◌, ◌&&◌, Bool, true, false, List, length, get_or, Option, Some, None, refl, sym, ap, ◌∙◌, subst, arith, inl, inr, ⊎_elim}
 use Rattle.std.specs.Prelude.{replicate, unwrap_or}
 use Rattle.cq_position.specs.Games.{Node, node_at, IsTree, is_below, is_child_of, is_searched}
@@ -99,7 +99,7 @@ module _ (tree : SearchedTree) (is_tree : IsTree tree.game.nodes) (live : List B
       has : HasParents tree.game.nodes live live found
       has = subst (λ l. HasParents tree.game.nodes live l found) begun (subst (λ l. HasParents tree.game.nodes l start found) same has_given)
 
-  -- what is above a searched node is searched
+  -- a node above a searched node is searched
   up_at : (m n : ℕ) (o : Option ℕ)
       → ((p : ℕ) → p < n → is_below tree.game.nodes m p ≡ true → is_searched tree.variations tree.game.nodes p ≡ true → is_searched tree.variations tree.game.nodes m ≡ true)
       → is_below tree.game.nodes m n ≡ true → is_searched tree.variations tree.game.nodes n ≡ true → (n ≡ m → ⊥) → (node_at tree.game.nodes n).parent ≡ o

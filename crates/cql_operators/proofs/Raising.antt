@@ -1,4 +1,4 @@
--- Whether a node of a set is below another, by one pass from the last node to the first.
+-- The nodes that have a node of a set at or below them, by one pass from the last node to the first.
 use Rattle.std.proofs.Common.{◌≡◌, ℕ, zero, suc, ◌+◌, ◌<◌, ◌≤◌, ◌⊎◌, ◌&&◌, ◌||◌, Bool, true, false, List, length, get_or, Option, Some, None, refl, sym, ap, ◌∙◌, subst, arith, inl, inr, ⊎_elim, eqb-true}
 use Rattle.std.specs.Prelude.{◌↔◌}
 use Rattle.std.proofs.lemmas.Bool.{cases_order, eq-eqb}
@@ -65,7 +65,7 @@ module _ (nodes : List Node) (tree : IsTree nodes) where
   pub below_up : (n c m : ℕ) → (node_at nodes c).parent ≡ Some n → is_below nodes c m ≡ true → is_below nodes n m ≡ true
   below_up n c m p b = up_within (m + 1) n c m (omega arith) p b
 
-  -- what is below n comes by a child
+  -- the way to a node below n goes through a child of n
   down_at : (n m : ℕ) (o : Option ℕ) → ((q : ℕ) → q < m → is_below nodes n q ≡ true → Via nodes (n + 1) n q) → is_below nodes n m ≡ true → (m ≡ n → ⊥) → (node_at nodes m).parent ≡ o
       → Via nodes (n + 1) n m
   down_at n m None before b other is = absurd (let e : true ≡ false = sym b ∙ root_below nodes n m tree is other in cc)

@@ -1,4 +1,4 @@
--- What is spelled on ways that begin at some nodes, part by part.
+-- Patterns on ways that begin at some nodes, part by part.
 use Rattle.std.proofs.Common.{◌≡◌, ℕ, zero, suc, ◌≤◌, Bool, true, false, List, [], ◌∷◌, ◌++◌, Option, Some, None, refl, sym, ap, ◌∙◌, subst, arith, ⊎_elim}
 use Rattle.std.specs.Prelude.{◌&&◌, ◌||◌, not}
 use Rattle.cq_common.specs.Spelling.{Pattern, one, joined, repeated, Spells, Times}
@@ -45,7 +45,7 @@ module _ (Step : ℕ → ℕ → Type 0) where
   way_right Out on [] v a = a
   way_right Out on (n ∷ u) v a = along_right Out on n u v a.0 a.1
 
-  -- what is spelled on them
+  -- patterns that spell the same on them
 
   alike_wider : (In Out : ℕ → Type 0) → ((n : ℕ) → In n → Out n) → (test : ℕ → ℕ → Bool) (p : Pattern ℕ) (r : Pattern (ℕ → Value)) → AreAlike Step Out test p r → AreAlike Step In test p r
   alike_wider In Out own test p r f w way = f w (way_wider In Out own w way)
@@ -65,7 +65,7 @@ module _ (Step : ℕ → ℕ → Type 0) where
         (x.0, x.1, x.2, (f x.0 (way_left In x.0 x.1 parts)).1 x.3, (g x.1 (way_right Out on x.0 x.1 (way_wider In Out own (x.0 ++ x.1) parts))).1 x.4),
   )
 
-  -- an atom is one node, and what follows it follows a node where it holds
+  -- an atom is one node, and the rest of the pattern follows a node at which the atom holds
   pub after_atom : (In Next : ℕ → Type 0) (test : ℕ → ℕ → Bool) (a : ℕ) (v : ℕ → Value) → ((n : ℕ) → In n → test a n ≡ holds (v n))
       → ((n m : ℕ) → In n → holds (v n) ≡ true → Step n m → Next m)
       → (q : Pattern ℕ) (s : Pattern (ℕ → Value)) → AreAlike Step Next test q s → AreAlike Step In test (joined (one a) q) (joined (one v) s)
@@ -100,7 +100,7 @@ module _ (Step : ℕ → ℕ → Type 0) where
   marked_alike Out on test Maybe p r f = repeated_alike Out on test 0 (Some 1) p r f
   marked_alike Out on test (Repeated least most) p r f = repeated_alike Out on test least (Some most) p r f
 
-  -- what is never spelled
+  -- patterns that are never spelled
 
   never_after : (In Out : ℕ → Type 0) → ((n : ℕ) → In n → Out n) → ((n m : ℕ) → Out n → Step n m → Out m)
       → (r s : Pattern (ℕ → Value)) → IsNever Step Out s → IsNever Step In (joined r s)
@@ -117,7 +117,7 @@ module _ (Step : ℕ → ℕ → Type 0) where
   times_never In P f zero w h way t = absurd (omega (arith, h))
   times_never In P f (suc k) w h way t = f t.0 (way_left In t.0 t.1 (subst (IsWay Step In) t.2 way)) t.3
 
-  -- what must stand once, and is never spelled
+  -- a part that must occur and is never spelled
   marked_never : (In : ℕ → Type 0) (m : Mark) (r : Pattern (ℕ → Value)) → is_needed m ≡ true → IsNever Step In r → IsNever Step In (marked m r)
   marked_never In Once r e f = f
   marked_never In Star r e f = cc
@@ -138,7 +138,7 @@ module _ (Step : ℕ → ℕ → Type 0) where
   pub never_there : (In : ℕ → Type 0) (v : ℕ → Value) → ((n : ℕ) → In n → holds (v n) ≡ true → ⊥) → (s : Pattern (ℕ → Value)) → IsNever Step In (joined (one v) s)
   never_there In v none s w way x = none x.3.0 (subst (IsWay Step In) (x.2 ∙ ap (λ u. u ++ x.1) x.3.1) way).0 x.3.2
 
--- where ways lead
+-- the goals of ways
 
 -- the nodes that ways lead to from some nodes
 abbrev ReachedFrom : SearchedTree → Bool → (ℕ → Type 0) → ℕ → Type 0
@@ -186,11 +186,11 @@ pub record Reach (tree : SearchedTree) (back : Bool) : Type 0 where
   pub asked : IsNodeSet tree old
   pub reached : AreReached tree back old wide
 
--- the same, where the first are given by others that are equal to them
+-- the same for equal sets
 abbrev pub reach_from : (tree : SearchedTree) (back : Bool) (old given wide : List Bool) → given ≡ old → IsNodeSet tree old → AreReached tree back given wide → Reach tree back
 reach_from tree back old given wide is asked reached = record { old = old; wide = wide; asked = asked; reached = subst (λ l. AreReached tree back l wide) is reached }
 
--- a pattern of atoms in a table of a type, and what it stands for
+-- a pattern of atoms in a table of a type, and the pattern of values that it represents
 pub record InTable (T : Type 0) : Type 0 where
   pub table : T
   pub past : ℕ
@@ -207,7 +207,7 @@ module _ (tree : SearchedTree) (is_tree : IsTree tree.game.nodes) (back : Bool) 
   goes_on : (n m : ℕ) → ReachedFrom tree back (IsLive from.old) n → IsStep tree back false n m → ReachedFrom tree back (IsLive from.old) m
   goes_on n m x step = reached_on tree is_tree back from.old n m x step
 
-  -- a part that is asked for at all nodes on ways from where it may begin, repeated or not
+  -- a part that is evaluated at all nodes on ways from those where it may begin, repeated or not
   pub wide_leads : {L : Type 0} {own : _} (shown : List Bool) → shown ≡ from.wide → (part : InTable (AtomTable L own)) (m : Mark)
       → AreTabled tree back (IsLive shown) part.table part.past part.numbered part.stands_for
       → LeadsOn tree back from.old from.wide part.table part.past (marked m part.numbered) (marked m part.stands_for)
@@ -232,7 +232,7 @@ module _ (tree : SearchedTree) (is_tree : IsTree tree.game.nodes) (back : Bool) 
       (never_wider (IsStep tree back false) (IsLive from.old) (IsLive from.wide) (λ n l. in_wide n (begins n l)) r
       (subst (λ l. IsNever (IsStep tree back false) (IsLive l) r) is f)))
 
-  -- a group that stands once
+  -- a group that occurs once
   pub group_leads : {L : Type 0} {own : _} (shown : List Bool) → shown ≡ from.old → (part : InTable (AtomTable L own))
       → AreTabled tree back (IsLive shown) part.table part.past part.numbered part.stands_for
       → LeadsOn tree back from.old from.wide part.table part.past part.numbered part.stands_for
@@ -274,7 +274,7 @@ not_met true false true e f = (refl, refl)
 not_met true false false e f = cc
 not_met false i n e f = cc
 
--- where all searched nodes are asked for
+-- all searched nodes are live
 
 pub all_tabled : {L : Type 0} {own : _} (tree : SearchedTree) (back : Bool) (all : List Bool) (table : AtomTable L own) (past : ℕ) (p : Pattern ℕ) (r : Pattern (ℕ → Value)) → AreAllAsked tree all
     → AreTabled tree back (IsLive all) table past p r → AreTabled tree back (IsSearchedNode tree) table past p r
@@ -284,7 +284,7 @@ pub all_never : (tree : SearchedTree) (back : Bool) (all : List Bool) (r : Patte
     → IsNever (IsStep tree back false) (IsLive all) r → IsNever (IsStep tree back false) (IsSearchedNode tree) r
 all_never tree back all r every f = never_wider (IsStep tree back false) (IsSearchedNode tree) (IsLive all) (λ n asked. every.covers n asked) r f
 
--- the same, where sets are given by others that are equal to them
+-- the same for equal sets
 
 pub leads_at : {L : Type 0} {own : _} (tree : SearchedTree) (back : Bool) (old given new : List Bool) → given ≡ old → (part : InTable (AtomTable L own))
     → LeadsOn tree back given new part.table part.past part.numbered part.stands_for → LeadsOn tree back old new part.table part.past part.numbered part.stands_for

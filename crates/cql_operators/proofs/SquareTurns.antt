@@ -1,4 +1,4 @@
--- Squares that are tried one by one, where the earlier ones leave something open.
+-- Squares tried one by one, at the nodes that the earlier squares leave open.
 use Rattle.std.proofs.Common.{◌≡◌, ℕ, zero, suc, ◌+◌, ◌<◌, ◌&&◌, ◌||◌, Bool, true, false, not, List, [], ◌∷◌, length, get_or, refl, sym, ap, ap₂, ◌∙◌, subst, arith}
 use Rattle.std.specs.List.{list_any, range_with_len}
 use Rattle.std.specs.Prelude.{if◌then◌else◌}
@@ -17,7 +17,7 @@ use Rattle.cql_columns.specs.Columns.{is_live, shown, IsNodeSet, AreTruths, IsCo
 use Rattle.cql_columns.specs.declared.filter_column.FilterColumn.{FilterColumn}
 use Rattle.cql_columns.proofs.Filling.{both_left, live_below}
 
--- of the nodes that are asked for those that pass a test
+-- the live nodes that pass a test
 pub record LeftOf (tree : SearchedTree) (live : List Bool) (test : ℕ → Bool) (left : List Bool) : Type 0 where
   pub asked : IsNodeSet tree left
   pub within : (n : ℕ) → is_live left n ≡ true → is_live live n ≡ true

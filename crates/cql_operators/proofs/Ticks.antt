@@ -7,7 +7,7 @@ use Rattle.cq_position.specs.Games.{is_searched, searched}
 use Rattle.cq_position.specs.Search.{SearchedTree, nodes_in}
 use Rattle.cql_columns.proofs.Chains.{take_whole}
 
--- how many of the numbers that are left pass
+-- the number of those that pass among the numbers that are left
 abbrev pub left_of : (ℕ → Bool) → ℕ → ℕ → ℕ
 left_of p k count = length (filter p (range_with_len k (count - k)))
 

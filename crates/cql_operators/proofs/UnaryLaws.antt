@@ -1,4 +1,4 @@
--- Nodes of a list at which something holds, and nodes of a set at which a filter does.
+-- Elements of a list that pass a test, and nodes of a set at which a filter holds.
 use Rattle.std.proofs.Common.{◌≡◌, ℕ, ◌&&◌, ◌||◌, ◌==◌, Bool, true, false, List, [], ◌∷◌, length, get_or, refl, sym, ap, ◌∙◌, subst, eqb-true}
 use Rattle.std.specs.List.{list_any, range_with_len}
 use Rattle.std.proofs.lemmas.Bool.{eq-eqb}
@@ -33,7 +33,7 @@ at_any p (x ∷ xs) e = by (p x) refl e (λ f. at_any p xs f)
     by true is f rest = record { m = x; on = ap (λ b. b || list_any (λ y. y == x) xs) (eq-eqb x x refl); passes = is }
     by false is f rest = let found = rest f in record { m = found.m; on = or_right (x == found.m) (list_any (λ y. y == found.m) xs) found.on; passes = found.passes }
 
--- a node of the set is one that is asked for and at which it holds
+-- a node of the set is a live one at which the filter holds
 module _ (wide asked again start : List Bool) (c : FilterColumn) (v : ℕ → Value) (is : asked ≡ wide) (is_too : again ≡ wide)
     (column_asked : IsColumn c asked v) (narrowed_again : IsNarrowed again c true start) where
   column : IsColumn c wide v

@@ -1,4 +1,4 @@
--- The searched nodes below those that are asked for, by one pass from the first node to the last.
+-- The searched nodes at or below the live nodes, by one pass from the first node to the last.
 use Rattle.std.proofs.Common.{◌≡◌, ℕ, ◌+◌, ◌<◌, ◌||◌, Bool, true, false, List, length, get_or, Option, Some, None, refl, sym, ap, ◌∙◌, arith, ⊎_elim}
 use Rattle.std.specs.Prelude.{slice_set}
 use Rattle.std.proofs.lemmas.List.{get_or-set_same, get_or-set_other, length-set}
@@ -25,7 +25,7 @@ or_right true b e = refl
 or_right false b e = e
 
 module _ (tree : SearchedTree) (is_tree : IsTree tree.game.nodes) (live : List Bool) (end k : ℕ) (wide : List Bool) (had : Widened tree live end k wide) where
-  -- a searched node below a node that is asked for passes
+  -- a searched node below a live node passes
   passes : (n : ℕ) (o : Option ℕ) → (node_at tree.game.nodes k).parent ≡ o → is_live live n ≡ true → is_below tree.game.nodes n k ≡ true → is_searched tree.variations tree.game.nodes k ≡ true
       → (is_live live k || flag_of wide o) ≡ true
   passes n None is l b s = ⊎_elim

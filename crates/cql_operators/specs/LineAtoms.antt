@@ -17,7 +17,7 @@ use Rattle.cql_syntax.specs.declared.extents.Extent.TheVariants.{Any, Within}
 use Rattle.cql_columns.specs.Columns.{is_live, IsNodeSet}
 use Rattle.cql_columns.specs.Costs.{body_atoms}
 
--- all searched nodes are asked for
+-- all searched nodes are live
 pub record AreAllAsked (tree : SearchedTree) (all : List Bool) : Type 0 where
   pub asked : IsNodeSet tree all
   pub covers : (n : ℕ) → IsSearchedNode tree n → is_live all n ≡ true
@@ -41,7 +41,7 @@ abbrev pub limits_in : Extent → Option Limits
 limits_in Any = None
 limits_in (Within least most) = Some (record { least = least; most = most })
 
--- a node as a line's tree has it
+-- a node in the form that a line's tree has
 abbrev pub spot_at : SearchedTree → ℕ → TreeNode
 spot_at tree n = record {
   parent = (node_at tree.game.nodes n).parent;
@@ -49,18 +49,18 @@ spot_at tree n = record {
   first = is_first_child tree.game.nodes n;
 }
 
--- no atom from k on holds anywhere yet
+-- no atom from k on holds at any node
 abbrev pub AreClearFrom : {L : Type 0} {own : _} → AtomTable L own → ℕ → Type 0
 AreClearFrom table k = (a n : ℕ) → k ≤ a → holds_in table a n ≡ false
 
--- the atoms from the first on, below another, may be put into a table of so many nodes
+-- the atoms from `first` on and below `past` can be put into a table of `count` nodes, and no atom from `first` on holds there
 pub record HasRoom {L : Type 0} {own : _} (count first past : ℕ) (table : AtomTable L own) : Type 0 where
   pub few : past ≤ 64
   pub atoms : past ≤ atoms_of table
   pub nodes : nodes_of table ≡ count
   pub clear : AreClearFrom table first
 
--- an atom holds at a node where it is put there, and all else is as it was
+-- an atom holds at a node if it is put there, and all else is as it was
 pub record IsPut {L : Type 0} {own : _} (which node : ℕ) (there : Bool) (old new : AtomTable L own) : Type 0 where
   pub atoms : atoms_of new ≡ atoms_of old
   pub nodes : nodes_of new ≡ nodes_of old

@@ -1,4 +1,4 @@
--- What a table's atoms spell on the ways of a line that begin at some nodes, and where a way leads.
+-- Patterns over the atoms of a table, on the ways of a line that begin at some nodes, and the nodes to which a way leads.
 use Rattle.std.specs.Prelude.{◌≡◌, ◌↔◌, ℕ, ◌<◌, ◌==◌, Bool, true, false, not, List, [], ◌∷◌}
 use Rattle.cq_common.specs.Spelling.{Pattern, joined, Spells}
 use Rattle.cq_position.specs.Games.{is_below}
@@ -11,7 +11,7 @@ use Rattle.cql_syntax.specs.declared.leaves.Mark.{Mark}
 use Rattle.cql_syntax.specs.declared.leaves.Mark.TheVariants.{Once, Star, Plus, Maybe, Times}
 use Rattle.cql_columns.specs.Columns.{is_live, IsNodeSet}
 
--- a node of a set
+-- a node is in a set
 abbrev pub IsLive : List Bool → ℕ → Type 0
 IsLive live n = is_live live n ≡ true
 
@@ -20,7 +20,7 @@ abbrev pub IsWay : (ℕ → ℕ → Type 0) → (ℕ → Type 0) → List ℕ �
 IsWay Step In [] = Unit {0}
 IsWay Step In (n ∷ w) = In n × Along Step n w
 
--- on these ways a pattern of numbers spells by a test what one of values spells
+-- on these ways a pattern of numbers, by a test, spells the same as a pattern of values
 abbrev pub AreAlike : (ℕ → ℕ → Type 0) → (ℕ → Type 0) → (ℕ → ℕ → Bool) → Pattern ℕ → Pattern (ℕ → Value) → Type 0
 AreAlike Step In test p r = (w : List ℕ) → IsWay Step In w → Spells test p w ↔ Spells (λ v m. holds (v m)) r w
 
@@ -32,7 +32,7 @@ IsNever Step In r = (w : List ℕ) → IsWay Step In w → Spells (λ v m. holds
 abbrev pub Agrees : {L : Type 0} {own : _} → (ℕ → ℕ → Bool) → AtomTable L own → ℕ → Type 0
 Agrees test table past = (a n : ℕ) → a < past → test a n ≡ holds_in table a n
 
--- Whatever agrees with the table on the atoms below a number spells on the ways that begin at some nodes what the values spell.
+-- On the ways that begin at some nodes, every test that agrees with the table on the atoms below a number spells the same as the values.
 abbrev pub AreTabled :
     {L : Type 0} {own : _} → SearchedTree → Bool → (ℕ → Type 0) → AtomTable L own → ℕ → Pattern ℕ → Pattern (ℕ → Value) → Type 0
 AreTabled tree back In table past p r =
@@ -43,18 +43,18 @@ abbrev pub Leads : SearchedTree → Bool → ℕ → ℕ → Type 0
 Leads tree true n m = is_below tree.game.nodes m n ≡ true
 Leads tree false n m = (is_below tree.game.nodes n m ≡ true) × IsSearchedNode tree m
 
--- searched nodes, among them all that a step leads to from those of a set
+-- searched nodes, among them all to which a step leads from the live nodes
 pub record AreOnward (tree : SearchedTree) (back : Bool) (live next : List Bool) : Type 0 where
   pub asked : IsNodeSet tree next
   pub covers : (n m : ℕ) → IsLive live n → IsStep tree back false n m → IsLive next m
 
--- searched nodes, among them all that ways lead to from those of a set
+-- searched nodes, among them all to which ways lead from the live nodes
 pub record AreReached (tree : SearchedTree) (back : Bool) (live wide : List Bool) : Type 0 where
   pub asked : IsNodeSet tree wide
   pub covers : (n m : ℕ) → IsLive live n → Leads tree back n m → IsLive wide m
 
--- What a part of a row and all that follows it spell on ways from the nodes of one set is right where what follows is right on ways from
--- those of the next set.
+-- The step from a part of a row to the rest of the row. If the rest is right on ways from the nodes of the next set, the part and the rest
+-- together are right on ways from those of this set.
 pub record LeadsOn {L : Type 0} {own : _} (tree : SearchedTree) (back : Bool) (old new : List Bool) (table : AtomTable L own) (past : ℕ)
     (p : Pattern ℕ) (r : Pattern (ℕ → Value)) : Type 0 where
   pub asked : IsNodeSet tree new
@@ -64,11 +64,11 @@ pub record LeadsOn {L : Type 0} {own : _} (tree : SearchedTree) (back : Bool) (o
   pub never : (s : Pattern (ℕ → Value)) → IsNever (IsStep tree back false) (IsLive new) s
       → IsNever (IsStep tree back false) (IsLive old) (joined r s)
 
--- no way from the nodes of a set is spelled by a part, whatever follows it
+-- no way from the live nodes is spelled by the part, with any rest
 abbrev pub SpellsNothing : SearchedTree → Bool → List Bool → Pattern (ℕ → Value) → Type 0
 SpellsNothing tree back live r = (s : Pattern (ℕ → Value)) → IsNever (IsStep tree back false) (IsLive live) (joined r s)
 
--- whether a part with a mark stands at least once
+-- a part with this mark occurs at least once
 abbrev pub is_needed : Mark → Bool
 is_needed Once = true
 is_needed Star = false

@@ -5,7 +5,7 @@ use Rattle.cq_position.specs.Search.{SearchedTree}
 use Rattle.cql_syntax.specs.Meaning.{before}
 use Rattle.cql_columns.specs.Columns.{is_live, IsNodeSet}
 
--- whether a set has the node, where there is one
+-- the set has the node; without a node, false
 abbrev pub flag_of : List Bool → Option ℕ → Bool
 flag_of flags None = false
 flag_of flags (Some p) = get_or flags p false
@@ -17,44 +17,44 @@ abbrev pub is_below_live : SearchedTree → (live wide : List Bool) → ℕ → 
 is_below_live tree live wide k =
     is_searched tree.variations tree.game.nodes k && (is_live live k || flag_of wide (node_at tree.game.nodes k).parent)
 
--- searched nodes, among them all below a node that is asked for
+-- searched nodes, among them all at or below a live node
 pub record IsBelowLive (tree : SearchedTree) (live wide : List Bool) : Type 0 where
   pub asked : IsNodeSet tree wide
   pub covers : (n k : ℕ) → is_live live n ≡ true → k < length tree.game.nodes → is_below tree.game.nodes n k ≡ true
       → Searched tree k → is_live wide k ≡ true
 
--- searched nodes, among them all on the way up from a node that is asked for
+-- searched nodes, among them all on the way up from a live node
 pub record IsAboveLive (tree : SearchedTree) (live wide : List Bool) : Type 0 where
   pub asked : IsNodeSet tree wide
   pub covers : (n m : ℕ) → is_live live n ≡ true → is_below tree.game.nodes m n ≡ true → is_live wide m ≡ true
 
--- searched nodes, among them all children of a node that is asked for
+-- searched nodes, among them all children of a live node
 pub record AreChildrenOfLive (tree : SearchedTree) (live wide : List Bool) : Type 0 where
   pub asked : IsNodeSet tree wide
   pub covers : (n k : ℕ) → is_live live n ≡ true → (node_at tree.game.nodes k).parent ≡ Some n → k < length tree.game.nodes
       → Searched tree k → is_live wide k ≡ true
 
--- searched nodes, among them the parent of each node that is asked for
+-- searched nodes, among them the parent of each live node
 pub record AreParentsOfLive (tree : SearchedTree) (live wide : List Bool) : Type 0 where
   pub asked : IsNodeSet tree wide
   pub covers : (n p : ℕ) → is_live live n ≡ true → (node_at tree.game.nodes n).parent ≡ Some p → is_live wide p ≡ true
 
--- searched nodes, among them the node before each node that is asked for
+-- searched nodes, among them the node before each live node
 pub record AreBeforeLive (tree : SearchedTree) (live wide : List Bool) : Type 0 where
   pub asked : IsNodeSet tree wide
   pub covers : (n : ℕ) → is_live live n ≡ true → is_live wide (before tree n) ≡ true
 
--- the parent of k is added, where this is so of k
+-- the parent of k is added if `there` is true
 pub record AddsParent (nodes : List Node) (k : ℕ) (there : Bool) (old new : List Bool) : Type 0 where
   pub count : length new ≡ length old
   pub each : (n : ℕ) → get_or new n false ≡ (get_or old n false || (there && is_child_of nodes n k))
 
--- a node of the set is n or below n
+-- the nodes n for which a node of the set is n or below n
 pub record AreWithAncestors (nodes : List Node) (set found : List Bool) : Type 0 where
   pub count : length found ≡ length set
   pub each : (n : ℕ) → (get_or found n false ≡ true) ↔ ((m : ℕ) × (get_or set m false ≡ true) × (is_below nodes n m ≡ true))
 
--- n is or is below a node of the set
+-- the nodes n that are in the set or below a node of it
 pub record AreWithDescendants (nodes : List Node) (set found : List Bool) : Type 0 where
   pub count : length found ≡ length nodes
   pub each : (n : ℕ) → n < length nodes

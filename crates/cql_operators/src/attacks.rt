@@ -1,4 +1,4 @@
-//! Attacks from squares that are tried one by one: all at once.
+//! Attacks from the squares of a column, all at once and not square by square.
 ghost use Rattle.std.specs.Prelude.{Some, IfOk};
 ghost use Rattle.cq_position.specs.Attacks.{attacks};
 ghost use Rattle.cq_position.specs.Games.{node_at};
@@ -15,7 +15,11 @@ use cql_columns::standing_squares::standing_sets;
 use cql_syntax::{Designator, Pair};
 use std::alloc::Global;
 
-/// Whether a man on some square of a column attacks one of a designator.
+/// Returns, for each live node, true if a man on some square of a column attacks a man of a designator.
+///
+/// # Errors
+///
+/// `NoMemory` if out of memory.
 pub fn attack_truths(
     alloc: Global,
     squares: &FilterColumn,

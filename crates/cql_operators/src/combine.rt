@@ -1,4 +1,4 @@
-//! Columns that are made of the columns of parts.
+//! Columns made of the columns of parts.
 ghost use Rattle.std.specs.Prelude.{◌≡◌, ℕ, List, ◌<◌, ◌&&◌, length, map, true, not, IfOk, OnOk};
 ghost use Rattle.cq_position.specs.Games.{node_at};
 ghost use Rattle.cq_position.specs.declared.men.Man.{Man};
@@ -23,7 +23,11 @@ use cql_values::value::Value;
 use pgn_tree::Game;
 use std::alloc::Global;
 
-/// Where a column doesn't hold.
+/// Returns, for each live node, true if the column doesn't hold there.
+///
+/// # Errors
+///
+/// `NoMemory` if out of memory.
 pub fn negated_truths(
     alloc: Global,
     column: &FilterColumn,
@@ -45,7 +49,11 @@ fn fails(asked: bool, column: &FilterColumn, n: usize) -> bool
     asked && !column.at(n).holds()
 }
 
-/// Where a column holds.
+/// Returns, for each live node, true if the column holds there.
+///
+/// # Errors
+///
+/// `NoMemory` if out of memory.
 pub fn held(alloc: Global, column: &FilterColumn, live: &[bool]) -> Result<Vec<bool>, NoMemory>
     ensures { IfOk result (λ truths. AreTruths truths.items live.now (λ n. spec.as_truth (spec.holds (shown column.now n)))) }
 {
@@ -63,7 +71,11 @@ fn holds_at(asked: bool, column: &FilterColumn, n: usize) -> bool
     asked && column.at(n).holds()
 }
 
-/// Of the nodes of a set those at which a column has a number.
+/// Returns the nodes of a set at which a column has a number.
+///
+/// # Errors
+///
+/// `NoMemory` if out of memory.
 pub fn numbered(alloc: Global, column: &FilterColumn, live: &[bool]) -> Result<Vec<bool>, NoMemory>
     ensures { IfOk result (λ left. IsNumbered live.now column.now left.items) }
 {
@@ -74,7 +86,11 @@ pub fn numbered(alloc: Global, column: &FilterColumn, live: &[bool]) -> Result<V
     Ok(left)
 }
 
-/// The second column where the first holds, else the third.
+/// Returns the truths of the second column where the first holds, else those of the third.
+///
+/// # Errors
+///
+/// `NoMemory` if out of memory.
 pub fn if_truths(
     alloc: Global,
     first: &FilterColumn,
@@ -99,7 +115,11 @@ fn is_chosen(first: &FilterColumn, second: &FilterColumn, third: &FilterColumn, 
     if_of(first.at(n), second.at(n), third.at(n)).holds()
 }
 
-/// What a word makes of a column, where it asks of no other node.
+/// Returns the values of a word or mark, by the column of its part. For a word that searches other nodes the result is that of `not`.
+///
+/// # Errors
+///
+/// `NoMemory` if out of memory.
 pub fn unary_values(
     alloc: Global,
     word: Unary,
@@ -130,7 +150,11 @@ fn unary_value(asked: bool, word: Unary, game: &Game, column: &FilterColumn, n: 
     }
 }
 
-/// The squares that are reached by steps from those of a column.
+/// Returns the squares reached by `least` to `most` steps from those of a column.
+///
+/// # Errors
+///
+/// `NoMemory` if out of memory.
 pub fn reached_values(
     alloc: Global,
     directions: &[Compass],
@@ -160,7 +184,11 @@ fn reached_value(asked: bool, directions: &[Compass], least: u32, most: u32, val
     }
 }
 
-/// What a filter of two parts makes of their columns: squares of attacks and between two sets, truths of a comparison.
+/// Returns the column of a filter of two parts: squares of attacks or between two sets, or truths of a comparison.
+///
+/// # Errors
+///
+/// `NoMemory` if out of memory.
 pub fn pair_column(
     alloc: Global,
     pair: Pair,
@@ -185,7 +213,11 @@ pub fn pair_column(
     }
 }
 
-/// The squares that a filter of two parts makes of their columns.
+/// Returns the squares of a filter of two parts, by the columns of the parts.
+///
+/// # Errors
+///
+/// `NoMemory` if out of memory.
 pub fn pair_sets(
     alloc: Global,
     pair: Pair,
@@ -260,7 +292,11 @@ fn pair_truth(
     asked && compares(pair, first.at(n), second.at(n))
 }
 
-/// What a filter of any number of parts makes of their columns.
+/// Returns the values of a filter of any number of parts, by the columns of the parts.
+///
+/// # Errors
+///
+/// `NoMemory` if out of memory.
 pub fn chain_values(
     alloc: Global,
     chain: Chain,
@@ -294,7 +330,11 @@ fn chain_value(
     Ok(chain_of(chain, row.as_slice()))
 }
 
-/// Any of the columns of some filters of a kind.
+/// Returns the values of any of some filters of a kind, by their columns.
+///
+/// # Errors
+///
+/// `NoMemory` if out of memory.
 pub fn any_values(
     alloc: Global,
     kind: Kind,
@@ -328,7 +368,7 @@ fn any_value(
     Ok(any_of(kind, row.as_slice()))
 }
 
-// Writes the values of columns at a node in place of what was there.
+// Replaces a row by the values of columns at a node.
 fn put_values(row: &mut Vec<Value>, columns: &[FilterColumn], n: usize) -> Result<(), NoMemory>
     ensures { OnOk result (map as_value row.new.items ≡ all_shown columns.now n) }
 {
@@ -339,7 +379,11 @@ fn put_values(row: &mut Vec<Value>, columns: &[FilterColumn], n: usize) -> Resul
     Ok(())
 }
 
-/// The sums of columns, each of which is added, or subtracted where it says so.
+/// Returns the sums of columns. A column is subtracted if its flag is true, else added.
+///
+/// # Errors
+///
+/// `NoMemory` if out of memory.
 pub fn sum_values(
     alloc: Global,
     terms: &[(bool, FilterColumn)],
@@ -371,7 +415,7 @@ fn sum_value(
     Ok(total(row.as_slice()))
 }
 
-// Writes the values of terms at a node in place of what was there.
+// Replaces a row by the values of terms at a node.
 fn put_terms(
     row: &mut Vec<(bool, Value)>,
     terms: &[(bool, FilterColumn)],

@@ -1,4 +1,4 @@
-//! Words that ask something at other nodes: `find`, `find <--`, `child` and `parent`.
+//! Words that evaluate their part at other nodes: `find`, `find <--`, `child` and `parent`.
 ghost use Rattle.std.specs.Prelude.{◌≡◌, ◌<◌, length, true, get_or, bit_or, IfOk};
 ghost use Rattle.cq_position.specs.Games.{IsTree, node_at};
 ghost use Rattle.cql_syntax.specs.declared.leaves.Unary.TheVariants.{Find, FindUp, Child, Parent};
@@ -18,7 +18,7 @@ use cql_syntax::Unary;
 use pgn_tree::Game;
 use std::alloc::Global;
 
-/// Whether a word asks its part at other nodes.
+/// Returns true if a word evaluates its part at other nodes.
 pub fn reads_other_nodes(word: Unary) -> bool
     ensures { result ≡ is_from_other_nodes word }
 {
@@ -28,7 +28,11 @@ pub fn reads_other_nodes(word: Unary) -> bool
     }
 }
 
-/// The nodes at which a word asks its part, where it is asked for at the nodes of a set.
+/// Returns the nodes at which a word evaluates its part, if the word is evaluated at the live nodes. The set may have more searched nodes.
+///
+/// # Errors
+///
+/// `NoMemory` if out of memory.
 #[tactic(auto, using(crate::proofs::OtherNodesLaw::below_looked, crate::proofs::OtherNodesLaw::above_looked, crate::proofs::OtherNodesLaw::children_looked, crate::proofs::OtherNodesLaw::parents_looked, crate::proofs::OtherNodesLaw::same_looked))]
 pub fn source_nodes(
     alloc: Global,
@@ -50,7 +54,12 @@ pub fn source_nodes(
     }
 }
 
-/// The nodes at which a word finds one of a set among those at which it asks its part.
+/// Returns the nodes at which a word holds: its part holds at one of the nodes at which the word evaluates it. `set` has the nodes at which
+/// the part holds.
+///
+/// # Errors
+///
+/// `NoMemory` if out of memory.
 #[tactic(auto, using(crate::proofs::FoundLaw::never_found))]
 pub fn nodes_that_find(
     alloc: Global,
@@ -76,7 +85,11 @@ pub fn nodes_that_find(
     }
 }
 
-/// Brings sets of squares back to the nodes that ask: each gets at least the squares of all nodes at which the word asks its part.
+/// Returns for each node at least the squares of all nodes at which the word evaluates its part.
+///
+/// # Errors
+///
+/// `NoMemory` if out of memory.
 #[tactic(auto, using(crate::proofs::OtherNodesLaw::same_brought))]
 pub fn squares_of_sources(
     alloc: Global,
@@ -167,7 +180,7 @@ fn with_above(game: &Game, there: &[u64], back: &[u64], k: u32) -> u64
     set_at(there, k as usize) | set_of(game.parent(k), back)
 }
 
-// The squares at a node, where there is one.
+// The squares at a node, or none without a node.
 fn set_of(node: Option<u32>, sets: &[u64]) -> u64
     ensures { result ≡ set_of_node sets.now node }
 {

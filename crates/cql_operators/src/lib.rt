@@ -1,7 +1,7 @@
-//! What is made of columns node by node, without asking a filter's parts anew: how columns are combined and narrow sets of nodes, sets that
-//! follow the tree, words, words that ask elsewhere, patterns of lines, squares that are tried one by one.
+//! Operators on columns, node by node. None of them evaluates a filter's parts. They combine columns, narrow sets of nodes, and follow the
+//! tree. They also make the columns of words, the patterns of lines, and the sets of nodes of squares that are tried one by one.
 //!
-//! `cql_columns/specs/Columns` has what a column promises. `cql_eval` stands on this.
+//! `cql_columns/specs/Columns` has the promise of a column. `cql_eval` uses this crate.
 #![tactic(auto)]
 
 pub mod attacks;

@@ -1,4 +1,4 @@
-//! Nodes that are taken out of a set by a column.
+//! Removal of nodes from a set, by a column.
 ghost use Rattle.std.specs.Prelude.{◌≡◌, ◌&&◌, get_or, length, false, None, is_some, IfOk};
 ghost use Rattle.cql_syntax.specs.Values.{holds, amount};
 ghost use Rattle.cql_values.specs.ValueModel.{as_value};
@@ -14,7 +14,7 @@ use cql_columns::spans::{first_live, live_end};
 use cql_values::value::Value;
 use std::alloc::Global;
 
-/// Leaves those nodes of a set at which a column holds, or those at which it doesn't.
+/// Leaves those nodes of a set at which a column holds, or with `want` false those at which it doesn't.
 pub fn narrow(left: &mut [bool], column: &FilterColumn, want: bool)
     ensures len { length left.new ≡ length left.old }
     ensures nodes { IsNarrowed left.old column.now want left.new }
@@ -28,7 +28,7 @@ pub fn narrow(left: &mut [bool], column: &FilterColumn, want: bool)
     }
 }
 
-/// Leaves those nodes of a set at which a truth is given that is true.
+/// Leaves those nodes of a set at which the truth is true. After the end of the truths it is false.
 pub fn keep_true(left: &mut [bool], truths: &[bool])
     ensures { AreKept (λ n. get_or truths.now n false) left.old left.new }
 {
@@ -107,7 +107,7 @@ pub(crate) fn has_number(asked: bool, column: &FilterColumn, n: usize) -> bool
     asked && column.at(n).number().is_some()
 }
 
-// All nodes of the set, or none.
+// Leaves all nodes of the set, or none.
 fn keep_if(left: &mut [bool], all: bool)
     ensures { AreKept (λ n. all) left.old left.new }
 {
@@ -116,7 +116,11 @@ fn keep_if(left: &mut [bool], all: bool)
     }
 }
 
-/// Of the nodes of a set those at which a column holds, or those at which it doesn't.
+/// Returns the nodes of a set at which a column holds, or with `want` false those at which it doesn't.
+///
+/// # Errors
+///
+/// `NoMemory` if out of memory.
 pub fn narrowed(
     alloc: Global,
     live: &[bool],
@@ -130,7 +134,11 @@ pub fn narrowed(
     Ok(left)
 }
 
-/// The same, where the nodes are those of a game that are asked for.
+/// Returns the live nodes of a game at which a column holds, or with `want` false those at which it doesn't.
+///
+/// # Errors
+///
+/// `NoMemory` if out of memory.
 pub fn part_of(
     alloc: Global,
     scope: &Scope,

@@ -1,4 +1,4 @@
-//! The searched nodes as a set, and steps that are taken for the nodes of a set.
+//! The searched nodes as a set, and steps counted for the nodes of a set.
 ghost use Rattle.std.specs.Prelude.{◌≡◌, ◌+◌, ◌≤◌, length, map, count_by, IfOk, OnOk, if◌then◌else◌};
 ghost use Rattle.cq_position.specs.Games.{is_searched as is_searched_in, numbers};
 ghost use Rattle.cq_position.specs.Search.{nodes_in};
@@ -14,7 +14,11 @@ use pgn_tree::Game;
 use std::alloc::Global;
 use std::sync::ledger::Ledger;
 
-/// The searched nodes; each takes a step.
+/// Returns the searched nodes. Each takes a step.
+///
+/// # Errors
+///
+/// `NoMemory` if out of memory.
 pub fn searched_nodes<L: Ledger>(
     alloc: Global,
     game: &Game,
@@ -35,7 +39,11 @@ pub fn searched_nodes<L: Ledger>(
     Ok(all)
 }
 
-/// The searched nodes.
+/// Returns the searched nodes. Takes no steps.
+///
+/// # Errors
+///
+/// `NoMemory` if out of memory.
 pub fn all_nodes(alloc: Global, scope: &Scope) -> Result<Vec<bool>, NoMemory>
     ensures { IfOk result (λ all. AreAllAsked (tree_in scope.now) all.items) }
 {

@@ -22,7 +22,11 @@ use pgn_tree::Game;
 use std::alloc::Global;
 use std::sync::ledger::Ledger;
 
-/// The pattern of parts in a row, whose atoms have the numbers from the next on.
+/// Returns the pattern of parts in a row. Its atoms get the numbers from `next` on, and `next` is moved past them.
+///
+/// # Errors
+///
+/// `NoMemory` if out of memory.
 #[cycle(pattern)]
 #[tactic(auto, using(crate::proofs::LineAtoms::next_few))]
 pub fn parts_pattern(
@@ -71,7 +75,11 @@ fn marked(alloc: Global, mark: Mark, pattern: Pattern) -> Result<Pattern, NoMemo
     }
 }
 
-/// The tree of a game as a line's paths go through it.
+/// Returns the tree of a game for the paths of a line.
+///
+/// # Errors
+///
+/// `NoMemory` if out of memory.
 pub fn shape_of(
     alloc: Global,
     scope: &Scope,
@@ -93,7 +101,7 @@ pub fn shape_of(
     Ok(shape)
 }
 
-// Only paths of the lengths that an extent allows count.
+// Restricts the paths that count to the lengths that an extent allows.
 fn limit(shape: &mut Shape, extent: &Extent)
     requires { limits_of shape.old ≡ None }
     ensures extent { limits_of shape.new ≡ limits_in extent.now }
@@ -106,7 +114,7 @@ fn limit(shape: &mut Shape, extent: &Extent)
     }
 }
 
-// Adds the node of a number to those before it.
+// Adds node `k` to the nodes before it.
 fn push_node(shape: &mut Shape, scope: &Scope, k: u32) -> Result<(), NoMemory>
     requires tree { IsTree scope.now.game.now.nodes }
     requires node { k < length scope.now.game.now.nodes }
@@ -121,7 +129,11 @@ fn push_node(shape: &mut Shape, scope: &Scope, k: u32) -> Result<(), NoMemory>
     Ok(())
 }
 
-/// A table for the atoms of parts in a row at the nodes of a game; none of them holds anywhere.
+/// Returns a table for the atoms of parts in a row at the nodes of a game. No atom holds at any node.
+///
+/// # Errors
+///
+/// `NoMemory` if out of memory.
 pub fn empty_table<L: Ledger>(
     alloc: Global,
     parts: &Constituents,
@@ -140,7 +152,7 @@ pub fn empty_table<L: Ledger>(
     Ok(table)
 }
 
-/// The atom of a number holds from now on at the nodes of a set.
+/// Sets an atom to hold at the nodes of a set.
 pub fn put_nodes<L: Ledger>(table: &mut AtomTable<L>, atom: u32, game: &Game, set: &[bool])
     requires atom { atom < atoms_of table.old }
     requires nodes { nodes_of table.old ≡ length game.now.nodes }
@@ -164,7 +176,11 @@ fn put_if<L: Ledger>(table: &mut AtomTable<L>, atom: u32, node: u32, there: bool
     }
 }
 
-/// The same numbers, of another type.
+/// Returns the same numbers as `i64`.
+///
+/// # Errors
+///
+/// `NoMemory` if out of memory.
 pub fn wide_numbers(alloc: Global, numbers: &[Option<u32>]) -> Result<Vec<Option<i64>>, NoMemory>
     ensures { IfOk result (λ wide. wide.items ≡ map (option_map pos) numbers.now) }
 {

@@ -1,4 +1,4 @@
-//! What is left of a set of nodes while squares are tried one by one.
+//! The nodes of a set that are left as squares are tried one by one.
 ghost use Rattle.std.specs.Prelude.{◌≡◌, ℕ, ◌<◌, ◌&&◌, length, get_or, true, false, not, IfOk, if◌then◌else◌};
 ghost use Rattle.cq_symmetry.specs.Images.{is_in};
 ghost use Rattle.cql_syntax.specs.Values as spec;
@@ -16,7 +16,7 @@ use cql_values::sets::has_square;
 use cql_values::value::Value;
 use std::alloc::Global;
 
-/// Squares among which are those that a column has at the nodes of a set.
+/// Returns a set with all squares that a column has at the live nodes.
 pub fn wanted_squares(live: &[bool], squares: &FilterColumn) -> u64
     ensures { CoverSquares (shown squares.now) live.now result }
 {
@@ -33,7 +33,11 @@ fn wanted_at(asked: bool, squares: &FilterColumn, n: usize) -> u64
     if asked { squares.at(n).squares() } else { 0 }
 }
 
-/// The nodes of a set at which this square is of the column's.
+/// Returns the nodes of a set at which the column has a square.
+///
+/// # Errors
+///
+/// `NoMemory` if out of memory.
 pub fn having(
     alloc: Global,
     left: &[bool],
@@ -90,7 +94,8 @@ fn has_one(value: Value, square: Square) -> bool
     has_square(value.squares(), square)
 }
 
-/// The nodes of a set that stay open: all but those of `there` at which the column holds, or, of `square all`, doesn't hold.
+/// Returns the nodes of a set that stay open. Without `every`, a node of `there` is settled if the column holds there. With `every`, it is
+/// settled if the column doesn't.
 pub fn unsettled(every: bool, left: Vec<bool>, there: &[bool], column: &FilterColumn) -> Vec<bool>
     requires { length there.now ≡ length left.items }
     ensures { AreLeftOpen every (λ n. spec.holds (shown column.now n)) left.items there.now result.items }
@@ -116,7 +121,12 @@ fn keeps(every: bool, asked: bool, there: bool, column: &FilterColumn, n: usize)
     asked && !(there && column.at(n).holds() != every)
 }
 
-/// What `square` gives once all squares are tried: of `square all` whether a node stayed open, else whether it was settled.
+/// Returns the truths of a `square` filter after all squares are tried. With `every` a node is true if it stayed open, else if it was
+/// settled.
+///
+/// # Errors
+///
+/// `NoMemory` if out of memory.
 pub fn decided(alloc: Global, every: bool, left: Vec<bool>) -> Result<Vec<bool>, NoMemory>
     ensures { IfOk result (λ truths. (n : ℕ) → n < length left.items
         → get_or truths.items n false ≡ (if get_or left.items n false then every else not every)) }

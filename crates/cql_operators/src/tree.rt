@@ -14,7 +14,11 @@ use cql_values::walks::is_searched;
 use pgn_tree::Game;
 use std::alloc::Global;
 
-/// The nodes that are asked for, and the searched nodes below them.
+/// Returns the live nodes and the searched nodes below them.
+///
+/// # Errors
+///
+/// `NoMemory` if out of memory.
 pub fn below(alloc: Global, scope: &Scope, live: &[bool]) -> Result<Vec<bool>, NoMemory>
     requires tree { IsTree scope.now.game.now.nodes }
     requires asked { IsNodeSet (tree_in scope.now) live.now }
@@ -27,7 +31,7 @@ pub fn below(alloc: Global, scope: &Scope, live: &[bool]) -> Result<Vec<bool>, N
     Ok(wide)
 }
 
-// Whether a node is searched, and asked for or below one that is, given this of all nodes before it.
+// True if a node is searched, and is live or a child of a node in `wide`, which has all nodes before it.
 fn is_wide(scope: &Scope, live: &[bool], wide: &[bool], k: u32) -> bool
     requires { k < length scope.now.game.now.nodes }
     ensures { result ≡ is_below_live (tree_in scope.now) live.now wide.now k }
@@ -45,7 +49,7 @@ fn is_flagged(node: Option<u32>, flags: &[bool]) -> bool
     }
 }
 
-/// For each node whether a node of a set is that node or below it.
+/// Returns the nodes that have a node of a set at or below them.
 pub fn with_ancestors(game: &Game, set: Vec<bool>) -> Vec<bool>
     requires tree { IsTree game.now.nodes }
     requires count { length set.items ≡ length game.now.nodes }
@@ -61,7 +65,7 @@ pub fn with_ancestors(game: &Game, set: Vec<bool>) -> Vec<bool>
     found
 }
 
-// Adds the parent of a node where it is asked.
+// Adds the parent of a node if `there` is true.
 fn raise(found: &mut Vec<bool>, game: &Game, k: u32, there: bool)
     requires node { k < length game.now.nodes }
     requires count { length found.old.items ≡ length game.now.nodes }
@@ -74,7 +78,11 @@ fn raise(found: &mut Vec<bool>, game: &Game, k: u32, there: bool)
     }
 }
 
-/// For each node whether a node of a set is that node or on its way up.
+/// Returns the nodes that are in a set or below a node of it.
+///
+/// # Errors
+///
+/// `NoMemory` if out of memory.
 pub fn with_descendants(alloc: Global, game: &Game, set: &[bool]) -> Result<Vec<bool>, NoMemory>
     requires tree { IsTree game.now.nodes }
     ensures { IfOk result (λ found. AreWithDescendants game.now.nodes set.now found.items) }
@@ -86,7 +94,7 @@ pub fn with_descendants(alloc: Global, game: &Game, set: &[bool]) -> Result<Vec<
     Ok(found)
 }
 
-// Whether a node is in a set or below one that is, given this of all nodes before it.
+// True if a node is in a set or below one that is, given this of all nodes before it.
 fn is_under(game: &Game, set: &[bool], found: &[bool], k: u32) -> bool
     requires { k < length game.now.nodes }
     ensures { result ≡ (get_or set.now k false || flag_of found.now (node_at game.now.nodes k).parent) }
@@ -94,7 +102,7 @@ fn is_under(game: &Game, set: &[bool], found: &[bool], k: u32) -> bool
     truth_at(set, k as usize) || is_flagged(game.parent(k), found)
 }
 
-/// Some nodes, and the parents of those of a set.
+/// Returns some nodes, and the parents of those of a set.
 pub fn with_parents(game: &Game, set: &[bool], start: Vec<bool>) -> Vec<bool>
     requires tree { IsTree game.now.nodes }
     requires count { length start.items ≡ length game.now.nodes }
@@ -109,14 +117,22 @@ pub fn with_parents(game: &Game, set: &[bool], start: Vec<bool>) -> Vec<bool>
     found
 }
 
-/// No nodes.
+/// Returns the empty set.
+///
+/// # Errors
+///
+/// `NoMemory` if out of memory.
 pub fn none(alloc: Global, game: &Game) -> Result<Vec<bool>, NoMemory>
     ensures { IfOk result (λ set. set.items ≡ replicate (length game.now.nodes) false) }
 {
     Ok(vec![in alloc; false; game.len() as usize]?)
 }
 
-/// The nodes on the ways up from those that are asked for.
+/// Returns the nodes on the ways up from the live nodes.
+///
+/// # Errors
+///
+/// `NoMemory` if out of memory.
 pub fn above(alloc: Global, scope: &Scope, live: &[bool]) -> Result<Vec<bool>, NoMemory>
     requires tree { IsTree scope.now.game.now.nodes }
     requires asked { IsNodeSet (tree_in scope.now) live.now }
@@ -126,7 +142,11 @@ pub fn above(alloc: Global, scope: &Scope, live: &[bool]) -> Result<Vec<bool>, N
     Ok(with_ancestors(scope.game, start))
 }
 
-/// The searched children of the nodes that are asked for.
+/// Returns the searched children of the live nodes.
+///
+/// # Errors
+///
+/// `NoMemory` if out of memory.
 pub fn children(alloc: Global, scope: &Scope, live: &[bool]) -> Result<Vec<bool>, NoMemory>
     requires tree { IsTree scope.now.game.now.nodes }
     requires asked { IsNodeSet (tree_in scope.now) live.now }
@@ -139,7 +159,7 @@ pub fn children(alloc: Global, scope: &Scope, live: &[bool]) -> Result<Vec<bool>
     Ok(wide)
 }
 
-// Whether a node is searched and its parent is in a set.
+// True if a node is searched and its parent is in a set.
 fn is_child(scope: &Scope, live: &[bool], k: u32) -> bool
     requires { k < length scope.now.game.now.nodes }
     ensures { result ≡ (is_searched_in scope.now.variations scope.now.game.now.nodes k
@@ -148,7 +168,11 @@ fn is_child(scope: &Scope, live: &[bool], k: u32) -> bool
     is_searched(scope.game, scope.variations, k) && is_flagged(scope.game.parent(k), live)
 }
 
-/// The parents of the nodes that are asked for.
+/// Returns the parents of the live nodes.
+///
+/// # Errors
+///
+/// `NoMemory` if out of memory.
 pub fn parents(alloc: Global, scope: &Scope, live: &[bool]) -> Result<Vec<bool>, NoMemory>
     requires tree { IsTree scope.now.game.now.nodes }
     requires asked { IsNodeSet (tree_in scope.now) live.now }
@@ -158,7 +182,11 @@ pub fn parents(alloc: Global, scope: &Scope, live: &[bool]) -> Result<Vec<bool>,
     Ok(with_parents(scope.game, live, start))
 }
 
-/// The nodes before those that are asked for.
+/// Returns the live nodes and their parents. These have the node before each live node, which for the root is the root itself.
+///
+/// # Errors
+///
+/// `NoMemory` if out of memory.
 pub fn nodes_before(alloc: Global, scope: &Scope, live: &[bool]) -> Result<Vec<bool>, NoMemory>
     requires tree { IsTree scope.now.game.now.nodes }
     requires asked { IsNodeSet (tree_in scope.now) live.now }
@@ -168,7 +196,11 @@ pub fn nodes_before(alloc: Global, scope: &Scope, live: &[bool]) -> Result<Vec<b
     Ok(with_parents(scope.game, live, start))
 }
 
-/// For each node whether its parent is in a set.
+/// Returns the nodes whose parent is in a set.
+///
+/// # Errors
+///
+/// `NoMemory` if out of memory.
 pub fn of_parents(alloc: Global, game: &Game, set: &[bool]) -> Result<Vec<bool>, NoMemory>
     ensures { IfOk result (λ found. (n : ℕ) → n < length game.now.nodes
         → get_or found.items n false ≡ flag_of set.now (node_at game.now.nodes n).parent) }
@@ -180,7 +212,11 @@ pub fn of_parents(alloc: Global, game: &Game, set: &[bool]) -> Result<Vec<bool>,
     Ok(found)
 }
 
-/// The nodes that a step of a line leads to from those that are asked for: down or, with `back`, up.
+/// Returns the nodes to which a step of a line leads from the live nodes: down or, with `back`, up.
+///
+/// # Errors
+///
+/// `NoMemory` if out of memory.
 pub fn onward(
     alloc: Global,
     scope: &Scope,
@@ -198,7 +234,11 @@ pub fn onward(
     }
 }
 
-/// All nodes on ways of a line from those that are asked for: down or, with `back`, up.
+/// Returns all nodes on ways of a line from the live nodes: down or, with `back`, up.
+///
+/// # Errors
+///
+/// `NoMemory` if out of memory.
 #[tactic(auto, using(crate::proofs::SpelledAlike::below_reached, crate::proofs::SpelledAlike::above_reached))]
 pub fn reached(
     alloc: Global,

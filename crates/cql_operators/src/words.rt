@@ -19,7 +19,11 @@ use cql_values::value::Value;
 use cql_values::words::word_at;
 use std::alloc::Global;
 
-/// The values of a word. Those that count moves on the way to a node are counted in one pass over the game.
+/// Returns the values of a word. `ply` and `depth` are counted in one pass over the game.
+///
+/// # Errors
+///
+/// `NoMemory` if out of memory.
 pub fn word_values(
     alloc: Global,
     word: Plain,

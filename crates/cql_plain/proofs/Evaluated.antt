@@ -1,4 +1,4 @@
--- One more value of the members of a family, and squares that settle what is asked.
+-- One more value of the members of a family, and squares that settle a condition.
 use Rattle.std.proofs.Common.{◌≡◌, ℕ, zero, suc, ◌+◌, ◌<◌, Bool, true, false, not, ◌||◌, List, [], ◌∷◌, ◌++◌, map, take, drop, length, get_or, refl, sym, ap, ◌∙◌, Some, None, add-one, cond}
 use Rattle.std.specs.Prelude.{slice_get, if◌then◌else◌, option_to_list, option_map, Option}
 use Rattle.std.specs.List.{filter, list_any, range_with_len}
@@ -52,7 +52,7 @@ members_more tree g e n ms k h f is =
     sym (ap (λ xs. values_in_members tree g e xs f n) (take_get ms k h is) ∙ ap (λ l. map (λ x. value tree x e f n) (filter (λ x. fits x f) l)) (map_snoc (λ m. m ∷ g) (take k ms) h)
     ∙ kept_snoc (λ x. fits x f) (λ x. value tree x e f n) (map (λ m. m ∷ g) (take k ms)) (h ∷ g))
 
--- one square settles it, and none so far does
+-- one square settles the condition, and none before it does
 pub settled : (every : Bool) (x : Value) (asked : ℕ → Bool) (set s : ℕ) → has x ≡ is_in set → s < 64 → settles every (is_in set) asked s ≡ true → as_truth (not every) ≡ square_of every x asked
 settled every x asked set s is low e =
     sym (by_settling every x asked true (sym (ap (λ h. list_any (settles every h asked) squares) is ∙ some_square (settles every (is_in set) asked) s low e)))
@@ -73,7 +73,7 @@ pub family_is : (tree : SearchedTree) (g : Context) (e : Names) (family : Family
 unfolding value
 family_is tree g e family part whole at n is = sym (ap (λ w. value tree g e w n) is)
 
--- nodes are asked one after the other whether one passes
+-- a search over nodes, one after the other, for one that passes
 module _ (p : ℕ → Bool) (xs : List ℕ) (k d : ℕ) where
   pub any_found : k < length xs → p (get_or xs k d) ≡ true → list_any p (drop k xs) ≡ list_any p xs → true ≡ list_any p xs
   any_found low here e = sym (ap (λ b. b || list_any p (drop (k + 1) xs)) here) ∙ sym (ap (list_any p) (drop_more xs k d low)) ∙ e

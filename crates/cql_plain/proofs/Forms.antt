@@ -1,4 +1,4 @@
--- What a form gives, from what its parts give.
+-- The value of a form, by the values of its parts.
 use Rattle.std.proofs.Common.{◌≡◌, ℕ, Bool, true, List, ◌∷◌, refl, sym, ap, ap₂, ◌∙◌}
 use Rattle.std.specs.Prelude.{is_some}
 use Rattle.cq_common.specs.Spelling.{one}
@@ -110,7 +110,7 @@ module _ (s : Scope) (f : Filter) (n : ℕ) where
   unfolding value
   any_value k fs is = of_form (any k fs) is
 
--- what the body of a part spells
+-- the pattern of the body of a part
 module _ (s : Scope) where
   pub atom_pattern : (a : FilterTree) → one (value_in s a) ≡ body_pattern (tree_in s) s.context.now s.names.now (atom a)
   unfolding value

@@ -1,4 +1,4 @@
--- What a line gives, by the type of lines.
+-- The value of a line, by the type of lines.
 use Rattle.std.proofs.Common.{◌≡◌, ℕ, Bool, true, false, pos, List, ◌∷◌, length, replicate, Option, option_map, refl, subst}
 use denote.Hole.Carrier as Carrier
 use Rattle.cq_position.specs.Games.{IsTree}

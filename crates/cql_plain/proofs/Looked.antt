@@ -1,4 +1,4 @@
--- The nodes among which a word looks for one.
+-- The nodes that a word searches.
 use Rattle.std.proofs.Common.{◌≡◌, ◌<◌, ℕ, List, length, Some, None, ap, sym, ◌∙◌, subst}
 use Rattle.std.specs.Prelude.{All}
 use Rattle.cq_position.specs.Games.{IsTree}
@@ -31,7 +31,7 @@ looked_inside tree is_tree Power n low nodes is = absurd cc
 looked_inside tree is_tree Light n low nodes is = absurd cc
 looked_inside tree is_tree Dark n low nodes is = absurd cc
 
--- a word that looks for none
+-- a word that searches no nodes
 pub word_alone : (tree : SearchedTree) (word : Unary) (v : ℕ → Value) (n : ℕ) (x : Value) → None ≡ candidate_nodes tree word n → x ≡ v n → unary_result (position_at tree n).men word x ≡ unary_of tree word v n
 word_alone tree word v n x none =
     word_here tree word v n x (λ e. let f = none ∙ ap (λ w. candidate_nodes tree w n) e in cc) (λ e. let f = none ∙ ap (λ w. candidate_nodes tree w n) e in cc)

@@ -1,4 +1,4 @@
--- The places at which the parts of a line end: loops over parts, over how often a part stands, and over nodes.
+-- The places at which the parts of a line end: loops over parts, over the repetitions of a part, and over nodes.
 use Rattle.std.proofs.Common.{◌≡◌, ℕ, zero, suc, ◌+◌, ◌<◌, ◌≤◌, Bool, true, false, not, ◌&&◌, ◌||◌, nat_eq, List, [], ◌∷◌, ◌++◌, map, drop, length, get_or, Option, Some, None, refl, sym, ap, ap₂, ◌∙◌, subst, arith, inl, inr, eqb-true}
 use Rattle.std.specs.Prelude.{◌⊎◌, ◌↔◌, zip}
 use Rattle.std.specs.List.{list_any, range_with_len}
@@ -50,7 +50,7 @@ none_in (true ∷ xs) e j h = cc
 none_in (false ∷ xs) e zero h = cc
 none_in (false ∷ xs) e (suc j) h = none_in xs e j h
 
--- how often a part stands
+-- the repetitions of a part
 module _ (steps : List (Option PathStep)) (p : Pattern (ℕ → Value)) (least : ℕ) (starts : List Bool) where
   pub record AreTurns (t : ℕ) (here ends : List Bool) : Type 0 where
     pub here_count : length here ≡ length starts
@@ -150,7 +150,7 @@ module _ (steps : List (Option PathStep)) (p : Pattern (ℕ → Value)) (least :
     );
   }
 
--- a mark allows as many times as are of use
+-- a mark allows all repetitions that can be used
 pub marks_law : (steps : List (Option PathStep)) → AreSteps steps → (mark : Mark) (p : Pattern (ℕ → Value)) (S : ℕ → Type 0) (j : ℕ)
     → IsEnd (GoesTo steps) holds_of (marked mark p) S j ↔ IsEnd (GoesTo steps) holds_of (repeated (least_times mark) (Some (most_times mark (length steps))) p) S j
 marks_law steps sound Once p S j = once_law (GoesTo steps) holds_of p S j

@@ -1,4 +1,4 @@
--- How the paths down from a node reach the others, as the list is filled.
+-- The last steps of the paths down from a node, as the list is filled.
 use Rattle.std.proofs.Common.{◌≡◌, ℕ, zero, suc, ◌+◌, ◌<◌, ◌≤◌, Bool, true, false, not, ◌||◌, List, [], ◌∷◌, ◌++◌, length, get_or, Option, Some, None, refl, sym, ap, ◌∙◌, subst, arith, inl, inr, eqb-true, length-append}
 use Rattle.std.specs.Prelude.{◌⊎◌, ◌==◌, if◌then◌else◌, option_map}
 use Rattle.std.proofs.lemmas.Bool.{cases_lt, eq-eqb, ne_eqb}
@@ -56,7 +56,7 @@ down_is tree primary k p e =
 pub is_down : (tree : SearchedTree) (primary : Bool) (k p : ℕ) → IsStepDown tree primary p k → searched_above tree primary k ≡ Some p
 is_down tree primary k p s = rw s.is_in (is_above tree primary k p (record { parent = s.child; first = s.first }))
 
--- How a node is reached: as the first of a path, or by another.
+-- The last step to a node: the path begins there, or it comes from another node.
 pub record IsFirst (n k j : ℕ) (o : Option PathStep) : Type 0 where
   pub node : k ≡ n
   pub place : j ≡ 0
@@ -87,7 +87,7 @@ cases : (steps : List (Option PathStep)) (n k j : ℕ) (by : Option ℕ) (b : Bo
 cases steps n k j by true is e = inl (record { node = eqb-true k n is; place = sym (some_same 0 j e); nodes = refl })
 cases steps n k j by false is e = inr (refl, after steps by j e)
 
--- the first k nodes are told
+-- the first k nodes are filled in
 pub record AreDown (tree : SearchedTree) (primary : Bool) (n k : ℕ) (steps : List (Option PathStep)) : Type 0 where
   pub count : length steps ≡ k
   pub told : (i : ℕ) → i < k → get_or steps i None ≡ step_down tree primary n steps i

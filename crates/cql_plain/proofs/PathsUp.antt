@@ -1,4 +1,4 @@
--- How the paths up from a node reach the others, as the list is filled.
+-- The last steps of the paths up from a node, as the list is filled.
 use Rattle.std.proofs.Common.{◌≡◌, ◌≢◌, ℕ, zero, suc, ◌+◌, ◌<◌, ◌≤◌, Bool, true, List, length, get_or, replicate, Option, Some, None, refl, sym, ap, ◌∙◌, subst, arith, inl, inr, get_or-set_other, get_or-set_same, length-set}
 use Rattle.std.specs.Prelude.{◌⊎◌, slice_set}
 use Rattle.std.proofs.lemmas.Bool.{cases_eq}
@@ -26,7 +26,7 @@ pub record IsStart (n k before nodes : ℕ) : Type 0 where
 abbrev pub IsReached : SearchedTree → Bool → ℕ → List (Option PathStep) → ℕ → PathStep → Type 0
 IsReached tree primary n steps k r = IsStart n k r.before r.length ⊎ IsFrom tree primary steps k r.before r.length
 
--- those up to some node are told, and it is the next
+-- the steps on the way up are filled in, except at the next node and above it
 pub record AreUp (tree : SearchedTree) (primary : Bool) (n : ℕ) (steps : List (Option PathStep)) (next : Option ℕ) (reached : PathStep) : Type 0 where
   pub count : length steps ≡ length tree.game.nodes
   pub told : (k : ℕ) (r : PathStep) → get_or steps k None ≡ Some r → IsReached tree primary n steps k r
@@ -72,7 +72,7 @@ module _ (tree : SearchedTree) (is_tree : IsTree tree.game.nodes) (primary : Boo
     there : (i : ℕ) → i ≢ k → get_or new i None ≡ get_or steps i None
     there i other = ap (λ xs. get_or xs i None) is ∙ get_or-set_other steps k i (Some reached) None other
 
-    -- what was reached is no node up to k
+    -- node k is not among those reached so far
     beyond : (i : ℕ) (r : PathStep) → get_or steps i None ≡ Some r → i ≢ k
     beyond i r e = λ same. absurd (let none = u.clear k i refl (omega (arith, same)) in let both : None ≡ Some r = sym none ∙ e in cc)
 

@@ -1,4 +1,4 @@
--- One law for each form of a pattern: where it ends.
+-- One law for each form of a pattern: the places at which it ends.
 use Rattle.std.proofs.Common.{◌≡◌, ℕ, zero, suc, ◌+◌, ◌≤◌, Bool, true, List, [], ◌∷◌, ◌++◌, length, refl, sym, ap, ◌∙◌, subst, Option, Some, None, IfSome, inl, inr, arith, length-append, append_assoc, append-nil}
 use Rattle.std.specs.Prelude.{◌⊎◌, ◌↔◌}
 use Rattle.std.proofs.lemmas.Bool.{cases_lt}
@@ -200,8 +200,8 @@ module _ {A : Type 0} (goes : ℕ → ℕ → Type 0) (test : A → ℕ → Bool
   any_most p least most S j r =
       record { start = r.start; path = r.path; begins = r.begins; leads = r.leads; spelled = (r.spelled.0, r.spelled.1, tt, r.spelled.3) }
 
-  -- Parts one after another: after t of them the places `Here` are reached, those that were ends before left out, and the ends so far are
-  -- `Ends`, after at least so many parts.
+  -- Parts one after another. After t of them the places `Here` are reached, without those that were ends before. The ends so far are
+  -- `Ends`, after at least `least` parts.
   pub record Turns (p : Pattern A) (least t : ℕ) (S Here Ends : ℕ → Type 0) : Type 0 where
     pub reached : (j : ℕ) → Here j → Power p t S j
     pub ends : (j : ℕ) → Ends j → IsRepeated p least (Some t) S j
@@ -227,7 +227,7 @@ module _ {A : Type 0} (goes : ℕ → ℕ → Type 0) (test : A → ℕ → Bool
       at_zero zero j low high h = b.all j (omega arith) h
       at_zero (suc k) j low high h = absurd (omega arith)
 
-  -- what one part more makes of them
+  -- the places and the ends after one part more
   pub record IsTurn (least t : ℕ) (Next Here Ends NewHere NewEnds : ℕ → Type 0) : Type 0 where
     pub here : (j : ℕ) → NewHere j → Next j
     pub fresh : (j : ℕ) → Next j → NewHere j ⊎ Ends j
@@ -266,7 +266,7 @@ module _ {A : Type 0} (goes : ℕ → ℕ → Type 0) (test : A → ℕ → Bool
       new_end : (j : ℕ) → least ≤ t + 1 → Next j → IsRepeated p least (Some (suc t)) S j
       new_end j low h = record { count = suc t; enough = omega arith; within = omega arith; ends = from_next j h }
 
-      -- ends begin where enough parts stand
+      -- ends begin after enough parts
       old_closed : (j : ℕ) → IsEnd goes test p Ends j → NewEnds j
       old_closed j r =
           let e = o.ends r.start r.begins in
@@ -283,7 +283,7 @@ module _ {A : Type 0} (goes : ℕ → ℕ → Type 0) (test : A → ℕ → Bool
           same : m ≡ t
           same = omega arith
 
-  -- where no new place is reached, there are no ends but those
+  -- no new place is reached, and so there are no other ends
   pub stopped : (p : Pattern A) (least t : ℕ) (S Here Ends : ℕ → Type 0) → ((j : ℕ) → Here j → ⊥) → Turns p least t S Here Ends
       → (k j : ℕ) → least ≤ k → Power p k S j → Ends j
   stopped p least t S Here Ends none o k j low h = elim (cases_lt t least) [

@@ -1,4 +1,4 @@
-//! What a filter gives at a node, by recursion on the filter.
+//! The value of a filter at a node, by recursion on the filter.
 ghost use Rattle.std.specs.Prelude.{◌≡◌, ◌<◌, ◌∷◌, true, length, map, All, IfOk, OnOk, option_map, option_to_list, ◌++◌};
 ghost use Rattle.cq_position.specs.Games.{IsTree};
 ghost use Rattle.cq_symmetry.specs.Families.{members};
@@ -37,7 +37,7 @@ use lines::line_at;
 use played::played_at;
 use std::alloc::Global;
 
-/// What a filter gives at a node.
+/// Returns the value of a filter at a node.
 #[cycle(evaluate)]
 pub(crate) fn evaluate(
     alloc: Global,
@@ -96,7 +96,7 @@ pub(crate) fn evaluate(
     }
 }
 
-// Whether a tag is as it is asked for.
+// True if a text is part of the tag of a field, by the field's image in the context.
 fn tagged(field: Field, text: &[u8], scope: &Scope) -> Value
     ensures { as_value result ≡ spec.as_truth
         (headers.has_text scope.now.game.now (contexts.field_image scope.now.context.now field) text.now) }
@@ -105,7 +105,7 @@ fn tagged(field: Field, text: &[u8], scope: &Scope) -> Value
     Value::Truth(has_text(scope.game, field, text))
 }
 
-// Whether the result is the one that is asked for.
+// True if the game's result is the one of the filter, by its image in the context.
 fn ended(outcome: Outcome, scope: &Scope) -> Value
     ensures { as_value result ≡ spec.as_truth
         (headers.is_result (contexts.outcome_image scope.now.context.now outcome) scope.now.game.now.result) }
@@ -114,7 +114,7 @@ fn ended(outcome: Outcome, scope: &Scope) -> Value
     Value::Truth(is_result(outcome, scope.game.result()))
 }
 
-// What a word or mark before a part gives.
+// The value of a word or mark before a part.
 #[cycle(evaluate)]
 fn unary_at(
     alloc: Global,
@@ -136,7 +136,7 @@ fn unary_at(
     }
 }
 
-// The nodes among which a word looks for one, where it looks for one.
+// The nodes that a word searches, if it searches any.
 fn candidate_nodes(
     alloc: Global,
     word: Unary,
@@ -156,7 +156,7 @@ fn candidate_nodes(
     }
 }
 
-// Whether a filter holds at one of some nodes.
+// True if a filter holds at one of some nodes.
 #[cycle(evaluate)]
 fn some_node(alloc: Global, part: &Filter, scope: &Scope, nodes: &[u32]) -> Result<Value, NoMemory>
     requires tree { IsTree scope.now.game.now.nodes }
@@ -172,7 +172,7 @@ fn some_node(alloc: Global, part: &Filter, scope: &Scope, nodes: &[u32]) -> Resu
     Ok(Value::Truth(false))
 }
 
-// What a chain gives.
+// The value of a chain.
 #[cycle(evaluate)]
 fn chain_at(
     alloc: Global,
@@ -190,7 +190,7 @@ fn chain_at(
     Ok(chain_of(chain, values.as_slice()))
 }
 
-// What one of some filters of a kind gives, or all of them together.
+// The value of any of some filters of a kind.
 #[cycle(evaluate)]
 fn any_at(
     alloc: Global,
@@ -208,7 +208,7 @@ fn any_at(
     Ok(any_of(kind, values.as_slice()))
 }
 
-// What a sum gives.
+// The value of a sum.
 #[cycle(evaluate)]
 fn sum_at(alloc: Global, terms: &Terms, scope: &Scope, node: u32) -> Result<Value, NoMemory>
     requires tree { IsTree scope.now.game.now.nodes }
@@ -242,7 +242,7 @@ fn values_at(
     Ok(values)
 }
 
-// The value of each term of a sum, with whether it is subtracted.
+// The value of each term of a sum, with its flag, which is true if the term is subtracted.
 #[cycle(evaluate)]
 #[tactic(auto, unfolding(cql_syntax::specs::Meaning::value))]
 fn terms_at(
@@ -264,7 +264,7 @@ fn terms_at(
     Ok(values)
 }
 
-// Whether what is asked of a square holds of every square of a set, or of some.
+// True if a condition holds for every square of a set, or for some.
 #[cycle(evaluate)]
 fn square_at(
     alloc: Global,
@@ -291,7 +291,7 @@ fn square_at(
     Ok(Value::Truth(every))
 }
 
-// Whether a square settles what is asked of every square, or of some.
+// True if a square settles a condition on every square, or on some.
 #[cycle(evaluate)]
 fn decides(
     alloc: Global,
@@ -317,7 +317,7 @@ fn decides(
     Ok(value.holds() != every)
 }
 
-// The value of a filter inside of a mapping, where it fits.
+// The value of a filter inside of a mapping, if the filter fits there.
 #[cycle(evaluate)]
 fn member_value(
     alloc: Global,
@@ -365,7 +365,7 @@ fn member_values(
     Ok(values)
 }
 
-// The value of a family: of its members with which its part fits, one holds, their union, or the greatest.
+// The value of a family, over the members with which its part fits: true if one holds, their union, or the greatest of them.
 #[cycle(evaluate)]
 fn family_value(
     alloc: Global,
@@ -383,7 +383,7 @@ fn family_value(
     Ok(any_of(kind_of(part), values.as_slice()))
 }
 
-// Adds a value where there is one.
+// Adds a value if there is one.
 fn push_if_some(values: &mut Vec<Value>, value: Option<Value>) -> Result<(), NoMemory>
     ensures { OnOk result (values.new.items ≡ values.old.items ++ option_to_list value) }
 {

@@ -1,4 +1,4 @@
-//! The written meaning of queries: what a filter gives at a node of a game, member by member of each family and path by path of each
+//! The written meaning of queries: the value of a filter at a node of a game, member by member of each family and path by path of each
 //! line.
 //!
 //! `cql_syntax/specs/Meaning` has the meaning, `cql_values` the values and their combination.

@@ -1,4 +1,4 @@
-//! Where the men of a designator stand.
+//! The squares that have the men of a designator.
 ghost use Rattle.std.specs.Prelude.{◌≡◌};
 ghost use Rattle.cql_syntax.specs.Contexts as contexts;
 ghost use Rattle.cql_syntax.specs.Meaning as meaning;
@@ -11,7 +11,7 @@ use cql_syntax::Designator;
 use cql_values::value::Value;
 use cql_values::words::standing_on;
 
-/// The squares of a designator's image on which one of its men stands; of no image there are none.
+/// Returns the squares of a designator's image that have one of its men. Without an image there are none.
 pub(crate) fn occupied_squares(position: &Position, context: &[Mapping], d: &Designator) -> Value
     ensures { as_value result ≡ meaning.standing_of position.now.men (contexts.designator_image context.now d.now) }
 {

@@ -9,7 +9,7 @@ use cq_common::NoMemory;
 use cql_values::walks::both;
 use std::alloc::Global;
 
-/// Place 0 alone, where each of so many nodes has a place after it.
+/// Returns the set of place 0 alone, among the places before and after `nodes` nodes.
 pub(crate) fn only_first(alloc: Global, nodes: usize) -> Result<Vec<bool>, NoMemory>
     ensures { IfOk result (λ set. set.items ≡ true ∷ replicate nodes false) }
 {
@@ -21,7 +21,7 @@ pub(crate) fn only_first(alloc: Global, nodes: usize) -> Result<Vec<bool>, NoMem
     Ok(set)
 }
 
-/// The places of a set where they count, else none.
+/// Returns the places of a set if they count, else none.
 pub(crate) fn where_counted(
     alloc: Global,
     counts: bool,
@@ -37,7 +37,7 @@ pub(crate) fn where_counted(
     Ok(same)
 }
 
-/// The places that are reached next, without those that are ends already where these count.
+/// Returns the places that are reached next. If ends count, those that are ends already are left out.
 pub(crate) fn fresh(
     alloc: Global,
     counts: bool,
@@ -55,7 +55,7 @@ pub(crate) fn fresh(
     Ok(set)
 }
 
-/// The ends, and where they count the places that are reached next.
+/// Returns the ends and, if they count, the places that are reached next.
 pub(crate) fn with_next(
     alloc: Global,
     counts: bool,
@@ -79,14 +79,14 @@ fn either(a: bool, b: bool) -> bool
     a || b
 }
 
-/// Whether a set has some place.
+/// Returns true if a set has some place.
 pub(crate) fn has_some(set: &[bool]) -> bool
     ensures { result ≡ list_any (λ there. there) set.now }
 {
     set.iter().any(|there| *there)
 }
 
-/// Whether the place before a node is one of a set.
+/// Returns true if the place before a node is in a set.
 pub(crate) fn comes_from(set: &[bool], steps: &[Option<PathStep>], k: u32) -> bool
     requires node { k < length steps.now }
     requires steps { AreSteps steps.now }

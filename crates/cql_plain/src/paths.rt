@@ -16,16 +16,17 @@ use cql_values::walks::{both, is_first_child, is_searched};
 use pgn_tree::Game;
 use std::alloc::Global;
 
-/// How the paths from a node reach another.
+/// The last step of a path to a node.
 #[derive(Clone, Copy)]
 pub(crate) struct PathStep {
     /// The place before the node: 0 before the first node of a path, else one more than the number of the node before it.
     pub(crate) before: u32,
-    /// How many nodes the path has up to this one.
+    /// The number of nodes of the path up to this one.
     pub(crate) length: u32,
 }
 
-/// How the paths down from a node, or with `back` up, reach each node of the game.
+/// Returns for each node of the game the last step to it on the paths down from a node, or up with `back`. A node that is not reached has
+/// none.
 pub(crate) fn paths_from(
     alloc: Global,
     game: &Game,
@@ -64,7 +65,7 @@ fn paths_down(
     Ok(steps)
 }
 
-// How the paths down from a node reach another, given this of all nodes before it.
+// The last step to a node on the paths down from another, given this of all nodes before it.
 fn path_step_down(
     game: &Game,
     variations: bool,
@@ -121,7 +122,7 @@ fn paths_up(
     Ok(steps)
 }
 
-// Nodes of which none is reached yet.
+// No steps: none of the nodes is reached.
 fn no_steps(alloc: Global, nodes: u32) -> Result<Vec<Option<PathStep>>, NoMemory>
     ensures { IfOk result (λ steps. steps.items ≡ replicate nodes None) }
 {
@@ -132,7 +133,7 @@ fn no_steps(alloc: Global, nodes: u32) -> Result<Vec<Option<PathStep>>, NoMemory
     Ok(steps)
 }
 
-// The parent of a node, with `primary` where the node is its first child.
+// The parent of a node. With `primary` there is none unless the node is a first child.
 fn above(game: &Game, primary: bool, k: u32) -> Option<u32>
     requires { k < length game.now.nodes }
     ensures value { result ≡ path.above (searched_tree game.now false) primary k }
@@ -145,7 +146,7 @@ fn above(game: &Game, primary: bool, k: u32) -> Option<u32>
     }
 }
 
-// The same where the node is searched.
+// The same of a searched node; another node has none.
 fn searched_above(game: &Game, variations: bool, primary: bool, k: u32) -> Option<u32>
     requires { k < length game.now.nodes }
     ensures value { result ≡ path.searched_above (searched_tree game.now variations) primary k }
@@ -158,7 +159,7 @@ fn searched_above(game: &Game, variations: bool, primary: bool, k: u32) -> Optio
     }
 }
 
-/// The greatest length that the extent allows of the paths that end at some place of a set.
+/// Returns the greatest length that the extent allows, of the paths that end at some place of a set.
 pub(crate) fn longest(steps: &[Option<PathStep>], ends: &[bool], extent: &Extent) -> Option<u32>
     requires { length ends.now ≡ length steps.now + 1 }
     ensures { IsGreatest (IsLength steps.now ends.now extent.now) result }
@@ -181,7 +182,7 @@ fn nodes_to(step: Option<PathStep>) -> u32
     }
 }
 
-// Whether an extent allows a length.
+// True if an extent allows a length.
 fn allows(extent: &Extent, nodes: u32) -> bool
     ensures { result ≡ meaning.allows extent.now nodes }
 {
@@ -191,7 +192,7 @@ fn allows(extent: &Extent, nodes: u32) -> bool
     }
 }
 
-// The greatest of some numbers and, where it counts, one more.
+// The greatest of some numbers and, if it counts, one more.
 fn with_number(best: Option<u32>, counts: bool, number: u32) -> Option<u32>
     ensures { result ≡ with_number best counts number }
 {
@@ -202,7 +203,7 @@ fn with_number(best: Option<u32>, counts: bool, number: u32) -> Option<u32>
     }
 }
 
-/// A length, where there is one, as a value.
+/// Returns a length as a value; without a length, a number without a value.
 pub(crate) fn number_of(best: Option<u32>) -> Value
     ensures { as_value result ≡ as_number (option_map pos best) }
 {

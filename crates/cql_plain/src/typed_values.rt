@@ -1,4 +1,4 @@
-//! What a filter gives at a node of a game.
+//! The value of a filter at a node of a game, also by its kind.
 ghost use Rattle.std.specs.Prelude.{◌≡◌, ◌<◌, length, IfOk};
 ghost use Rattle.cq_position.specs.Search.{SearchedTree};
 ghost use Rattle.cq_symmetry.specs.Images.{mask_of};
@@ -18,7 +18,11 @@ use cql_values::value::Value;
 use pgn_tree::Game;
 use std::alloc::Global;
 
-/// What a filter gives at a node of a game, of which the variations are searched or the main line alone.
+/// Returns the value of a filter at a node of a game. With `variations` these are searched, else the main line alone.
+///
+/// # Errors
+///
+/// `NoMemory` if out of memory.
 pub fn value_at(
     alloc: Global,
     f: &Filter,
@@ -42,11 +46,15 @@ pub fn value_at(
     evaluate(alloc, f, &scope, node)
 }
 
-/// Whether a filter holds at a node of a game, of which the variations are searched or the main line alone: a set holds where it has a
-/// square, and a number where it has a value.
+/// Returns true if a filter holds at a node of a game. A set holds if it has a square, and a number if it has a value. With `variations`
+/// these are searched, else the main line alone.
 ///
-/// The context is the list of the mappings inside of which the filter is read, the innermost first. A name that isn't bound is no
-/// square.
+/// The context is the list of the mappings inside of which the filter is evaluated, the innermost first. The filter of a name that isn't
+/// bound is the empty set.
+///
+/// # Errors
+///
+/// `NoMemory` if out of memory.
 pub fn holds_at(
     alloc: Global,
     f: &Filter,
@@ -63,7 +71,11 @@ pub fn holds_at(
     Ok(value.holds())
 }
 
-/// The squares of a filter at a node of a game: bit k is square k. A filter that is no set has none.
+/// Returns the squares of a filter at a node of a game. Bit k is square k. A filter that is no set has none.
+///
+/// # Errors
+///
+/// `NoMemory` if out of memory.
 pub fn set_at(
     alloc: Global,
     f: &Filter,
@@ -81,7 +93,11 @@ pub fn set_at(
     Ok(value.squares())
 }
 
-/// The number of a filter at a node of a game, where it has a value. A filter that is no number has none.
+/// Returns the number of a filter at a node of a game, if it has a value. A filter that is no number has none.
+///
+/// # Errors
+///
+/// `NoMemory` if out of memory.
 pub fn number_at(
     alloc: Global,
     f: &Filter,

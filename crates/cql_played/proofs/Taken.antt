@@ -1,4 +1,4 @@
--- The square on which a move takes a man is exactly the one from which a man of the other side is gone.
+-- A legal move takes a man on a square exactly if a man of the other side is there before it, and no man of that side after it.
 use Rattle.std.proofs.Common.{◌≡◌, ◌≢◌, ◌↔◌, ℕ, Bool, true, false, cond, not, ◌&&◌, Option, Some, None, List, length, refl, sym, ap, ap₂, ◌∙◌, subst, inl, inr, arith}
 use Rattle.std.specs.Prelude.{slice_set, nat_lt, ◌==◌}
 use Rattle.std.proofs.lemmas.Bool.{cases_Bool, cases_eq, cond-true, cond-false, and_parts, eq-eqb, ne_eqb}
@@ -25,7 +25,7 @@ use Rattle.cq_moves.proofs.Ways.{moved_other, rook_other, home_of, rights_at}
 use Rattle.cql_played.proofs.Goals.{castling_goal_empty, passing_goal_empty, changes_file, nobody}
 use Rattle.cql_played.specs.Captures.{taken_by, IsCapturedOn}
 
--- a man of a side is none of the other, and what is of no side is the empty square
+-- a man of one side is not of the other, and only the empty square is of no side
 own_not_other : (side : Side) (man : Man) → is_of_side side man ≡ true → is_of_side (opponent side) man ≡ false
 own_not_other White K e = refl
 own_not_other White Q e = refl

@@ -1,4 +1,4 @@
--- What a move led from and took, as the crate's own type.
+-- The squares of a played move, as the crate's own type.
 use Rattle.std.specs.Prelude.{Option, option_map}
 use Rattle.cq_position.specs.declared.moves.Move.{Move}
 use Rattle.cq_position.specs.Board.{Board}
@@ -8,6 +8,6 @@ use Rattle.cql_played.specs.declared.led.Led.{Led}
 abbrev pub as_led : PlainLed → Led
 as_led l = record { origin = l.origin; goal = l.goal; taken = l.taken; promoted = l.promoted }
 
--- nothing of a null move
+-- the squares of a played move; none for a null move
 abbrev pub led_as : Board → Move → Option Led
 led_as p m = option_map as_led (led p m)

@@ -1,4 +1,4 @@
-//! What a move led from and took.
+//! The squares that a played move left and reached, and its capture.
 ghost use Rattle.std.specs.Prelude.{◌≡◌, ◌↔◌, ℕ, Some};
 ghost use Rattle.cq_position.specs.Led.{taken_square};
 ghost use Rattle.cq_position.specs.declared.moves.Move.{Move as MoveValue};
@@ -13,20 +13,20 @@ use cq_geometry::{Square, file, rank, square_at};
 use cq_position::position::is_pawn;
 use cq_position::{Man, Move, Position, Promotion};
 
-/// What a move led from and took. Of castling these are the king's squares.
+/// The squares of a played move. Of castling these are the king's squares.
 #[derive(Clone, Copy, Debug, PartialEq, Eq)]
 pub struct Led {
     /// The square that the man left.
     pub origin: Square,
     /// The square to which it went.
     pub goal: Square,
-    /// The square of the man that it took: beside its origin where a pawn took in passing (FIDE Laws of Chess, article 3.7).
+    /// The square of the man that it took. It is beside the origin if a pawn took in passing (FIDE Laws of Chess, article 3.7).
     pub taken: Option<Square>,
-    /// Whether the move is a promotion.
+    /// True if the move is a promotion.
     pub promoted: bool,
 }
 
-/// What a move led from and took, given the position before it. None exactly where the move is null.
+/// Returns the squares of a move, given the position before it. The result is `None` exactly if the move is null.
 #[tactic(auto, unfolding(cq_position::specs::Led::led))]
 pub fn led_by(before: &Position, m: Move) -> Option<Led>
     ensures { result ≡ led_as before.now m }
@@ -56,8 +56,8 @@ fn taken_by(before: &Position, m: &Move) -> Option<Square>
     }
 }
 
-/// The square on which a legal move takes a man is exactly the one on which a man of the other side stood before it and none stands after
-/// it; where there is no such square it takes none, as a null move never does.
+/// A legal move takes a man on a square exactly if a man of the other side is there before the move, and no man of that side after it. If
+/// there is no such square, the move takes none. A null move never takes.
 #[tactic(auto, using(crate::proofs::Taken::taken_law))]
 pub fn taken_men_are_gone()
     ensures { (p : Board) (m : MoveValue) (q : Board) → IsPosition p → Leads p m q → (s : ℕ) →

@@ -1,4 +1,4 @@
-//! What a move led from and took.
+//! The squares that a played move left and reached, and its capture.
 #![tactic(auto)]
 
 pub mod led;

@@ -1,4 +1,4 @@
--- Names that are looked up from the innermost on.
+-- The look-up of names, from the innermost on.
 use Rattle.std.proofs.Common.{◌≡◌, ℕ, ◌+◌, ◌*◌, ◌%◌, ◌^◌, ◌<◌, ◌≤◌, true, false, ◌&&◌, nat_lt, List, [], ◌∷◌, length, take, reverse, get_or, sym, ap, ◌∙◌, arith}
 use Rattle.std.specs.Prelude.{◌==◌, if◌then◌else◌}
 use Rattle.std.specs.Str.{bytes_eq}
@@ -21,7 +21,7 @@ pub found : (pairs : List (List ℕ × ℕ)) (k : ℕ) (d : List ℕ × ℕ) (te
     → (s : ℕ) → is_bound_to (reverse (take (k + 1) pairs)) text s ≡ ((get_or pairs k d).1 == s)
 found pairs k d text h same s = step pairs k d text s h ∙ ap (λ b. if b then (get_or pairs k d).1 == s else is_bound_to (reverse (take k pairs)) text s) same
 
--- the square of the name that is asked, found among those that are left
+-- the square of the name, found among the names that are left
 pub bound_here : (pairs : List (List ℕ × ℕ)) (left k : ℕ) (d : List ℕ × ℕ) (text : List ℕ) (e : Names) → k + 1 ≡ left → left ≤ length pairs
     → ((s : ℕ) → is_bound_to (reverse (take left pairs)) text s ≡ is_bound_to e text s) → bytes_eq (get_or pairs k d).0 text ≡ true → (number : ℕ) → number ≡ (get_or pairs k d).1 → number < 64
     → 1 * 2 ^ number % 18446744073709551616 < 2 ^ 64 → is_in (1 * 2 ^ number % 18446744073709551616) ≡ (λ s. nat_lt s 64 && is_bound_to e text s)

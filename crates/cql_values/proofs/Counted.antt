@@ -1,4 +1,4 @@
--- How many squares a set has, and what the men on them are worth together.
+-- The number of squares of a set, and the sum of the values of the men on them.
 use Rattle.std.proofs.Common.{◌≡◌, ℕ, ◌+◌, ◌*◌, ◌<◌, ◌^◌, Bool, true, false, cond, ◌&&◌, ◌||◌, List, [], ◌∷◌, length, map, count_by, sum_by, refl, sym, ap, ◌∙◌, arith}
 use Rattle.std.specs.Prelude.{if◌then◌else◌, bit_and, bit_or}
 use Rattle.std.specs.Int.{bit_at}

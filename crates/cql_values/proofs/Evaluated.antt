@@ -1,4 +1,4 @@
--- One more value of a list of filters or of the terms of a sum; squares that settle what is asked; and a word before a part.
+-- One more value of a list of filters or of the terms of a sum, squares that settle a condition, and a word before a part.
 use Rattle.std.proofs.Common.{◌≡◌, ℕ, ◌+◌, ◌<◌, Bool, true, false, not, ◌&&◌, ◌||◌, List, [], ◌∷◌, ◌++◌, map, take, length, get_or, refl, sym, ap, ◌∙◌, cond}
 use Rattle.std.specs.Prelude.{if◌then◌else◌}
 use Rattle.std.specs.List.{filter, list_any, list_all}
@@ -48,7 +48,7 @@ terms_more tree g e n xs i t before later v below is had new more =
     ∙ ap (λ w. term_values tree g e (term_trees (take i xs)) n ++ (t.minus, w) ∷ []) new
     ∙ sym (terms_snoc tree g e (term_trees (take i xs)) t.minus (filter_tree t.filter) n) ∙ sym (ap (λ ts. term_values tree g e ts n) (term_trees_more xs i t below is))
 
--- every square of a set passes where none settles the contrary, and some square where one settles it
+-- every square of a set passes if none settles the contrary, and some square passes if one settles it
 every_kept : (set asked : ℕ → Bool) (xs : List ℕ) → list_all asked (filter set xs) ≡ not (list_any (settles true set asked) xs)
 every_kept set asked [] = refl
 every_kept set asked (x ∷ xs) = by (set x) (filter set xs) (list_any (settles true set asked) xs) (every_kept set asked xs)
@@ -69,7 +69,7 @@ some_kept set asked (x ∷ xs) = by (set x) (filter set xs) (list_any (settles f
     by true rest found e = ap (λ b. asked x || b) e
     by false rest found e = e
 
--- what is asked of a square, by the squares that settle it
+-- the value of a condition on squares, by the squares that settle it
 pub by_settling : (every : Bool) (x : Value) (asked : ℕ → Bool) (found : Bool) → found ≡ list_any (settles every (has x) asked) squares
     → square_of every x asked ≡ as_truth (if found then not every else every)
 by_settling true x asked found e = ap as_truth (every_kept (has x) asked squares ∙ ap not (sym e) ∙ turned found)

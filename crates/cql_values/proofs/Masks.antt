@@ -82,7 +82,7 @@ some_set_by mask false fits e =
 pub some_set : (mask : ℕ) → mask < 2 ^ 64 → not (nat_eq mask 0) ≡ list_any (is_in mask) squares
 some_set mask fits = some_set_by mask (list_any (is_in mask) squares) fits refl
 
--- what is a set by its squares on the board
+-- a set without squares off the board, by its squares on the board
 pub guarded : (x t : ℕ → Bool) → ((s : ℕ) → s < 64 → x s ≡ t s) → ((s : ℕ) → 64 ≤ s → x s ≡ false) → x ≡ (λ s. nat_lt s 64 && t s)
 guarded x t on off = fun_ext (λ s. elim (cases_lt s 64) [
   | inl low ↦ rw (lt-ltb s 64 low) (on s low)
@@ -236,7 +236,7 @@ meets_is a set t fits m =
     some_set (bit_and a set) (Fits-lt-pow {w = w64} (Fits-and {w = w64} set (Fits-of_lt {w = w64} fits)))
     ∙ same_any (is_in (bit_and a set)) (λ s. is_in set s && t s) (λ s low. in_both a set s ∙ ap (λ c. c && is_in set s) (is_in_bit a s (t s) (m.bit s low)) ∙ and_swaps (t s) (is_in set s))
 
--- where a condition holds
+-- a set under a condition that is true
 pub where_true : (mask : ℕ) (b : Bool) (t : ℕ → Bool) → b ≡ true → IsBitboard mask t → IsBitboard mask (λ s. b && t s)
 where_true mask b t e m = marks_same mask t (λ s. b && t s) (λ s low. sym (ap (λ c. c && t s) e)) m
 

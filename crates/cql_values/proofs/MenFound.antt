@@ -1,4 +1,4 @@
--- Men of a set that are looked for by their numbers, the lowest first.
+-- The search for the men of a set by their numbers, the lowest first.
 use Rattle.std.proofs.Common.{◌≡◌, ℕ, zero, suc, ◌-◌, ◌*◌, ◌%◌, ◌^◌, ◌<◌, ◌≤◌, Bool, true, false, not, ◌&&◌, ◌||◌, ◌==◌, List, get_or, refl, sym, ap, ap₂, ◌∙◌, subst, arith, max, inl, inr, ⊎_elim}
 use Rattle.std.specs.Prelude.{bit_and, bit_or}
 use Rattle.std.specs.Int.{bit_at, bit_not, trailing_zeros, w16}
@@ -17,7 +17,7 @@ use Rattle.cql_values.proofs.Masks.{bit_in, has_bit, in_both, is_in_bit, max_of,
 use Rattle.cql_values.proofs.Ranges.{left as first_holds}
 use Rattle.cql_values.proofs.Standing.{all_men, and_true}
 
--- what is left of a set without a man
+-- a set without one of its men
 abbrev pub without : ℕ → ℕ → ℕ
 without men man = bit_and men (bit_not w16 (1 * 2 ^ man % 2 ^ 16))
 
@@ -158,7 +158,7 @@ found_more men wanted left mask one k man some is own new had = record {
         found_away (is_in wanted n) (is_in left n) (n == k) (is_in (without left k) n) (ne_eqb n k other)
         (ap (λ b. b == 1) (bit_at_clear_other w16 left k within n low other))
 
--- all men are wanted
+-- the set has all men
 pub all_wanted : (men : List Man) (wanted : ℕ) → bit_and wanted 8191 ≡ 8191 → IsBitboard (2 ^ 64 - 1) (λ s. is_in wanted (man_number (man_at men s)))
 all_wanted men wanted all = record {
   bit = λ s low. let k = man_number (man_at men s) in

@@ -1,4 +1,4 @@
--- What filters of two parts give: squares or a truth.
+-- The values of filters of two parts: squares or a truth.
 use Rattle.std.proofs.Common.{◌≡◌, ◌⊎◌, List, refl, inl, inr}
 use Rattle.cq_position.specs.declared.men.Man.{Man}
 use Rattle.cql_syntax.specs.Values.{Value, as_truth, as_squares, has, pair_of}

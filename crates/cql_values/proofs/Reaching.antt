@@ -1,4 +1,4 @@
--- Squares that are reached by steps in a direction.
+-- The squares that steps in a direction reach.
 use Rattle.std.proofs.Common.{◌≡◌, ℕ, ◌+◌, ◌-◌, ◌*◌, ◌%◌, ◌^◌, ◌<◌, ◌≤◌, true, ◌&&◌, nat_le, refl, sym, ap, ◌∙◌, arith, inl, inr, ℤ, pos, negsuc, ◌+ℤ◌, ◌*ℤ◌, Option, Some, None}
 use Rattle.std.specs.Prelude.{◌≤ℤ◌, option_map, option_and_then}
 use Rattle.std.specs.List.{list_any, range_with_len}
@@ -85,7 +85,7 @@ le_test a b h = grind (arith, nat_tests)
 le_holds : (a b : ℕ) → nat_le a b ≡ true → a ≤ b
 le_holds a b h = grind (arith, nat_tests)
 
--- among the first eight numbers of steps are all that lead somewhere
+-- the first eight numbers of steps have all that lead to a square
 pub leads_near : (m n s goal : ℕ) (c : Compass) → s < 64 → list_any (λ k. is_step_to m n s c k goal) (range_with_len 0 8) ≡ leads_to m n s goal c
 leads_near m n s goal c low =
     let leads = λ (k : ℕ). is_square (steps_away (files_of c) (ranks_of c) s k) goal in

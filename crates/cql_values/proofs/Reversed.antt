@@ -1,4 +1,4 @@
--- A list that is kept from its end on.
+-- A list in memory in reverse order.
 use Rattle.std.proofs.Common.{◌≡◌, ℕ, ◌+◌, ◌-◌, ◌<◌, List, [], ◌∷◌, ◌++◌, length, get_or, set, reverse, take, drop, sym, ap, ◌∙◌, arith}
 use Rattle.std.proofs.lemmas.List.{length-reverse, length-drop, length-set, take-append-drop, take_all, take_more, take_more_set, reverse-append}
 use Rattle.std.proofs.Math.Seq.{drop-append_seam}
@@ -15,7 +15,7 @@ last_gone xs some_ =
     let one : length (reverse last) ≡ 1 = length-reverse last ∙ (let l = length-drop k xs in omega arith) in
     sym (ap (drop 1) whole ∙ first_gone 1 (reverse last) (reverse (take k xs)) one)
 
--- the last item stands first
+-- the last item is the first of the reversed list
 pub last_first : {A : Type 0} (xs : List A) (k : ℕ) (d : A) → k + 1 ≡ length xs → reverse xs ≡ get_or xs k d ∷ reverse (take k xs)
 last_first xs k d last =
     ap reverse (sym (take_all (k + 1) xs (omega (arith, last))) ∙ take_more xs k d (omega (arith, last))) ∙ reverse-append (take k xs) (get_or xs k d ∷ [])

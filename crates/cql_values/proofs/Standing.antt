@@ -1,4 +1,4 @@
--- The squares on which some of the men stand.
+-- The squares that have one of some men.
 use Rattle.std.proofs.Common.{◌≡◌, ℕ, zero, suc, ◌+◌, ◌<◌, ◌≤◌, arith, Bool, true, false, ◌&&◌, ◌||◌, List, [], ◌∷◌, ◌++◌, length, take, get_or, refl, sym, ap, ap₂, ◌∙◌, min}
 use Rattle.std.specs.List.{list_any}
 use Rattle.std.specs.Prelude.{bit_and, if◌then◌else◌}
@@ -16,7 +16,7 @@ use Rattle.cql_values.proofs.Masks.{bit_is, min_of}
 abbrev pub all_men : List Man
 all_men = K ∷ Q ∷ R ∷ B ∷ N ∷ P ∷ BlackK ∷ BlackQ ∷ BlackR ∷ BlackB ∷ BlackN ∷ BlackP ∷ Empty ∷ []
 
--- one of the men that pass stands there
+-- the man is one of the men that pass
 pub some_man : (test : ℕ → Bool) (x : Man) → list_any (λ m. same_man x m && test (man_number m)) all_men ≡ test (man_number x)
 some_man test K = or-false (test 0)
 some_man test Q = or-false (test 1)
@@ -40,7 +40,7 @@ and_false : (b : Bool) → false ≡ (b && false)
 and_false true = refl
 and_false false = refl
 
--- the squares of a set on which it is so
+-- the squares of a set that pass a test
 pub masked : (part mask : ℕ) (test : ℕ → Bool) → IsBitboard mask test → IsBitboard (bit_and part mask) (λ s. is_in part s && test s)
 masked part mask test m = record { bit = λ s low. bit_at_and part mask s ∙ ap₂ min (bit_is part s) (m.bit s low) ∙ min_of (is_in part s) (test s) }
 

@@ -15,7 +15,7 @@ use Rattle.cql_values.proofs.Ranges.{left, right, from_range, in_range}
 stands_at : (text whole : List ℕ) → ℕ → Bool
 stands_at text whole k = bytes_eq text (take (length text) (drop k whole))
 
--- where a needle is found is where a text stands
+-- the needle is found exactly if the text is part of the whole
 pub part_found : (text whole : List ℕ) (r : Option ℕ) → FindsNeedle whole text 0 r → is_some r ≡ is_part_of text whole
 unfolding stands_at
 part_found text whole (Some k) found =
@@ -33,7 +33,7 @@ part_found text whole None none = none_found (is_part_of text whole) refl
         let rest = length-drop f.k whole in
         none f.k (omega arith) (omega (arith, f.high)) (OccursAt-from_part whole text f.k (omega (arith, long, rest, f.high)) (sym same)))
 
--- how far the number of some digits goes
+-- an upper bound of the powers of ten
 pub ten_to : (i : ℕ) → i ≤ 8 → 10 ^ i ≤ 100000000
 ten_to zero h = omega arith
 ten_to (suc zero) h = omega arith

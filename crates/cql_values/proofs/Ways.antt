@@ -22,7 +22,7 @@ pub way_more : (nodes : List Node) (way : List ℕ) (m : ℕ) (o : Option ℕ) (
     → way ++ way_up nodes m ≡ whole → (way ++ m ∷ []) ++ way_from nodes o ≡ whole
 way_more nodes way m o whole tree is e = append_assoc way (m ∷ []) (way_from nodes o) ∙ ap (λ l. way ++ l) (sym (way_on nodes m o tree (sym is))) ∙ e
 
--- all of it are nodes
+-- all of the way are nodes
 pub way_inside : (nodes : List Node) (n : ℕ) → IsTree nodes → n < length nodes → All (λ m. m < length nodes) (way_up nodes n)
 way_inside nodes n tree h =
     All-weaker (Contains (way_up nodes n)) (λ m. m < length nodes)
@@ -160,7 +160,7 @@ pub within_up : (nodes : List Node) (m : ℕ) (o : Option ℕ) → IsTree nodes 
 within_up nodes m None tree is h = tt
 within_up nodes m (Some p) tree is h = let less = (tree_first nodes tree).before m p (sym is) in omega (arith, less, h)
 
--- how many nodes are on the way up
+-- the number of nodes on the way up is at most the number of steps
 up_length : (i : ℕ) (nodes : List Node) (o : Option ℕ) → length (up_from i nodes o) ≤ i
 up_length zero nodes o = omega arith
 up_length (suc i) nodes None = omega arith
@@ -181,7 +181,7 @@ way_length nodes n way tree h is =
     let same = ap length is in
     record { some_ = omega (arith, head); few = omega (arith, few, same) }
 
--- what the search for a child finds is one
+-- the number that a search finds passes the test
 find_passes_by : (p : ℕ → Bool) (x c : ℕ) (b : Bool) (rest : Option ℕ) → p x ≡ b → (rest ≡ Some c → p c ≡ true) → cond b (Some x) rest ≡ Some c → p c ≡ true
 find_passes_by p x c true rest is later e = let same : x ≡ c = cc in sym (ap p same) ∙ is
 find_passes_by p x c false rest is later e = later e
@@ -210,7 +210,7 @@ pub inside_of : (o : Option ℕ) (k count : ℕ) → IfSome o (λ s. (k < s) × 
 inside_of None k count h = tt
 inside_of (Some s) k count h = h.1
 
--- one child more, where it is searched
+-- one child more, if it is searched
 kept_one : (b : Bool) (c : ℕ) (found rest : List ℕ) → (found ++ (if b then c ∷ [] else [])) ++ rest ≡ found ++ cond b (c ∷ rest) rest
 kept_one true c found rest = append_assoc found (c ∷ []) rest
 kept_one false c found rest = ap (λ l. l ++ rest) (append-nil found)

@@ -3,7 +3,7 @@ use Rattle.std.specs.Prelude.{◌≡◌, ℕ, ◌<◌, Bool, true, false, List, 
 use Rattle.cq_position.specs.Games.{Node}
 use Rattle.cq_position.specs.Search.{ply, depth}
 
--- how many moves are on the way to a node or, if these alone are asked for, how many of them begin a variation
+-- the number of moves on the way to a node, or of those among them that begin a variation
 abbrev pub moves_on : Bool → List Node → ℕ → ℕ
 moves_on false nodes n = ply nodes n
 moves_on true nodes n = depth nodes n

@@ -1,4 +1,4 @@
-//! What filters of parts make of the values of their parts.
+//! The values of filters with parts, by the values of the parts.
 ghost use Rattle.std.specs.Prelude.{◌≡◌, List, map, int_lt, int_le};
 ghost use Rattle.std.specs.List.{list_any, list_all};
 ghost use Rattle.cq_position.specs.declared.men.Man.{Man};
@@ -25,7 +25,7 @@ fn all_hold(values: &[Value]) -> bool
     values.iter().all(|value| value.holds())
 }
 
-/// What a filter of any number of parts makes of their values.
+/// Returns the value of a filter of any number of parts, by their values.
 pub fn chain_of(chain: Chain, values: &[Value]) -> Value
     ensures { as_value result ≡ spec.chain_of chain (map as_value values.now) }
 {
@@ -40,7 +40,7 @@ pub fn chain_of(chain: Chain, values: &[Value]) -> Value
     }
 }
 
-/// Any of some values of a kind: whether one holds, their union, or the greatest of them.
+/// Returns any of some values of a kind: true if one holds, their union, or the greatest of them.
 pub fn any_of(kind: Kind, values: &[Value]) -> Value
     ensures { as_value result ≡ spec.any_of kind (map as_value values.now) }
 {
@@ -51,7 +51,7 @@ pub fn any_of(kind: Kind, values: &[Value]) -> Value
     }
 }
 
-/// What a filter of two parts makes of their values.
+/// Returns the value of a filter of two parts, by their values.
 #[inline(always)]
 pub fn pair_of(position: &Position, pair: Pair, x: Value, y: Value) -> Value
     ensures { as_value result ≡ spec.pair_of position.now.men pair (as_value x) (as_value y) }
@@ -66,7 +66,8 @@ pub fn pair_of(position: &Position, pair: Pair, x: Value, y: Value) -> Value
     }
 }
 
-/// The squares that a filter of two parts gives, of men in a relation of attack or between two sets; a comparison gives none.
+/// Returns the squares of a filter of two parts that relates men by attack, or that takes the squares between two sets. A comparison gives
+/// no square.
 #[inline(always)]
 pub fn related(position: &Position, pair: Pair, x: Value, y: Value) -> u64
     ensures { is_in result ≡ spec.has (spec.pair_of position.now.men pair (as_value x) (as_value y)) }
@@ -79,7 +80,8 @@ pub fn related(position: &Position, pair: Pair, x: Value, y: Value) -> u64
     }
 }
 
-/// Whether two values are as a comparison asks. A filter of two parts that gives squares compares nothing.
+/// Returns true if two values compare as the filter requires. A filter of two parts that gives squares compares nothing, and the result is
+/// false.
 #[inline(always)]
 pub fn compares(pair: Pair, x: Value, y: Value) -> bool
     ensures { (men : List Man) → result ≡ is_true (spec.pair_of men pair (as_value x) (as_value y)) }
@@ -94,7 +96,7 @@ pub fn compares(pair: Pair, x: Value, y: Value) -> bool
     }
 }
 
-// Whether both have a value, and the first is less.
+// True if both have a number, and the first is less.
 fn is_less(x: Value, y: Value) -> bool
     ensures { result ≡ spec.compares int_lt (spec.amount (as_value x)) (spec.amount (as_value y)) }
 {
@@ -104,7 +106,7 @@ fn is_less(x: Value, y: Value) -> bool
     }
 }
 
-// Whether both have a value, and the first is at most the second.
+// True if both have a number, and the first is at most the second.
 fn is_at_most(x: Value, y: Value) -> bool
     ensures { result ≡ spec.compares int_le (spec.amount (as_value x)) (spec.amount (as_value y)) }
 {
@@ -114,14 +116,15 @@ fn is_at_most(x: Value, y: Value) -> bool
     }
 }
 
-/// The second where the first holds, else the third.
+/// Returns the truth of the second value if the first holds, else of the third.
 pub fn if_of(x: Value, y: Value, z: Value) -> Value
     ensures { as_value result ≡ spec.if_of (as_value x) (as_value y) (as_value z) }
 {
     Value::Truth(if x.holds() { y.holds() } else { z.holds() })
 }
 
-/// What a word or mark before a part makes of its value, where it asks of no other node.
+/// Returns the value of a word or mark before a part, by the part's value at the same node. For a word that searches other nodes the result
+/// is that of `not`.
 #[inline(always)]
 pub fn unary_of_value(word: Unary, position: &Position, x: Value) -> Value
     ensures { as_value result ≡ unary_result position.now.men word (as_value x) }

@@ -10,7 +10,12 @@ use cq_common::NoMemory;
 use pgn_tree::Game;
 use std::alloc::Global;
 
-/// How many moves are on the way from the root to each node, null moves included, or how many of them begin a variation.
+/// Returns, for each node, the number of moves on the way from the root to it, null moves included. With `variations_alone` only moves that
+/// begin a variation are counted.
+///
+/// # Errors
+///
+/// `NoMemory` if out of memory.
 pub fn counts(alloc: Global, game: &Game, variations_alone: bool) -> Result<Vec<u32>, NoMemory>
     requires tree { IsTree game.now.nodes }
     ensures { IfOk result (λ counts. AreCounts (moves_on variations_alone game.now.nodes) (length game.now.nodes) counts.items) }
@@ -23,7 +28,7 @@ pub fn counts(alloc: Global, game: &Game, variations_alone: bool) -> Result<Vec<
     Ok(counts)
 }
 
-// The number of a node, given those of all nodes before it: its parent is one of them.
+// The number of a node, given those of all nodes before it. Its parent is one of them.
 fn count_at(game: &Game, variations_alone: bool, before: &[u32], k: u32) -> u32
     requires tree { IsTree game.now.nodes }
     requires node { k < length game.now.nodes }

@@ -1,4 +1,4 @@
-//! What filters read of a game's tags and of its result.
+//! Filters that read a game's tags and its result.
 ghost use Rattle.std.specs.Prelude.{◌≡◌, ◌≤◌, ◌+◌, ◌-◌, ◌*◌, fold, length, true};
 ghost use Rattle.std.specs.List.{list_all};
 ghost use Rattle.std.specs.Char.{is_ascii_digit};
@@ -10,7 +10,8 @@ use cql_syntax::{Field, Of, Outcome};
 use memchr::memmem;
 use pgn_tree::Game;
 
-/// Whether a text is a part of a player's name, of either player's, or of the event's or the site's name.
+/// Returns true if a text is part of the value of the field's tag: the event, the site, or a player's name. `Of::Either` takes both
+/// players.
 pub fn has_text(game: &Game, field: Field, text: &[u8]) -> bool
     ensures { result ≡ spec.has_text game.now field text.now }
 {
@@ -25,21 +26,21 @@ pub fn has_text(game: &Game, field: Field, text: &[u8]) -> bool
     }
 }
 
-// Whether a text stands in another from some byte on.
+// True if a text is in another from some byte on.
 fn is_part(text: &[u8], whole: &[u8]) -> bool
     ensures { result ≡ spec.is_part_of text.now whole.now }
 {
     memmem::find(whole, text).is_some()
 }
 
-// The value of a tag; a missing one is the empty text.
+// The value of a tag. A missing tag has the empty text.
 fn tag<'a>(game: &'a Game, name: &[u8]) -> &'a [u8]
     ensures { result.now ≡ spec.tag game.now name.now }
 {
     game.tags().get(name).unwrap_or(b"")
 }
 
-/// Whether the result of a game is the one asked for.
+/// Returns true if the result of a game is the one of the filter.
 pub fn is_result(outcome: Outcome, ending: GameResult) -> bool
     ensures { result ≡ spec.is_result outcome ending }
 {
@@ -52,7 +53,7 @@ pub fn is_result(outcome: Outcome, ending: GameResult) -> bool
     )
 }
 
-/// The year of the game: the first four bytes of its date, where they are digits.
+/// Returns the year of the game: the first four bytes of its date, if they are digits.
 pub fn year(game: &Game) -> Option<i64>
     ensures { result ≡ spec.year game.now }
 {
@@ -63,7 +64,7 @@ pub fn year(game: &Game) -> Option<i64>
     number_in(4, &date[..4])
 }
 
-/// A player's rating, or the greater of both.
+/// Returns a player's rating, or the greater of both. A rating has one to nine digits.
 pub fn rating(game: &Game, of: Of) -> Option<i64>
     ensures { result ≡ spec.rating game.now of }
 {
@@ -77,7 +78,7 @@ pub fn rating(game: &Game, of: Of) -> Option<i64>
     }
 }
 
-// The number that a text writes, where it is digits alone and has at least one and at most so many.
+// The number that a text writes, if it has at least one and at most `most` bytes, all of them digits.
 fn number_in(most: usize, text: &[u8]) -> Option<i64>
     requires { most ≤ 9 }
     ensures { result ≡ spec.number_in most text.now }

@@ -1,7 +1,7 @@
-//! What the plain and the fast evaluator of queries share: values and how they are combined, the filters of one word, what is read of a
-//! game's tags, the move that led to a node, and the squares bound to names.
+//! Values of filters, and the filters of one word. The plain and the fast evaluator of queries share them. Here are also the filters on a
+//! game's tags and on the move to a node, and the squares bound to names.
 //!
-//! `cql_syntax/specs/Values` has the values of the meaning, `specs/ValueModel` how they are kept.
+//! `cql_syntax/specs/Values` has the values of the meaning, `specs/ValueModel` their form in memory.
 #![tactic(auto)]
 
 pub mod combine;

@@ -1,4 +1,4 @@
-//! What is asked of the move that led to a node.
+//! Filters on the move to a node.
 ghost use Rattle.std.specs.Prelude.{◌≡◌, ◌<◌, length, option_map, Option};
 ghost use Rattle.cq_position.specs.Games.{IsTree};
 ghost use Rattle.cq_position.specs.Led as played;
@@ -14,7 +14,7 @@ use cq_geometry::Square;
 use cql_played::{Led, led_by};
 use pgn_tree::Game;
 
-/// The node before another, and the root itself.
+/// Returns the parent of a node; of the root, the root itself.
 pub fn before(game: &Game, variations: bool, n: u32) -> u32
     requires { n < length game.now.nodes }
     ensures value { result ≡ meaning.before (searched_tree game.now variations) n }
@@ -26,7 +26,7 @@ pub fn before(game: &Game, variations: bool, n: u32) -> u32
     }
 }
 
-/// What the move to a node led from and took, which the root has not, nor a node after a null move.
+/// Returns the squares of the move to a node. The root has none, and neither has a node after a null move.
 #[inline(always)]
 pub fn led_to(game: &Game, n: u32) -> Option<Led>
     requires tree { IsTree game.now.nodes }
@@ -38,7 +38,7 @@ pub fn led_to(game: &Game, n: u32) -> Option<Led>
     led_by(game.position(parent), m)
 }
 
-/// Whether a move is as it is asked for in each part that is written.
+/// Returns true if a move agrees with each part that the filter has. A part that is left out agrees with every move.
 #[inline(always)]
 pub fn meets_all(
     led: Option<Led>,
@@ -62,14 +62,14 @@ pub fn meets_all(
     }
 }
 
-// A goal where a pawn promoted.
+// The goal of a promotion; none if the move is no promotion.
 fn goal_if(led: &Led) -> Option<Square>
     ensures { result ≡ meaning.goal_if led.now.promoted led.now.goal }
 {
     if led.promoted { Some(led.goal) } else { None }
 }
 
-// Whether a square that is asked for is there and in the set; nothing is asked by a part that is left out.
+// True if the square exists and is in the set of the part. A part that is left out always agrees.
 fn meets(asked: Option<Value>, square: Option<Square>) -> bool
     ensures { result ≡ meaning.meets (option_map as_value asked) square }
 {

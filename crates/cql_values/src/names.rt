@@ -11,7 +11,7 @@ use cq_geometry::Square;
 use std::alloc::Global;
 use std::marker::Model;
 
-/// The squares bound to names, which contracts see as a list of both, the innermost binding first.
+/// The squares bound to names. In contracts it is a list of both, the innermost binding first.
 #[derive(Drop)]
 pub struct Names {
     alloc: Global,
@@ -28,7 +28,7 @@ impl Model for Names {
 }
 
 impl Names {
-    /// No bindings. Takes no memory.
+    /// Returns no bindings. Takes no memory.
     pub fn new(alloc: Global) -> Names
         ensures { result ≡ [] }
     {
@@ -39,6 +39,10 @@ impl Names {
     }
 
     /// Binds a name to a square, inside all bindings that there are.
+    ///
+    /// # Errors
+    ///
+    /// `NoMemory` if out of memory. The bindings are then unchanged.
     pub fn bind(&mut self, name: &[u8], s: Square) -> Result<(), NoMemory>
         ensures ok { OnOk result (self.new ≡ (name.now, s) ∷ self.old) }
         ensures err { OnErr result (self.new ≡ self.old) }
@@ -48,7 +52,7 @@ impl Names {
         Ok(())
     }
 
-    /// Binds the innermost name to a square anew; there is one.
+    /// Binds the innermost name to another square. At least one name is bound.
     pub fn rebind(&mut self, s: Square)
         requires { 0 < length self.old }
         ensures { self.new ≡ rebound self.old s }
@@ -57,7 +61,7 @@ impl Names {
         self.pairs[last].1 = s;
     }
 
-    /// Drops the innermost binding; there is one.
+    /// Drops the innermost binding. At least one name is bound.
     pub fn unbind(&mut self)
         requires { 0 < length self.old }
         ensures { self.new ≡ drop 1 self.old }
@@ -66,7 +70,11 @@ impl Names {
         self.pairs.truncate(kept);
     }
 
-    /// The same bindings, and one more inside of them.
+    /// Returns the same bindings with one more inside of them.
+    ///
+    /// # Errors
+    ///
+    /// `NoMemory` if out of memory.
     pub fn with(&self, alloc: Global, name: &[u8], s: Square) -> Result<Names, NoMemory>
         ensures { IfOk result (λ inner. inner ≡ (name.now, s) ∷ self.now) }
     {
@@ -75,7 +83,11 @@ impl Names {
         Ok(inner)
     }
 
-    /// The same bindings.
+    /// Returns the same bindings.
+    ///
+    /// # Errors
+    ///
+    /// `NoMemory` if out of memory.
     pub fn copy(&self, alloc: Global) -> Result<Names, NoMemory>
         ensures { IfOk result (λ same. same ≡ self.now) }
     {
@@ -86,7 +98,7 @@ impl Names {
         Ok(copied)
     }
 
-    /// The square that is bound to a name, as a set; of a name that isn't bound there is none.
+    /// Returns the square that is bound to a name, as a set. The set is empty if the name isn't bound.
     pub fn squares_of(&self, name: &[u8]) -> Value
         ensures { as_value result ≡ squares_where (is_bound_to self.now name.now) }
     {

@@ -1,4 +1,4 @@
-//! Numbers that are made of values.
+//! Numbers made of values.
 ghost use Rattle.std.specs.Prelude.{◌≡◌, ◌≤◌, ◌||◌, ℕ, Bool, Some, map, count_by, sum_by, if◌then◌else◌};
 ghost use Rattle.std.specs.Int.{int_max, int_min};
 ghost use Rattle.cq_geometry.specs.Squares.{squares};
@@ -11,7 +11,7 @@ ghost use Rattle.cql_values.specs.Internal.Squares.{piece_value_in};
 use crate::value::Value;
 use cq_position::{Man, Men, Position};
 
-/// The product of some numbers, from left to right; no value once it leaves 64 bits, or where one has none.
+/// Returns the product of some numbers, from left to right. It has no value once it leaves 64 bits, or if a factor has none.
 pub fn product(values: &[Value]) -> Value
     ensures { as_value result ≡ spec.product_of (map as_value values.now) }
 {
@@ -29,7 +29,8 @@ fn times(total: Option<i64>, value: Value) -> Option<i64>
     total?.checked_mul(value.number()?)
 }
 
-/// The sum of some numbers, each of which is added, or subtracted where it says so.
+/// Returns the sum of some terms, from left to right. A term is subtracted if its flag is true, else added. The sum has no value once it
+/// leaves 64 bits, or if a term has none.
 pub fn total(terms: &[(bool, Value)]) -> Value
     ensures { as_value result ≡ spec.total_of (terms_as_values terms.now) }
 {
@@ -54,7 +55,7 @@ fn plus(total: Option<i64>, term: (bool, Value)) -> Option<i64>
     }
 }
 
-/// The greatest of some numbers that all have a value.
+/// Returns the greatest of some numbers. It has no value if one of them has none, or if there is no number.
 pub fn greatest_of_all(values: &[Value]) -> Value
     ensures { as_value result ≡ spec.as_number (spec.chosen_from int_max (map as_value values.now)) }
 {
@@ -74,7 +75,7 @@ fn greater_of_both(a: Option<i64>, value: Value) -> Option<i64>
     Some(a?.max(value.number()?))
 }
 
-/// The least of some numbers that all have a value.
+/// Returns the least of some numbers. It has no value if one of them has none, or if there is no number.
 pub fn least_of_all(values: &[Value]) -> Value
     ensures { as_value result ≡ spec.as_number (spec.chosen_from int_min (map as_value values.now)) }
 {
@@ -94,7 +95,7 @@ fn less_of_both(a: Option<i64>, value: Value) -> Option<i64>
     Some(a?.min(value.number()?))
 }
 
-/// The greatest of the values that there are.
+/// Returns the greatest of the numbers that have a value.
 pub fn greatest(values: &[Value]) -> Option<i64>
     ensures { result ≡ spec.greatest (map as_value values.now) }
 {
@@ -105,7 +106,7 @@ pub fn greatest(values: &[Value]) -> Option<i64>
     found
 }
 
-/// The greater of two numbers that may have no value.
+/// Returns the greater of two numbers, or the one that has a value.
 pub fn greater(a: Option<i64>, b: Option<i64>) -> Option<i64>
     ensures { result ≡ spec.greater a b }
 {
@@ -116,21 +117,21 @@ pub fn greater(a: Option<i64>, b: Option<i64>) -> Option<i64>
     }
 }
 
-/// How many squares a set has.
+/// Returns the number of squares of a set.
 pub fn size(x: Value) -> Value
     ensures { as_value result ≡ spec.size_of (as_value x) }
 {
     count_value(count(x.squares()))
 }
 
-/// The value of a number that always has one.
+/// Returns the value of a number that always has one.
 pub fn count_value(n: u32) -> Value
     ensures { as_value result ≡ spec.count n }
 {
     Value::Number(Some(i64::from(n)))
 }
 
-// How many squares a set has.
+// The number of squares of a set.
 fn count(set: u64) -> u32
     ensures value { (test : ℕ → Bool) → IsBitboard set test → result ≡ count_by test squares }
     ensures few { result ≤ 64 }
@@ -138,14 +139,14 @@ fn count(set: u64) -> u32
     set.count_ones()
 }
 
-/// 1 where something is so, else 0.
+/// Returns 1 if the argument is true, else 0.
 pub fn one_if(there: bool) -> u32
     ensures { result ≡ (if there then 1 else 0) }
 {
     if there { 1 } else { 0 }
 }
 
-/// What the men on a set are worth together: a pawn 1, a knight and a bishop 3, a rook 5 and a queen 9.
+/// Returns the sum of the men on a set: a pawn counts 1, a knight and a bishop 3, a rook 5 and a queen 9.
 pub fn power(position: &Position, x: Value) -> Value
     ensures { as_value result ≡ spec.power_of position.now.men (as_value x) }
 {

@@ -1,4 +1,4 @@
-//! Sets of squares that are made of sets: bit k is square k.
+//! Sets of squares made of sets. Bit k is square k.
 ghost use Rattle.std.specs.Prelude.{◌≡◌, ◌&&◌};
 ghost use Rattle.std.specs.List.{list_any, list_all};
 ghost use Rattle.cq_geometry.specs.Squares.{squares};
@@ -17,28 +17,28 @@ use cq_position::Position;
 /// The light squares: b1, d1, f1, h1, a2 and so on.
 const LIGHT: u64 = 0x55aa_55aa_55aa_55aa;
 
-/// The squares that are not in a set.
+/// Returns the squares that are not in a set.
 pub fn complement(x: Value) -> Value
     ensures { as_value result ≡ spec.complement_of (as_value x) }
 {
     Value::Set(!x.squares())
 }
 
-/// The light squares of a set.
+/// Returns the light squares of a set.
 pub fn light(x: Value) -> Value
     ensures { as_value result ≡ spec.light_of (as_value x) }
 {
     Value::Set(x.squares() & LIGHT)
 }
 
-/// The dark squares of a set.
+/// Returns the dark squares of a set.
 pub fn dark(x: Value) -> Value
     ensures { as_value result ≡ spec.dark_of (as_value x) }
 {
     Value::Set(x.squares() & !LIGHT)
 }
 
-/// The squares that are in one of some sets.
+/// Returns the squares that are in one of some sets.
 pub fn union(values: &[Value]) -> u64
     ensures { IsBitboard result (λ s. list_any (λ v. spec.has (as_value v) s) values.now) }
 {
@@ -49,7 +49,7 @@ pub fn union(values: &[Value]) -> u64
     mask
 }
 
-/// The squares that are in each of some sets.
+/// Returns the squares that are in each of some sets.
 pub fn intersection(values: &[Value]) -> u64
     ensures { IsBitboard result (λ s. list_all (λ v. spec.has (as_value v) s) values.now) }
 {
@@ -60,35 +60,35 @@ pub fn intersection(values: &[Value]) -> u64
     mask
 }
 
-/// Whether a square is in a set.
+/// Returns true if a square is in a set.
 pub fn has_square(set: u64, square: Square) -> bool
     ensures { result ≡ is_in set square }
 {
     set >> square.number() & 1 == 1
 }
 
-/// The squares of the first set whose men attack a square of the second.
+/// Returns the squares of the first set whose men attack a square of the second.
 pub fn attacking(position: &Position, x: Value, y: Value) -> Value
     ensures { as_value result ≡ spec.related (attacks position.now.men) (as_value x) (as_value y) }
 {
     Value::Set(attackers_among(position, x.squares(), y.squares()))
 }
 
-/// The squares of the first set that a man on a square of the second attacks.
+/// Returns the squares of the first set that a man on a square of the second attacks.
 pub fn attacked_by(position: &Position, x: Value, y: Value) -> Value
     ensures { as_value result ≡ spec.related (λ s t. attacks position.now.men t s) (as_value x) (as_value y) }
 {
     Value::Set(x.squares() & attacked(position, y.squares()))
 }
 
-/// The squares strictly between a square of the one and a square of the other set, of one rank, file or diagonal.
+/// Returns the squares strictly between a square of one set and a square of the other, both on one rank, file or diagonal.
 pub fn between(x: Value, y: Value) -> Value
     ensures { as_value result ≡ spec.between_of (as_value x) (as_value y) }
 {
     Value::Set(between_all(x.squares(), y.squares()))
 }
 
-/// The squares to which `k` steps in one of the directions lead from a square of the set, for some `k` from `m` to `n`.
+/// Returns the squares that `k` steps in one of the directions reach from a square of the set, for some `k` from `m` to `n`.
 pub fn reached(directions: &[Compass], m: u32, n: u32, x: Value) -> Value
     ensures { as_value result ≡ spec.reached_of directions.now m n (as_value x) }
 {
@@ -105,7 +105,7 @@ fn reached_from_all(directions: &[Compass], m: u32, n: u32, from: u64) -> u64
     mask
 }
 
-// The same from one square, if it is one of the set.
+// The squares reached from one square, if it is in the set.
 fn reached_from(directions: &[Compass], m: u32, n: u32, from: u64, square: Square) -> u64
     ensures { IsBitboard result (λ goal. is_in from square && list_any (spec.leads_to m n square goal) directions.now) }
 {
@@ -126,7 +126,7 @@ fn reached_by(directions: &[Compass], m: u32, n: u32, square: Square) -> u64
     mask
 }
 
-// The same in one direction. More than 7 steps lead off the board.
+// The squares reached in one direction. More than 7 steps lead off the board.
 fn reached_along(direction: Compass, m: u32, n: u32, square: Square) -> u64
     ensures { IsBitboard result (λ goal. spec.leads_to m n square goal direction) }
 {
@@ -137,7 +137,7 @@ fn reached_along(direction: Compass, m: u32, n: u32, square: Square) -> u64
     mask
 }
 
-// The square so many steps away, where so many are allowed.
+// The square `k` steps away, if `k` is from `m` to `n`.
 fn reached_by_steps(direction: Compass, m: u32, n: u32, square: Square, k: u32) -> u64
     ensures { IsBitboard result (λ goal. is_step_to m n square direction k goal) }
 {

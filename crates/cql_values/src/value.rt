@@ -1,10 +1,10 @@
-//! What a filter gives at a node.
+//! The value of a filter at a node.
 ghost use Rattle.std.specs.Prelude.{◌≡◌};
 ghost use Rattle.cq_symmetry.specs.Images.{is_in};
 ghost use Rattle.cql_syntax.specs.Values as spec;
 ghost use Rattle.cql_values.specs.ValueModel.{as_value};
 
-/// What a filter gives at a node.
+/// The value of a filter at a node: a truth, a set of squares, or a number that may have no value.
 #[derive(Clone, Copy, Debug, PartialEq, Eq)]
 pub enum Value {
     Truth(bool),
@@ -14,7 +14,7 @@ pub enum Value {
 }
 
 impl Value {
-    /// Where a position is wanted: a set holds where it has a square, a number where it has a value.
+    /// Returns the value as a truth. A set holds if it has a square, a number if it has a value.
     pub fn holds(self) -> bool
         ensures { result ≡ spec.holds (as_value self) }
     {
@@ -25,7 +25,7 @@ impl Value {
         }
     }
 
-    /// Where a set is wanted.
+    /// Returns the value as a set, which is empty if the value is no set.
     #[tactic(auto, using(crate::proofs::Masks::no_squares))]
     pub fn squares(self) -> u64
         ensures { spec.has (as_value self) ≡ is_in result }
@@ -36,7 +36,7 @@ impl Value {
         }
     }
 
-    /// Where a number is wanted.
+    /// Returns the value as a number. It has no value if the value is no number.
     pub fn number(self) -> Option<i64>
         ensures { result ≡ spec.amount (as_value self) }
     {

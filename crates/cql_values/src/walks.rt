@@ -1,4 +1,4 @@
-//! Nodes of a game that are met from one of them.
+//! Walks in a game tree from one of its nodes.
 ghost use Rattle.std.specs.Prelude.{◌≡◌, ◌<◌, ◌++◌, ◌∷◌, [], ◌&&◌, length, map, option_to_list, IfOk, OnOk, if◌then◌else◌};
 ghost use Rattle.std.specs.List.{range_with_len};
 ghost use Rattle.cq_position.specs.Games as games;
@@ -11,7 +11,11 @@ use cq_common::NoMemory;
 use pgn_tree::Game;
 use std::alloc::Global;
 
-/// The way up from a node: itself, its parent, and so on, up to the root.
+/// Returns the way up from a node: itself, its parent, and so on to the root.
+///
+/// # Errors
+///
+/// `NoMemory` if out of memory.
 pub fn way_up(alloc: Global, game: &Game, n: u32) -> Result<Vec<u32>, NoMemory>
     requires tree { IsTree game.now.nodes }
     requires node { n < length game.now.nodes }
@@ -26,7 +30,11 @@ pub fn way_up(alloc: Global, game: &Game, n: u32) -> Result<Vec<u32>, NoMemory>
     Ok(way)
 }
 
-/// The children of a node that are searched.
+/// Returns the children of a node that are searched.
+///
+/// # Errors
+///
+/// `NoMemory` if out of memory.
 pub fn children(alloc: Global, game: &Game, variations: bool, n: u32) -> Result<Vec<u32>, NoMemory>
     requires tree { IsTree game.now.nodes }
     requires node { n < length game.now.nodes }
@@ -41,7 +49,11 @@ pub fn children(alloc: Global, game: &Game, variations: bool, n: u32) -> Result<
     Ok(nodes)
 }
 
-/// The parent of a node, if it has one.
+/// Returns the parent of a node, if it has one, as a list.
+///
+/// # Errors
+///
+/// `NoMemory` if out of memory.
 pub fn parents(alloc: Global, game: &Game, n: u32) -> Result<Vec<u32>, NoMemory>
     requires { n < length game.now.nodes }
     ensures { IfOk result (λ nodes. nodes.items ≡ option_to_list (games.node_at game.now.nodes n).parent) }
@@ -53,7 +65,11 @@ pub fn parents(alloc: Global, game: &Game, n: u32) -> Result<Vec<u32>, NoMemory>
     Ok(nodes)
 }
 
-/// A node and its descendants that are searched.
+/// Returns a node and its descendants, those of them that are searched.
+///
+/// # Errors
+///
+/// `NoMemory` if out of memory.
 pub fn below(alloc: Global, game: &Game, variations: bool, n: u32) -> Result<Vec<u32>, NoMemory>
     requires tree { IsTree game.now.nodes }
     requires node { n < length game.now.nodes }
@@ -70,7 +86,7 @@ pub fn below(alloc: Global, game: &Game, variations: bool, n: u32) -> Result<Vec
     Ok(nodes)
 }
 
-// Whether a node is another or below it, given this of all nodes before it.
+// True if node `k` is node `n` or below it, given this of all nodes before `k`.
 fn is_below_by(game: &Game, n: u32, k: u32, before: &[bool]) -> bool
     requires tree { IsTree game.now.nodes }
     requires node { k < length game.now.nodes }
@@ -86,14 +102,18 @@ fn is_below_by(game: &Game, n: u32, k: u32, before: &[bool]) -> bool
     }
 }
 
-/// Whether both hold.
+/// Returns true if both hold. Unlike `&&`, a call evaluates both.
 pub fn both(a: bool, b: bool) -> bool
     ensures { result ≡ (a && b) }
 {
     a && b
 }
 
-/// Adds a node to a list where it is asked.
+/// Adds a node to a list if `there` is true.
+///
+/// # Errors
+///
+/// `NoMemory` if out of memory.
 pub fn push_if(nodes: &mut Vec<u32>, there: bool, node: u32) -> Result<(), NoMemory>
     ensures { OnOk result (nodes.new.items ≡ nodes.old.items ++ (if there then node ∷ [] else [])) }
 {
@@ -103,7 +123,7 @@ pub fn push_if(nodes: &mut Vec<u32>, there: bool, node: u32) -> Result<(), NoMem
     Ok(())
 }
 
-/// Whether a node is searched: with variations each is, else those of the main line.
+/// Returns true if a node is searched. With variations each node is, else only those of the main line.
 pub fn is_searched(game: &Game, variations: bool, n: u32) -> bool
     requires { n < length game.now.nodes }
     ensures { result ≡ games.is_searched variations game.now.nodes n }
@@ -111,7 +131,7 @@ pub fn is_searched(game: &Game, variations: bool, n: u32) -> bool
     variations || game.is_main(n)
 }
 
-/// Whether a node is the first child of its parent.
+/// Returns true if a node is the first child of its parent.
 pub fn is_first_child(game: &Game, n: u32) -> bool
     requires { n < length game.now.nodes }
     ensures { result ≡ games.is_first_child game.now.nodes n }
@@ -131,7 +151,7 @@ fn is_node(found: Option<u32>, n: u32) -> bool
     }
 }
 
-/// Whether a node other than the root is not the first child of its parent.
+/// Returns true if a node other than the root is not the first child of its parent.
 pub fn begins_variation(game: &Game, n: u32) -> bool
     requires { n < length game.now.nodes }
     ensures { result ≡ search_of.begins_variation game.now.nodes n }
@@ -139,7 +159,11 @@ pub fn begins_variation(game: &Game, n: u32) -> bool
     n != 0 && !is_first_child(game, n)
 }
 
-/// The number of moves from the root to a node.
+/// Returns the number of moves from the root to a node, in plies.
+///
+/// # Errors
+///
+/// `NoMemory` if out of memory.
 pub fn ply(alloc: Global, game: &Game, n: u32) -> Result<u32, NoMemory>
     requires tree { IsTree game.now.nodes }
     requires node { n < length game.now.nodes }
@@ -149,7 +173,11 @@ pub fn ply(alloc: Global, game: &Game, n: u32) -> Result<u32, NoMemory>
     Ok(way.len() as u32 - 1)
 }
 
-/// How many nodes on the way from the root to a node are not first children.
+/// Returns the number of nodes on the way from the root to a node that begin a variation.
+///
+/// # Errors
+///
+/// `NoMemory` if out of memory.
 pub fn depth(alloc: Global, game: &Game, n: u32) -> Result<u32, NoMemory>
     requires tree { IsTree game.now.nodes }
     requires node { n < length game.now.nodes }

@@ -1,4 +1,4 @@
-//! Filters of one leaf.
+//! Filters without parts.
 ghost use Rattle.std.specs.Prelude.{◌≡◌, ◌<◌, ◌^◌, ◌&&◌, ◌++◌, ◌∷◌, [], not, length, Some, IfOk, OnOk, if◌then◌else◌};
 ghost use Rattle.std.specs.List.{list_any};
 ghost use Rattle.cq_position.specs.Games.{IsTree};
@@ -24,17 +24,17 @@ use cql_syntax::{Designator, Plain, Way};
 use pgn_tree::Game;
 use std::alloc::Global;
 
-/// The squares of a designator on which one of its men stands.
+/// Returns the squares of a designator that have one of its men.
 pub fn standing_on(position: &Position, d: &Designator) -> u64
     ensures { IsBitboard result (meaning.stands_on position.now.men (Some d.now)) }
 {
     d.part.squares & squares_of_some(position.men(), d.men)
 }
 
-// The men that there are, with the empty square.
+// The twelve men and the empty square.
 const ALL_MEN: u16 = 0x1fff;
 
-// The squares on which one of some men stands: bit k is man k.
+// The squares that have one of some men. Bit k is man k.
 fn squares_of_some(men: &Men, wanted: u16) -> u64
     ensures { IsBitboard result (λ s. is_in wanted (man_number (man_at men.now s))) }
 {
@@ -66,7 +66,11 @@ fn man_numbered(number: usize) -> Man
     Man::ALL[number]
 }
 
-/// The men of a set: bit k is man k.
+/// Returns the men of a set. Bit k is man k.
+///
+/// # Errors
+///
+/// `NoMemory` if out of memory.
 pub fn listed_men(alloc: Global, wanted: u16) -> Result<Vec<Man>, NoMemory>
     ensures { IfOk result (λ listed. AreMenOf wanted listed.items) }
 {
@@ -87,7 +91,7 @@ fn list_if(listed: &mut Vec<Man>, there: bool, man: Man) -> Result<(), NoMemory>
     Ok(())
 }
 
-/// The squares of a designator on which one of its men stands, where its men are listed.
+/// Returns the squares of a designator that have one of its men, given the list of its men.
 pub fn standing_of(position: &Position, d: &Designator, listed: &[Man]) -> u64
     requires { AreMenOf d.now.men listed.now }
     ensures { IsBitboard result (meaning.stands_on position.now.men (Some d.now)) }
@@ -105,7 +109,7 @@ fn squares_of_all(men: &Men, listed: &[Man]) -> u64
     mask
 }
 
-/// Whether a set of men, whose bit k is man k, has a man.
+/// Returns true if a set of men has a man. Bit k is man k.
 #[inline]
 pub fn has_man(men: u16, man: Man) -> bool
     ensures { result ≡ is_in men (man_number man) }
@@ -113,7 +117,11 @@ pub fn has_man(men: u16, man: Man) -> bool
     men >> (man as u16) & 1 == 1
 }
 
-/// What a filter that is one word gives.
+/// Returns the value of a filter that is one word.
+///
+/// # Errors
+///
+/// `NoMemory` if out of memory.
 pub fn word_at(
     alloc: Global,
     word: Plain,
@@ -144,28 +152,28 @@ pub fn word_at(
     })
 }
 
-/// Whether the side to move is in check and has no legal move.
+/// Returns true if the side to move is in check and has no legal move.
 pub fn is_mated(position: &Position) -> bool
     ensures { result ≡ (meaning.is_check position.now && not (has_legal_move position.now)) }
 {
     in_check(position, position.side()) && is_mate(position)
 }
 
-/// Whether the side to move is not in check and has no legal move.
+/// Returns true if the side to move is not in check and has no legal move.
 pub fn is_stalemated(position: &Position) -> bool
     ensures { result ≡ (not (meaning.is_check position.now) && not (has_legal_move position.now)) }
 {
     !in_check(position, position.side()) && is_stalemate(position)
 }
 
-/// Whether a side is White.
+/// Returns true if a side is White.
 pub fn is_white(side: Side) -> bool
     ensures { result ≡ meaning.is_white side }
 {
     matches!(side, Side::White)
 }
 
-/// The directions of a word.
+/// Returns the directions of a word.
 pub fn directions(way: Way) -> &'static [Compass]
     ensures { result.now ≡ meaning.directions_of way }
 {

@@ -1,4 +1,4 @@
--- What the rows of lengths tell, as the private functions fill them from the last node to the first.
+-- The meaning of the rows of lengths, as the private functions fill them from the last node to the first.
 use Rattle.std.specs.Prelude.{◌≡◌, ℕ, zero, suc, ◌+◌, ◌≤◌, List, Bool, false, Option, Some, None, length, get_or}
 use Rattle.cql_lines.specs.declared.automaton.Transition.{Transition}
 use Rattle.cql_lines.specs.declared.shape.TreeNode.{TreeNode}
@@ -16,18 +16,18 @@ LengthBelow words rules primary tree_nodes t n j k =
     (c : ℕ) × (length tree_nodes ≤ c + t) × (joined primary tree_nodes c ≡ Some n)
     × AcceptedLengthFrom (holds words) rules (Edge false primary tree_nodes) j c k
 
--- Represents says which number stands for the lengths that are of a kind: the greatest of them, or their set as bits
+-- `Represents` says of a number that it represents the lengths of a kind: as the greatest of them, or as their set of bits
 pub record DownInvariant (Represents : (ℕ → Type 0) → ℕ → Type 0) (words : List ℕ) (rules : List Transition) (primary : Bool) (tree_nodes : List TreeNode)
     (t : ℕ) (rows : List (ℕ → ℕ)) : Type 0 where
   pub count : length rows ≡ length tree_nodes
   pub known : (n j : ℕ) → Represents (LengthBelow words rules primary tree_nodes t n j) (cell rows n j)
 
--- a length above 0, or none for 0
+-- no length for 0, else the length
 abbrev pub found : ℕ → Option ℕ
 found zero = None
 found (suc m) = Some (suc m)
 
--- what a node's row gives to the row of its parent
+-- the update of the row of a parent by the row of one of its nodes
 pub record IsParentUpdate (join : ℕ → ℕ → ℕ) (primary : Bool) (tree_nodes : List TreeNode) (n : ℕ) (rows new : List (ℕ → ℕ))
     (own : ℕ → ℕ) : Type 0 where
   pub count : length new ≡ length rows

@@ -1,4 +1,4 @@
--- What the visits of nodes ask of their rules, table and tree, as the private functions are given them.
+-- The rules, table and tree that a visit of nodes requires, as the private functions get them.
 use Rattle.std.specs.Prelude.{◌≡◌, ℕ, ◌<◌, ◌≤◌, List, Some, length, slice_get}
 use Rattle.cql_lines.specs.declared.automaton.Transition.{Transition}
 use Rattle.cql_lines.specs.declared.shape.Shape.{Shape}
@@ -7,7 +7,7 @@ use Rattle.cql_lines.specs.Limits.{most_nodes}
 use Rattle.cql_lines.specs.Tables.{atoms_of, nodes_of}
 use Rattle.cql_lines.specs.Trees.{tree_nodes_of}
 
--- at most 64 rules, whose atoms the table has, and a table of the nodes of the tree, of which there are no more than there may be
+-- at most 64 rules, whose atoms the table has; a table of the nodes of the tree, at most `most_nodes` of them
 pub record SizesFit {L : Type 0} {g : _} (rules : List Transition) (table : AtomTable L g) (shape : Shape) : Type 0 where
   pub count : length rules ≤ 64
   pub atoms : (i : ℕ) (r : Transition) → slice_get rules i ≡ Some r → r.atom < atoms_of table

@@ -1,4 +1,4 @@
-//! Atoms put into a table and looked at. Nothing else reads its bits, and each look counts a step.
+//! Writes and reads of a table of atoms. Nothing else reads its bits, and each read counts a step.
 ghost use Rattle.std.specs.Prelude.{◌≡◌, ℕ, ◌+◌, ◌<◌, ◌≤◌, ◌||◌, true, false, IfOk, replicate};
 ghost use Rattle.cql_lines.specs.Internal.Lengths.{is_set, at};
 ghost use Rattle.cql_lines.specs.Limits.{most_nodes};
@@ -11,7 +11,11 @@ use std::marker::PhantomData;
 use std::sync::ledger::Ledger;
 
 impl<L: Ledger> AtomTable<L> {
-    /// A table of at most 64 atoms and 65,536 nodes, in which no atom holds anywhere.
+    /// Returns a table of at most 64 atoms and 65,536 nodes, in which no atom holds at any node.
+    ///
+    /// # Errors
+    ///
+    /// `NoMemory` if out of memory.
     pub fn new(alloc: Global, atoms: u32, nodes: u32) -> Result<AtomTable<L>, NoMemory>
         requires atoms { atoms ≤ 64 }
         requires nodes { nodes ≤ most_nodes }
@@ -26,7 +30,7 @@ impl<L: Ledger> AtomTable<L> {
         })
     }
 
-    /// From now on the atom holds at the node.
+    /// Sets an atom to hold at a node.
     #[tactic(auto, using(crate::proofs::Puts::put_here, crate::proofs::Puts::put_there))]
     pub fn put(&mut self, atom: u32, node: u32)
         requires atom { atom < atoms_of self.old }
@@ -40,7 +44,7 @@ impl<L: Ledger> AtomTable<L> {
         self.words[node as usize] = word;
     }
 
-    /// Whether an atom holds at a node: one step of the counter.
+    /// Returns true if an atom holds at a node. Takes one step of the counter.
     pub fn look(&self, atom: u32, node: u32, steps: &mut Steps<L>) -> bool
         requires atom { atom < atoms_of self.now }
         requires node { node < nodes_of self.now }
@@ -51,7 +55,7 @@ impl<L: Ledger> AtomTable<L> {
         (self.words[node as usize] >> atom) & 1 == 1
     }
 
-    /// All atoms that hold at a node.
+    /// Returns all atoms that hold at a node, bit k for atom k. Takes one step for each atom of the table.
     pub(crate) fn held(&self, node: usize, steps: &mut Steps<L>) -> u64
         requires node { node < nodes_of self.now }
         ensures held { (a : ℕ) → a < atoms_of self.now → is_set result a ≡ holds_in self.now a node }
@@ -65,14 +69,14 @@ impl<L: Ledger> AtomTable<L> {
         mask
     }
 
-    /// How many atoms it has.
+    /// Returns the number of atoms.
     pub fn atoms(&self) -> u32
         ensures { result ≡ atoms_of self.now }
     {
         self.atoms
     }
 
-    /// How many nodes it has.
+    /// Returns the number of nodes.
     pub fn nodes(&self) -> usize
         ensures { result ≡ nodes_of self.now }
     {
@@ -80,7 +84,7 @@ impl<L: Ledger> AtomTable<L> {
     }
 }
 
-// The mask, and in it the atom too where it holds.
+// The mask, with the atom added if it holds.
 fn with_bit(mask: u64, atom: u32, holds: bool) -> u64
     requires { atom < 64 }
     ensures set { is_set result atom ≡ (holds || is_set mask atom) }

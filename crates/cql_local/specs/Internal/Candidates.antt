@@ -10,12 +10,12 @@ use Rattle.cql_syntax.specs.Values.{Value, has, squares_where}
 use Rattle.cql_local.specs.NodeScopes.{tree_of}
 use Rattle.cql_local.specs.declared.candidates.LocalBinding.{LocalBinding}
 
--- of the squares of a set some are left, among them all of which this is true
+-- some squares of a set are left, among them all for which the test is true
 pub record KeepsCandidates (test : ℕ → Bool) (old new : ℕ) : Type 0 where
   pub within : (s : ℕ) → is_in new s ≡ true → is_in old s ≡ true
   pub keeps : (s : ℕ) → is_in old s ≡ true → test s ≡ true → is_in new s ≡ true
 
--- what a filter gives with the name bound to a square
+-- the value of a filter with the name bound to a square
 abbrev pub value_with : LocalBinding → FilterTree → ℕ → Value
 value_with t f s = value (tree_of t.place.now) [] ((t.name.now, s) ∷ t.names.now) f t.place.now.node
 
@@ -26,23 +26,23 @@ values_with t fs s = values (tree_of t.place.now) [] ((t.name.now, s) ∷ t.name
 abbrev pub position_of : LocalBinding → Board
 position_of t = position_at (tree_of t.place.now) t.place.now.node
 
--- the name does not change what a filter has, and it has these squares
+-- the squares of a filter are this set, independent of the name
 pub record IsFixed (t : LocalBinding) (f : FilterTree) (set : ℕ) : Type 0 where
   pub same : (s : ℕ) → has (value_with t f s) ≡ is_in set
 
--- it is the square that is bound to the name
+-- the filter has only the square that is bound to the name
 pub record IsName (name : List ℕ) (f : FilterTree) : Type 0 where
   pub own : (tree : SearchedTree) (e : Names) (n s : ℕ) → value tree [] ((name, s) ∷ e) f n ≡ squares_where (λ t. s == t)
 
--- it has no other square than the one that is bound to the name
+-- the filter has no other square than the one that is bound to the name
 pub record GivesOnlyName (name : List ℕ) (f : FilterTree) : Type 0 where
   pub own : (tree : SearchedTree) (e : Names) (n s t : ℕ) → has (value tree [] ((name, s) ∷ e) f n) t ≡ true → s ≡ t
 
--- what they have in common has no other square than the one that is bound to the name
+-- the intersection of the filters has no other square than the one that is bound to the name
 pub record IntersectInName (name : List ℕ) (fs : FilterTrees) : Type 0 where
   pub own : (tree : SearchedTree) (e : Names) (n s t : ℕ) → list_all (λ v. has v t) (values tree [] ((name, s) ∷ e) fs n) ≡ true → s ≡ t
 
--- where a part of a move is met by a square, the set has the square that is bound to the name
+-- if a part of a move agrees with the square, the set has the square that is bound to the name
 pub record Allows (name : List ℕ) (w : WrittenTree) (square : Option ℕ) (set : ℕ) : Type 0 where
   pub keeps : (tree : SearchedTree) (e : Names) (n s : ℕ) → s < 64 → meets (written_value tree [] ((name, s) ∷ e) w n) square ≡ true
       → is_in set s ≡ true

@@ -1,4 +1,4 @@
--- What a line asks of places, and how often a part stands, as the private functions give it.
+-- The places of a line's parts, and the bounds of a part, as the private functions give them.
 use Rattle.std.specs.Prelude.{ℕ, ◌+◌, Bool, List, Option}
 use Rattle.cq_common.specs.Spelling.{Pattern}
 use Rattle.cql_syntax.specs.Values.{Value, holds}
@@ -8,7 +8,7 @@ use Rattle.cql_plain.specs.Internal.Paths.{GoesTo}
 use Rattle.cql_plain.specs.Internal.PatternEnds.{AreEnds}
 use Rattle.cql_plain.specs.declared.paths.PathStep.{PathStep}
 
--- an atom passes where its value holds
+-- an atom reads a node if its value holds there
 abbrev pub holds_of : (ℕ → Value) → ℕ → Bool
 holds_of v n = holds (v n)
 
@@ -16,7 +16,7 @@ holds_of v n = holds (v n)
 abbrev pub EndsOf : List (Option PathStep) → Pattern (ℕ → Value) → (starts ends : List Bool) → Type 0
 EndsOf steps p starts ends = AreEnds (GoesTo steps) holds_of p starts ends
 
--- the least and the most times that a part stands; a path of so many nodes at most has no use for more
+-- the least and the greatest number of times that a part occurs; a path of at most `nodes` nodes needs no more
 abbrev pub least_times : Mark → ℕ
 least_times Once = 1
 least_times Star = 0

@@ -1,4 +1,4 @@
--- The nodes that the paths from a node reach, and how, as the private functions give it.
+-- The nodes that the paths from a node reach, and the last steps to them, as the private functions give them.
 use Rattle.std.specs.Prelude.{◌≡◌, ◌≤◌, ℕ, zero, suc, ◌+◌, max, Bool, true, false, ◌||◌, ◌==◌, not, List, length, get_or, Option, Some, None, option_map, if◌then◌else◌}
 use Rattle.cq_position.specs.Games.{node_at, is_first_child, is_searched}
 use Rattle.cq_position.specs.Search.{SearchedTree, IsStep}
@@ -7,7 +7,7 @@ use Rattle.cql_syntax.specs.declared.extents.Extent.{Extent}
 use Rattle.cql_plain.specs.Internal.PatternEnds.{HasPlace}
 use Rattle.cql_plain.specs.declared.paths.PathStep.{PathStep}
 
--- A list has for each node of a game how the paths from one node reach it, where they do.
+-- A list has for each node of a game the last step to it of the paths from one node, if they reach it.
 abbrev pub place_before : Option PathStep → Option ℕ
 place_before None = None
 place_before (Some r) = Some r.before
@@ -16,7 +16,7 @@ place_before (Some r) = Some r.before
 abbrev pub GoesTo : List (Option PathStep) → ℕ → ℕ → Type 0
 GoesTo steps i k = place_before (get_or steps k None) ≡ Some i
 
--- some place of the set is the one before
+-- the place before the step is in the set
 abbrev pub comes_from : List Bool → Option PathStep → Bool
 comes_from set None = false
 comes_from set (Some r) = get_or set r.before false
@@ -30,13 +30,14 @@ abbrev pub length_at : List (Option PathStep) → ℕ → ℕ
 length_at steps zero = 0
 length_at steps (suc k) = nodes_to (get_or steps k None)
 
--- each node on goes from a place that there is, and is one more; no path has more nodes than the game
+-- Each step goes on from a place that exists, and its path has one node more than the path up to there. No path has more nodes than the
+-- game.
 pub record AreSteps (steps : List (Option PathStep)) : Type 0 where
   pub before : (i k : ℕ) → GoesTo steps i k → i ≤ length steps
   pub longer : (i k : ℕ) → GoesTo steps i k → length_at steps (suc k) ≡ length_at steps i + 1
   pub few : (j : ℕ) → length_at steps j ≤ length steps
 
--- how the paths from n reach all nodes
+-- the last steps to all nodes, on the paths from n
 pub record ArePaths (tree : SearchedTree) (back primary : Bool) (n : ℕ) (steps : List (Option PathStep)) : Type 0 where
   pub count : length steps ≡ length tree.game.nodes
   pub sound : AreSteps steps
@@ -45,19 +46,19 @@ pub record ArePaths (tree : SearchedTree) (back primary : Bool) (n : ℕ) (steps
   pub goes : (i k : ℕ) → GoesTo steps (suc i) k → IsStep tree back primary i k
   pub all : (h i k : ℕ) → GoesTo steps h i → IsStep tree back primary i k → GoesTo steps (suc i) k
 
--- a path of so many nodes ends at some place of a set, and the extent allows its length
+-- a path of this length ends at some place of a set, and the extent allows the length
 abbrev pub IsLength : List (Option PathStep) → List Bool → Extent → ℕ → Type 0
 IsLength steps ends extent len =
     (k : ℕ) × HasPlace ends (suc k) × (length_at steps (suc k) ≡ len) × (allows extent len ≡ true)
 
--- the node before another on the paths up, and on the paths down, from the one to the other
+-- the node above another on a path, and the same of a searched node
 abbrev pub above : SearchedTree → (primary : Bool) → ℕ → Option ℕ
 above tree primary k = if not primary || is_first_child tree.game.nodes k then (node_at tree.game.nodes k).parent else None
 
 abbrev pub searched_above : SearchedTree → (primary : Bool) → ℕ → Option ℕ
 searched_above tree primary k = if is_searched tree.variations tree.game.nodes k then above tree primary k else None
 
--- how paths reach a node by the one before it
+-- the last step to a node, by the node before it
 abbrev pub step_after : List (Option PathStep) → Option ℕ → Option PathStep
 step_after steps None = None
 step_after steps (Some p) = option_map (λ r. record { before = p + 1; length = r.length + 1 }) (get_or steps p None)

@@ -1,4 +1,4 @@
--- Where a filter is read, as the private functions give it.
+-- The values of filters in a scope, as the private functions give them.
 use Rattle.std.specs.Prelude.{ℕ, List, Option, Some, None, option_to_list}
 use Rattle.cq_position.specs.Games.{node_at, way_up}
 use Rattle.cq_position.specs.Search.{SearchedTree, children_in, below_in}
@@ -14,11 +14,11 @@ use Rattle.cql_plain.specs.declared.scope.Scope.{Scope}
 abbrev pub tree_in : Scope → SearchedTree
 tree_in s = searched_tree s.game.now s.variations
 
--- what a filter gives at a node
+-- the value of a filter at a node
 abbrev pub value_in : Scope → FilterTree → ℕ → Value
 value_in s f n = value (tree_in s) s.context.now s.names.now f n
 
--- the nodes among which a word looks for one, where it looks for one
+-- the nodes that a word searches, if it searches any
 abbrev pub candidate_nodes : SearchedTree → Unary → ℕ → Option (List ℕ)
 candidate_nodes tree Find n = Some (below_in tree n)
 candidate_nodes tree FindUp n = Some (way_up tree.game.nodes n)

@@ -1,4 +1,4 @@
-//! What a line gives at a node.
+//! The value of a line at a node.
 ghost use Rattle.std.specs.Prelude.{◌≡◌, ◌<◌, ◌≤◌, ◌+◌, ◌&&◌, length, get_or, Some, None, IfOk};
 ghost use Rattle.cq_common.specs.Spelling.{one, repeated};
 ghost use Rattle.cq_position.specs.Games.{IsTree};
@@ -19,7 +19,7 @@ use cql_syntax::{Body, Constituents, Filter, Line, Mark};
 use cql_values::value::Value;
 use std::alloc::Global;
 
-/// The greatest length of a path from a node that a line's pattern spells.
+/// Returns the greatest length of a path from a node that a line's pattern spells.
 #[cycle(evaluate)]
 #[tactic(auto, unfolding(cql_syntax::specs::Meaning::value))]
 pub(super) fn line_at(
@@ -103,7 +103,7 @@ fn most_of(mark: Mark, nodes: u32) -> u32
     }
 }
 
-// The places at which a part ends that stands a number of times, from the least to the most.
+// The places at which a part ends that occurs from `least` to `most` times in a row.
 #[cycle(evaluate)]
 fn repeat(
     alloc: Global,
@@ -134,7 +134,7 @@ fn repeat(
     Ok(ends)
 }
 
-// The places at which a part ends that stands once.
+// The places at which a part ends that occurs once.
 #[cycle(evaluate)]
 fn body_ends(
     alloc: Global,
@@ -156,7 +156,7 @@ fn body_ends(
     }
 }
 
-// The places after the nodes to which a path goes on from some place, and at which a filter holds.
+// The places after those nodes at which a filter holds and to which a path goes on from some place.
 #[cycle(evaluate)]
 fn atom_ends(
     alloc: Global,
@@ -181,7 +181,7 @@ fn atom_ends(
     Ok(ends)
 }
 
-// Whether a path goes on from some place to a node at which a filter holds.
+// True if a path goes on from some place to node `k` and a filter holds there.
 #[cycle(evaluate)]
 fn passes(
     alloc: Global,

@@ -1,4 +1,4 @@
-//! Whether the move to a node is as it is asked for.
+//! The filter on the move to a node.
 ghost use Rattle.std.specs.Prelude.{◌≡◌, ◌<◌, length, option_map, IfOk};
 ghost use Rattle.cq_position.specs.Games.{IsTree};
 ghost use Rattle.cql_syntax.specs.Meaning as meaning;
@@ -15,8 +15,8 @@ use cql_values::move_filter::{before, led_to, meets_all};
 use cql_values::value::Value;
 use std::alloc::Global;
 
-/// Whether the move that led to a node is as it is asked for: where it came from and what it took is asked at the node before, its goal and
-/// what it became at the node itself.
+/// Returns the truth of the filter on the move to a node. Its origin and its capture are evaluated at the node before, its goal and its
+/// promotion at the node itself.
 #[cycle(evaluate)]
 #[tactic(auto, unfolding(cql_syntax::specs::Meaning::value))]
 pub(super) fn played_at(

@@ -324,7 +324,7 @@ family_value-returns t c =
     c.any_of.ensures ∙ ap (λ k. spec.any_of k (map as_value c.as_slice.result.now)) c.kind_of.ensures
     ∙ ap (spec.any_of (filter_kind (filter_tree c.args.part.now))) (ap (map as_value) c.as_slice.ensures.value ∙ c.in_ok-values.ensures)
 
--- all filters of a list have been asked
+-- all filters of a list are evaluated
 pub values_at-returns : goal.values_at-returns
 values_at-returns t c =
     let s = c.args.scope.now in
@@ -341,7 +341,7 @@ terms_at-returns t c =
     ∙ ap (λ ts. meaning.term_values (tree_in s) s.context.now s.names.now (term_trees ts) c.args.node) (take_all c.loop-term.term-index items c.loop-term-test.false)
     ∙ ap (λ ts. meaning.term_values (tree_in s) s.context.now s.names.now ts c.args.node) c.as_slice-term-items.ensures.tree
 
--- parts are smaller than their filter, and are asked at nodes of the same tree
+-- parts are smaller than their filter, and are evaluated at nodes of the same tree
 pub evaluate-unary_at-requires : goal.evaluate-unary_at-requires
 evaluate-unary_at-requires t c = (search (rules, the_lemmas), (c.requires.tree, c.requires.node))
 
