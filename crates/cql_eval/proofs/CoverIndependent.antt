@@ -1,4 +1,4 @@
--- Squares that are left by the column of a filter in which no open name stands.
+-- Squares that are left by the column of a filter without open names.
 use Rattle.std.proofs.Common.{◌≡◌, ℕ, ◌+◌, ◌≤◌, Bool, true, List, [], sym, ap, ◌∙◌, subst, arith}
 use Rattle.cq_position.specs.Games.{node_at}
 use Rattle.cq_position.specs.Search.{SearchedTree}

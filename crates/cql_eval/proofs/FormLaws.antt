@@ -1,4 +1,4 @@
--- What a form of filter gives by its parts.
+-- The values of a form of filter by its parts.
 use Rattle.std.proofs.Common.{Result, IfOk, ◌≡◌, ◌+◌, ◌≤◌, ◌⊎◌, inl, inr, ◌∙◌, ℕ, Bool, true, false, List, [], refl, sym, ap, ap₂, subst, arith}
 use Rattle.std.specs.Prelude.{not, Some, is_some, if◌then◌else◌}
 use Rattle.std.specs.List.{list_any}
@@ -150,7 +150,7 @@ if_parts at form a b c first second third is same same_too same_again =
     ap (filter_at at) is ∙ ap (λ p. filter_at at (if_ (filter_tree p) (filter_tree b) (filter_tree c))) (sym same)
     ∙ ap₂ (λ p q. filter_at at (if_ (filter_tree first) (filter_tree p) (filter_tree q))) (sym same_too) (sym same_again)
 
--- what is taken is within what a filter costs
+-- the cost taken is within the cost of the filter
 
 pub within : (before later cost a : ℕ) → cost ≡ a → later ≤ before + a → later ≤ before + cost
 within before later cost a is taken = subst (λ k. later ≤ before + k) (sym is) taken

@@ -123,7 +123,7 @@ sorts_begun : (xs : List Filter) → sort_numbers (filter_trees (take 0 xs)) ≡
 sorts_begun [] = refl
 sorts_begun (x ∷ xs) = refl
 
--- what something makes of the sort items so far, one by one
+-- the result of a function on the sort items so far, one by one
 pub made_begun : {A : Type 0} (make : FilterTree → A) (made : List A) (xs : List Filter) → made ≡ [] → made ≡ map make (sort_numbers (filter_trees (take 0 xs)))
 made_begun make made xs none = none ∙ sym (ap (map make) (sorts_begun xs))
 

@@ -1,4 +1,4 @@
--- Squares with which a word may hold that asks its part at other nodes: those that are brought back from there.
+-- Squares with which a word may hold that evaluates its part at other nodes: those that are brought back from there.
 use Rattle.std.proofs.Common.{◌≡◌, ℕ, ◌<◌, true, Bool, List, get_or, sym, subst, arith}
 use Rattle.cq_symmetry.specs.Images.{is_in}
 use Rattle.cql_syntax.specs.Meaning.{Names, unary_of}

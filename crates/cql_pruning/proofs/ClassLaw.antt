@@ -1,4 +1,4 @@
--- Filters that are asked class by class.
+-- Filters that are evaluated class by class.
 use Rattle.std.proofs.Common.{◌≡◌, ℕ, ◌+◌, ◌<◌, ◌≤◌, Bool, true, false, ◌&&◌, ◌||◌, not, List, [], ◌∷◌, ◌++◌, length, take, drop, get_or, refl, sym, ap, ap₂, ◌∙◌, subst, arith, nat_lt, nat_eq}
 use Rattle.std.specs.Prelude.{if◌then◌else◌}
 use Rattle.std.specs.List.{list_all, list_any}
@@ -27,7 +27,7 @@ pub and_assoc : (a b c : Bool) → ((a && b) && c) ≡ (a && (b && c))
 and_assoc true b c = refl
 and_assoc false b c = refl
 
--- what is left, and left of that
+-- the nodes left, and the nodes left of those
 pub is_left_begun : (tree : SearchedTree) (live left : List Bool) (test : ℕ → Bool) → IsNodeSet tree live → left ≡ live → ((n : ℕ) → test n ≡ true)
     → IsLeft tree live test left
 is_left_begun tree live left test asked is all = record {
@@ -211,7 +211,7 @@ pub truth_left : (live left : List Bool) (s t : ℕ → Bool) (tree : SearchedTr
     → (n : ℕ) → is_live live n ≡ true → as_truth (get_or left n false) ≡ as_truth (t n)
 truth_left live left s t tree is same n l = ap as_truth (is.each n ∙ ap (λ b. b && s n) l ∙ same n)
 
--- what the classes cost
+-- the cost of the classes
 cost_step : (taken : FilterTree → Bool) (nodes : ℕ) (x : Filter) (xs : List Filter)
     → cost_of taken nodes (filter_trees (x ∷ xs)) ≡ cost_if taken nodes (filter_tree x) + cost_of taken nodes (filter_trees xs)
 unfolding cost_of

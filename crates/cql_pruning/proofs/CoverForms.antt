@@ -1,4 +1,4 @@
--- With which squares a form of filter may hold.
+-- The squares with which a form of filter may hold.
 use Rattle.std.proofs.Common.{◌≡◌, ◌⊎◌, ⊎_elim, ℕ, ◌<◌, ◌==◌, ◌&&◌, not, nat_lt, Bool, true, false, List, [], ◌∷◌, Option, Some, None, length, take, drop, ◌++◌, refl, sym, ap, ap₂, ◌∙◌, subst, arith}
 use Rattle.std.specs.Prelude.{if◌then◌else◌}
 use Rattle.std.specs.List.{list_any, list_all, filter}
@@ -30,7 +30,7 @@ use Rattle.cql_pruning.proofs.IndependenceLaw.{all_at, some_there}
 use Rattle.cql_pruning.proofs.MoveLaw.{move_value, origin_of, goal_of, taken_of, promoted_of}
 use Rattle.cql_pruning.proofs.Placing.{Placed}
 
--- what squares of a name are tried with: a searched tree, the nodes at which it is asked, the names that are open, and what is bound to others
+-- the context in which squares of a name are tried: a searched tree, the live nodes, the open names, and the bindings of others
 pub record Tried : Type 0 where
   pub tree : SearchedTree
   pub live : List Bool
@@ -217,7 +217,7 @@ own_meets tree given w e m s q own binds met = by q (sym (ap (λ x. meets (writt
 some_is : (a b : ℕ) → ◌≡◌ {A = Option ℕ} (Some a) (Some b) → a ≡ b
 some_is a b e = cc
 
--- what is asked of three parts of a move is met by no square but one, as far as each is so
+-- as far as each is such a part, no square but one meets the three parts of a move
 record MeetOnly (a b c : Option Value) (origin goal taken : Bool) (s : ℕ) : Type 0 where
   from_origin : origin ≡ true → (q : Option ℕ) → meets a q ≡ true → q ≡ Some s
   from_goal : goal ≡ true → (q : Option ℕ) → meets b q ≡ true → q ≡ Some s

@@ -1,4 +1,4 @@
--- Filters that are asked by where it is told that the men stand that they name.
+-- Filters that are evaluated from the gathered squares of the men that they name.
 use Rattle.std.proofs.Common.{◌≡◌, ◌⊎◌, ⊎_elim, ℕ, ◌+◌, ◌-◌, ◌^◌, ◌<◌, ◌≤◌, ◌&&◌, Bool, true, false, nat_lt, List, [], ◌∷◌, Some, length, take, get_or, refl, sym, ap, ap₂, ◌∙◌, subst}
 use Rattle.std.specs.Prelude.{bit_and, Option, IfSome}
 use Rattle.std.specs.List.{list_all}
@@ -110,7 +110,7 @@ pub all_kept : (occupancies : List Occupancy) (xs : List Filter) (k : ℕ) (live
 all_kept occupancies xs k live left end had = λ tree e are.
     subst (λ ys. AreKept (λ n. list_all holds (values tree [] e (filter_trees ys) n)) live left) (take_whole xs k end) (had.kept tree e are)
 
--- what is left of the nodes that are asked for is where they hold
+-- the nodes left are the live nodes at which they hold
 pub kept_there : (test : ℕ → Bool) (live left : List Bool) → AreKept test live left → Where live (λ n. is_live left n ≡ test n)
 kept_there test live left kept = λ n l. kept.each n ∙ ap (λ a. a && test n) l
 

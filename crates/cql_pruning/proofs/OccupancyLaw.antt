@@ -1,4 +1,4 @@
--- Filters that hold at none of a game's nodes that are asked for.
+-- Filters that hold at none of the live nodes of a game.
 use Rattle.std.proofs.Common.{◌≡◌, ◌⊎◌, ⊎_elim, ℕ, ◌+◌, ◌-◌, ◌^◌, ◌<◌, ◌&&◌, ◌||◌, not, nat_lt, Bool, true, false, List, [], ◌∷◌, ◌++◌, Some, zero, suc, get_or, take, drop, length, refl, sym, ap, ◌∙◌, subst, arith}
 use Rattle.std.specs.Prelude.{bit_and}
 use Rattle.std.specs.List.{list_all}
@@ -117,7 +117,7 @@ one_fails tree e n (x ∷ xs) (suc i) f low is fails =
     and_false true = refl
     and_false false = refl
 
--- what holds nowhere takes no node away
+-- a filter that holds nowhere removes no node
 pub left_unasked : (taken : FilterTree → Bool) (tree : SearchedTree) (e : Names) (f : FilterTree) (live : List Bool) → IsNodeSet tree live → HoldsNowhere tree live e f
     → IsLeft tree live (is_as_wanted_if taken tree e false f) live
 left_unasked taken tree e f live asked nowhere = record {
