@@ -63,7 +63,7 @@ pub right_of : {A : Type 0} (P : A → Type 0) (xs ys : List A) → All P (xs ++
 right_of P [] ys all = all
 right_of P (x ∷ xs) ys all = right_of P xs ys (rest_of P x (xs ++ ys) all)
 
--- what is left to add to a node: the node as it stands with that is the node as it was with all
+-- the changes left for a node, which give it the whole change from its present state
 pub record IsLeft (old now : Game) (n : ℕ) (left whole : Node → Node) : Type 0 where
   pub tags : now.tags ≡ old.tags
   pub ending : now.result ≡ old.result

@@ -1,4 +1,4 @@
--- What is found by the form that is asked, of the query itself.
+-- The results of the form that is evaluated are those of the query itself.
 use Rattle.std.proofs.Common.{◌≡◌, ◌≢◌, ℕ, Bool, true, false, List, [], ◌∷◌, map, Some, Result, Ok, Err, IfOk, refl, ◌∙◌}
 use Rattle.cq_position.specs.Games.{Game}
 use Rattle.cql_values.specs.Trees.{searched_tree}
