@@ -1,4 +1,4 @@
--- What a part tells at the nodes that are asked for.
+-- The values of a part at the live nodes.
 use Rattle.std.proofs.Common.{◌≡◌, ℕ, zero, suc, ◌+◌, ◌<◌, ◌≤◌, Bool, true, false, ◌&&◌, List, [], ◌∷◌, length, get_or, Option, None, Some, ℤ, refl, sym, ap, ◌∙◌, cond, subst, arith}
 use Rattle.std.specs.Prelude.{is_some, count_by, if◌then◌else◌}
 use Rattle.std.specs.List.{list_any, filter, range_with_len}

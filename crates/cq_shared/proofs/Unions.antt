@@ -47,7 +47,7 @@ past_end none [] (suc n) h = refl
 past_end none (x ∷ xs) zero h = absurd (omega (arith, h))
 past_end none (x ∷ xs) (suc n) h = past_end none xs n (omega (arith, h))
 
--- where there is no value past the end, the items are the values everywhere
+-- if there is no value past the end, the items are the values everywhere
 pub filled_all : {X : Type 0} (none : X) (value : ℕ → X) (k : ℕ) (items : List X) → Filled none value k items → ((n : ℕ) → k ≤ n → value n ≡ none)
     → (n : ℕ) → get_or items n none ≡ value n
 filled_all none value k items had past n =
@@ -131,7 +131,7 @@ are_united game p left k live high low ready had = (
         is_not : {b : Bool} → b ≡ false → b ≡ true → ⊥
         is_not e f = cc
 
--- what is left to each query behind a part, for the first k queries
+-- the nodes left to each query after a part, for the first k queries
 pub record AreNarrowed (game : Game) (p : Part) (left later : List NodeSet) (k : ℕ) : Type 0 where
   pub count : length later ≡ k
   pub each : (q n : ℕ) → q < k → is_left later q n ≡ (is_left left q n && meets game q n p)
@@ -165,7 +165,7 @@ by_truth false wants b t told = refl
 by_truth true false b t told = refl
 by_truth true true b t told = told refl refl
 
--- whether a part holds, told at all nodes at which a query wants to know
+-- the truth of a part, known at all nodes that are left to a query
 pub record TruthsOf (game : Game) (p : Part) (left : List NodeSet) : Type 0 where
   pub live : List Bool
   pub truths : List Bool

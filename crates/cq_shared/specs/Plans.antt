@@ -1,4 +1,4 @@
--- Plans of several queries as their callers see them.
+-- Plans of several queries in terms of their callers.
 use Rattle.std.specs.Prelude.{List, map}
 use Rattle.cql_plan.specs.Plans.{query_of}
 use Rattle.cql_syntax.specs.QueryTrees.{trees_of}
@@ -12,7 +12,7 @@ use Rattle.cq_shared.specs.declared.plan.SharedPlan.{SharedPlan}
 abbrev pub queries_of : SharedPlan → List TypedQuery
 queries_of plan = map (λ a. query_of a.plan) plan.owners.items
 
--- what a plan keeps of each query, and its parts
+-- the record of each query of a plan, and its parts
 abbrev pub owners_of : SharedPlan → List PartOwner
 owners_of plan = plan.owners.items
 
