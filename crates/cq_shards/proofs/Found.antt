@@ -1,4 +1,4 @@
--- What a query finds in a game that was read.
+-- The result of a query in a game that was read.
 use Rattle.std.proofs.Common.{◌≡◌, ℕ, ◌+◌, ◌<◌, ◌==◌, true, false, ℤ, List, [], ◌∷◌, length, map, All, AllPairs, Some, Ok, Err, refl, ap, sym, subst, ◌∙◌, arith, cond}
 use Rattle.std.specs.Prelude.{Result, IfOk}
 use Rattle.std.specs.List.{filter, range_with_len}

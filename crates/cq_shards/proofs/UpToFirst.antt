@@ -1,4 +1,4 @@
--- Answers in order, cut off behind the first match.
+-- Answers in order, cut off after the first match.
 use Rattle.std.proofs.Common.{◌==◌, ◌&&◌, ◌≡◌, inl, inr, zero, suc, ℕ, ◌+◌, ◌<◌, ◌≤◌, List, [], ◌∷◌, length, take, get_or, refl, sym, ap, ◌∙◌, subst, arith, All, AllPairs, Bool, true, false}
 use Rattle.std.specs.Prelude.{nat_eq}
 use Rattle.std.specs.List.Sorted.{IsPermutation}
