@@ -40,7 +40,7 @@ record AskLess (less parts : Parts) : Type 0 where
   at_taken : (q : Option ℕ) → meets parts.taken q ≡ true → meets less.taken q ≡ true
   at_promoted : (q : Option ℕ) → meets parts.promoted q ≡ true → meets less.promoted q ≡ true
 
--- a move that meets what is asked meets what is asked of it by less
+-- a move that meets a condition meets a weaker one
 meets_less : (l : Option PlainLed) (less parts : Parts) → AskLess less parts → meets_all l parts.origin parts.goal parts.taken parts.promoted ≡ true
     → meets_all l less.origin less.goal less.taken less.promoted ≡ true
 meets_less None less parts asks all = all

@@ -75,7 +75,7 @@ line_form tree e f at l is n = sym (ap (λ x. value tree [] e x n) is)
 pub IfOk_then : {A E : Type 0} (r : Result A E) {P Q : A → Type 0} → IfOk r P → ((x : A) → P x → Q x) → IfOk r Q
 IfOk_then r {P} {Q} had more = IfOk-weaker r P Q more had
 
--- the second column where the first holds, and the third where it doesn't
+-- the second column if the first holds, and the third if it doesn't
 pub if_where : (live : List Bool) (a b c : FilterColumn) (u v w : ℕ → Value) → IsColumn a live u → Where live (λ n. is_as_wanted true (holds (shown a n)) ≡ true → shown b n ≡ v n)
     → Where live (λ n. is_as_wanted false (holds (shown a n)) ≡ true → shown c n ≡ w n) → (n : ℕ) → is_live live n ≡ true
     → if_of (shown a n) (shown b n) (shown c n) ≡ if_of (u n) (v n) (w n)

@@ -7,7 +7,7 @@ use Rattle.cql_syntax.specs.Trees.{FilterTrees, QueryTree}
 use Rattle.cql_plan.specs.Plans.{IsJoinedFormOf}
 use Rattle.cql_plan.specs.declared.verdict.Verdict.{Verdict}
 
--- a game that is turned away has no hit
+-- a game that fails the needs has no hit
 pub none_found : (ns : List ℕ) (may_hold : Bool) → (ns ≢ [] → may_hold ≡ true) → may_hold ≡ false → [] ≡ ns
 none_found [] may_hold some away = refl
 none_found (n ∷ ns) may_hold some away = absurd (let holds = some (λ none. cc) in cc)

@@ -111,7 +111,7 @@ key_added tree nodes rows old key item part least sorts are found =
     map_snoc [] x = refl
     map_snoc (y ∷ xs) x = ap (λ l. Some y ∷ l) (map_snoc xs x)
 
--- every hit is told as one
+-- every hit is found as one
 pub hits_told : (tree : SearchedTree) (items : FilterTrees) (hits : List Bool) (nodes : List ℕ) → hits ≡ hit_column tree items → nodes ≡ hits_in tree items
     → All (λ n. get_or hits n false ≡ true) nodes
 unfolding searched

@@ -138,7 +138,7 @@ pub rules_from : (items : FilterTrees) → list_all is_sound (of_items 0 items) 
 unfolding break_no_rule
 rules_from items h = all_rules (of_items 0 items) h
 
--- members are of their kind, and may stand
+-- members are of their kind, and may be parts
 
 module _ (kind : Kind) (s : TypingContext) where
   pub members_from : (fs : FilterTrees) → list_all (λ f. same_kind (filter_kind f) kind) (filters_of fs) ≡ true

@@ -69,7 +69,7 @@ pub record Gathers (kind : Kind) (before after fs : FilterTrees) : Type 0 where
   pub members : (s : TypingContext) → are_members kind s before ≡ true → are_members kind s fs ≡ true → are_members kind s after ≡ true
   pub cost : (searched : ℕ) → filters_cost searched after ≤ filters_cost searched before + filters_cost searched fs
 
--- The second items hold in every game where the first ones do, have the same sort keys, and cost no more looks.
+-- The second items hold in a game exactly as the first ones do, have the same sort keys, and cost no more looks.
 pub record HaveSameHits (items others : FilterTrees) : Type 0 where
   pub here : (tree : SearchedTree) (n : ℕ) → is_hit tree others n ≡ is_hit tree items n
   pub keys : (tree : SearchedTree) (found : List ℕ) → all_keys tree found others ≡ all_keys tree found items

@@ -45,7 +45,7 @@ is_left_then tree live left later s t u first second more = record {
 pub is_left_same : (tree : SearchedTree) (live left : List Bool) (s t : ℕ → Bool) → ((n : ℕ) → s n ≡ t n) → IsLeft tree live s left → IsLeft tree live t left
 is_left_same tree live left s t same is = record { asked = is.asked; each = λ n. is.each n ∙ ap (λ b. is_live live n && b) (same n) }
 
--- one filter, where it is taken and where it is not
+-- one filter, taken or not
 pub left_told : (taken : FilterTree → Bool) (tree : SearchedTree) (e : Names) (want : Bool) (f : FilterTree) (live left : List Bool) (c : FilterColumn)
     → taken f ≡ true → IsNodeSet tree live → Where live (λ n. holds (shown c n) ≡ holds (value tree [] e f n)) → IsNarrowed live c want left
     → IsLeft tree live (is_as_wanted_if taken tree e want f) left
@@ -165,7 +165,7 @@ so_all tree e want no_filters n = refl
 so_all tree e want (more_filters f fs) n =
     ap₂ (λ a b. (not a || is_as_wanted want (holds (value tree [] e f n))) && b) (class_low f) (so_all tree e want fs n)
 
--- none holds where each doesn't
+-- none holds if each doesn't
 pub so_no : (tree : SearchedTree) (e : Names) (fs : FilterTrees) (n : ℕ)
     → are_as_wanted (is_before 6) tree e false fs n ≡ not (list_any holds (values tree [] e fs n))
 so_no tree e fs n = so_all tree e false fs n ∙ none (values tree [] e fs n)

@@ -132,7 +132,7 @@ yes_both false b e f = cc
 related_has : (test : ℕ → ℕ → Bool) (x y : Value) (s : ℕ) → has (related test x y) s ≡ true → has x s ≡ true
 related_has test x y s h = first_true (has x s) (list_any (λ t. has y t && test s t) squares) (second_true (nat_lt s 64) (has x s && list_any (λ t. has y t && test s t) squares) h)
 
--- a filter asks which squares of one set attack some of another, or are attacked from there
+-- the squares of one set that attack some of another, or are attacked from there
 pub record IsAttack (f : FilterTree) (p : Pair) (a b : FilterTree) : Type 0 where
   pub at : ℕ
   pub is : f ≡ filter_at at (pair p a b)
@@ -171,7 +171,7 @@ turned_has test x y s only h =
     (some_square (λ t. has x t && test t b.k) a.k a_low
     (yes_both (has x a.k) (test a.k b.k) (first_true (has x a.k) (list_any (λ u. has y u && test a.k u) squares) there) (second_true (has y b.k) (test a.k b.k) b.passes)))))
 
--- one is the other asked the other way round
+-- one attack is the converse of the other
 pub record AreTurned (p back : Pair) : Type 0 where
   pub attacks : p ≡ Attacks → back ≡ AttackedBy
   pub attacked : p ≡ AttackedBy → back ≡ Attacks

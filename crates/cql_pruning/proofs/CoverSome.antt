@@ -1,4 +1,4 @@
--- Squares of sets that are added where one of several filters may hold.
+-- Squares of sets that are added if one of several filters may hold.
 use Rattle.std.proofs.Common.{◌≡◌, ⊎_elim, ℕ, zero, suc, ◌+◌, ◌<◌, ◌≤◌, ◌||◌, Bool, true, false, List, [], ◌∷◌, length, get_or, refl, sym, ap, ◌∙◌, subst, arith}
 use Rattle.std.specs.Prelude.{slice_set, bit_or}
 use Rattle.std.specs.List.{list_any}

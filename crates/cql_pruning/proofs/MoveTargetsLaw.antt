@@ -151,7 +151,7 @@ none_of p (x ∷ xs) away = ap (λ b. b || list_any p xs) (away x) ∙ none_of p
 none_asked : (x : Value) (asked : ℕ → Bool) → ((s : ℕ) → asked s ≡ false) → as_truth false ≡ square_of false x asked
 none_asked x asked away = ap as_truth (sym (none_of asked (filter (has x) squares) away))
 
--- at a node that is asked for, whether or not it is looked at
+-- at a live node, looked at or not
 pub goal_met_is : (b : Binding) (p : Played) (live some : List Bool) (set n : ℕ) (parts : PartColumns) → AsksGoal ((b.name.now, 0) ∷ []) b.name.now p
     → ArePromoting (tree_in b.scope.now) (is_some (out-Played p).promoted) live some → (is_live some n ≡ true → is_in set ≡ has (shown b.squares.now n))
     → ArePartColumns (tree_in b.scope.now) b.scope.now.names.now p some parts → is_live live n ≡ true

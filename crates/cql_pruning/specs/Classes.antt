@@ -44,7 +44,7 @@ is_of class f = filter_class f == class
 abbrev pub is_before : ℕ → FilterTree → Bool
 is_before class f = nat_lt (filter_class f) class
 
--- bit k of a set is set where one of the filters is of class k
+-- bit k of a set is set if one of the filters is of class k
 abbrev pub CoverClasses : ℕ → List Filter → Type 0
 CoverClasses classes fs = (k : ℕ) → is_in classes k ≡ false → list_any (λ f. is_of k (filter_tree f)) fs ≡ false
 

@@ -16,7 +16,7 @@ use Rattle.cql_columns.specs.Costs.{filter_cost, filters_cost, played_cost, writ
 abbrev pub is_open : Names → List ℕ → Bool
 is_open opened text = holds (squares_where (is_bound_to opened text))
 
--- two lists bind alike all names that are not opened
+-- two lists have the same bindings of all names that are not opened
 pub record Agree (opened inner outer : Names) : Type 0 where
   pub each : (text : List ℕ) → is_open opened text ≡ false → (t : ℕ) → is_bound_to inner text t ≡ is_bound_to outer text t
 

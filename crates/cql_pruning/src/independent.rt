@@ -59,7 +59,7 @@ fn is_independent_move(opened: &Names, played: &Played) -> bool
         && is_independent_part(opened, &played.promoted)
 }
 
-/// Returns true only if a part is not written or has none of these names.
+/// Returns true only if a part is not written, or is independent of these names.
 #[cycle(is_independent)]
 #[tactic(auto, unfolding(cql_syntax::specs::Meaning::value, cql_columns::specs::Costs::filter_cost))]
 pub fn is_independent_part(opened: &Names, part: &Option<Box<Filter>>) -> bool
@@ -71,7 +71,7 @@ pub fn is_independent_part(opened: &Names, part: &Option<Box<Filter>>) -> bool
     }
 }
 
-/// Returns true only if a part is written and has none of these names.
+/// Returns true only if a part is written and independent of these names.
 pub fn is_independent_and_written(opened: &Names, part: &Option<Box<Filter>>) -> bool
     ensures { result ≡ true → IsIndependentPart opened.now (written_tree part.now) }
 {
@@ -124,7 +124,7 @@ pub fn is_attack(pair: Pair) -> bool
     }
 }
 
-/// Returns true only if all filters of a chain must hold.
+/// Returns true only for a conjunction: all filters of the chain must hold.
 pub fn is_all(chain: Chain) -> bool
     ensures { result ≡ true → (chain ≡ And) ⊎ (chain ≡ All) }
 {
@@ -134,7 +134,7 @@ pub fn is_all(chain: Chain) -> bool
     }
 }
 
-/// Returns true only if one filter of a chain must hold.
+/// Returns true only for a disjunction: one filter of the chain must hold.
 pub fn is_or(chain: Chain) -> bool
     ensures { result ≡ true → chain ≡ Or }
 {

@@ -37,7 +37,7 @@ pub fn is_of_class(filter: &Filter, class: u32) -> bool
     class_of(filter) == class
 }
 
-/// The classes of some filters: bit k is set where one of them is of class k.
+/// The classes of some filters: bit k is set if one of them is of class k.
 pub fn classes_of(filters: &[Filter]) -> u32
     ensures { CoverClasses result filters.now }
 {
