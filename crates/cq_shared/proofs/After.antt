@@ -200,7 +200,7 @@ cost_some game test (p ∷ ps) = by (test p) (filter test ps) (cost_some game te
     by true rs less = omega (arith, sum_by-cons (part_cost game) p rs, sum_by-cons (part_cost game) p ps, less)
     by false rs less = omega (arith, sum_by-cons (part_cost game) p ps, less)
 
--- a part that is taken, as a callee answers for it
+-- a part that is taken, with the clauses of the call
 
 pub cost_taken : (taken want : Part → Bool) (game : Game) (p : Part) → taken p ≡ true → cost_if (both taken want) game p ≡ cost_if (both (λ p. true) want) game p
 cost_taken taken want game p is = ap (λ b. if b && want p then part_cost game (shown p.single) else 0) is
@@ -229,7 +229,7 @@ pub narrowed_fewer : (taken : Part → Bool) (game : Game) (p : Part) (left late
     → (q n : ℕ) → is_left later q n ≡ true → is_left left q n ≡ true
 narrowed_fewer taken game p left later by q n there = and_first (is_left left q n) (meets_if taken game q n p) (sym (by.each q n) ∙ there)
 
--- the numbers of a part, where the nodes that are asked for cover those that are left
+-- the numbers of a part, if the live nodes cover those that are left
 pub narrowed_row : (game : Game) (p : Part) (left later : List NodeSet) (live : List Bool) (row : List (Option ℤ)) → IsNarrowedBy game p left later → CoversWanted p left live
     → (p.class ≡ sort_class → IsRowAt game p live row) → HasRow game later p row
 narrowed_row game p left later live row by covers told = record {

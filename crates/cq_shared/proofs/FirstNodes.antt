@@ -89,7 +89,7 @@ with_variations v [] k p low reads = absurd (omega (arith, low))
 with_variations v (f ∷ fs) zero p low reads = ap (λ r. r.variations) reads
 with_variations v (f ∷ fs) (suc k) p low reads = with_variations v fs k p (omega (arith, low)) reads
 
--- each part that some query wants at first is one of a query that the game has what it needs for
+-- each part with a start node is one of a query whose needs the game meets
 
 any_at : (h : PartTree → Bool) (ps : List PartTree) (k : ℕ) (p : PartTree) → k < length ps → p ≡ get_or ps k p → h p ≡ true → list_any h ps ≡ true
 any_at h [] k p low reads is = absurd (omega (arith, low))

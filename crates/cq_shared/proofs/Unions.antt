@@ -65,7 +65,7 @@ or_right : (a b : Bool) → b ≡ true → (a || b) ≡ true
 or_right true b e = refl
 or_right false b e = e
 
--- the queries that have a part, and whether one of them still wants a node
+-- the queries that have a part, and if a node is still left to one of them
 one_step : (t : ℕ → Bool) (xs : List ℕ) (i d : ℕ) → i < length xs → t (get_or xs i d) ≡ false → list_any t (drop i xs) ≡ list_any t (drop (i + 1) xs)
 one_step t [] i d inside not_here = absurd (omega arith)
 one_step t (x ∷ xs) zero d inside not_here = ap (λ b. b || list_any t xs) not_here
@@ -172,7 +172,7 @@ pub record TruthsOf (game : Game) (p : Part) (left : List NodeSet) : Type 0 wher
   pub told : ArePartTruths game p live truths
   pub covers : CoversWanted p left live
 
--- of some nodes these are left, if the part is asked for
+-- the nodes left of some, if the part is evaluated
 abbrev pub AreLeftOf : Bool → List Bool → NodeSet → NodeSet → Type 0
 AreLeftOf wants truths x y = (n : ℕ) → get_or y.there.items n false ≡ (get_or x.there.items n false && (not wants || get_or truths n false))
 

@@ -59,7 +59,7 @@ abbrev pub parts_in_all : List QueryTree → List PartTree
 parts_in_all [] = []
 parts_in_all (q ∷ qs) = parts_in q ++ parts_in_all qs
 
--- Two parts are the same wherever they begin, if their queries search the same nodes.
+-- Two parts with different places are the same if their filters agree and their queries search the same nodes.
 abbrev pub same_part : PartTree → PartTree → Bool
 same_part p r = same_flag p.variations r.variations && same_unplaced p.filter r.filter
 

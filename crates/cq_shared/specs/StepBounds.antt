@@ -9,7 +9,7 @@ use Rattle.cq_shared.specs.Parts.{PartTree, same_part, parts_in}
 use Rattle.cq_shared.specs.declared.nodes.NodeSet.{NodeSet}
 use Rattle.cq_shared.specs.declared.part.Part.{Part}
 
--- The test is true of the part if a node is still left to a query that has the part. `AdmitsAll` says it of each part.
+-- The test is true of the part if a node is still left to a query that has the part. `AdmitsAll` requires it of each part.
 abbrev pub Admits : (Part → Bool) → List NodeSet → Part → Type 0
 Admits want left p = IsWanted p left → want p ≡ true
 
