@@ -1,4 +1,4 @@
--- Boards and seats in terms of their callers.
+-- Boards and seats as their callers see them.
 use Rattle.std.specs.Prelude.{◌≡◌, ℕ, List, map}
 use Rattle.cq_board.specs.declared.seat.Board.{Board}
 use Rattle.cq_board.specs.declared.seat.ClaimSeat.{ClaimSeat}

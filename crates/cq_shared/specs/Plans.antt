@@ -1,4 +1,4 @@
--- Plans of several queries in terms of their callers.
+-- Plans of several queries as their callers see them.
 use Rattle.std.specs.Prelude.{List, map}
 use Rattle.cql_plan.specs.Plans.{query_of}
 use Rattle.cql_syntax.specs.QueryTrees.{trees_of}

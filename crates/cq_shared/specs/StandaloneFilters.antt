@@ -6,7 +6,7 @@ use Rattle.cql_syntax.specs.Occurrences.{Occurrence, occurrences, top_item}
 use Rattle.cql_syntax.specs.TreeFaults.{is_family}
 use Rattle.cql_syntax.specs.Trees.{FilterTree}
 
--- the filter is no family, has the kind that its place requires, and breaks no rule
+-- the filter is no family, the parts of an `Any` have the kind that it names, and the filter breaks no rule
 abbrev pub is_sound : Occurrence → Bool
 is_sound o = not (is_family o.form) && (has_its_kind o.form && breaks_none o)
 

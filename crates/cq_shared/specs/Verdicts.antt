@@ -1,4 +1,4 @@
--- The results of several queries in a game, in terms of their callers: a list for each query, in order.
+-- The results of several queries in a game, as their callers see them: a list for each query, in order.
 use Rattle.std.specs.Prelude.{◌≡◌, ◌≢◌, ℕ, ℤ, List, [], ◌∷◌, Some, map}
 use Rattle.cq_position.specs.Games.{Game}
 use Rattle.cql_syntax.specs.Hits.{keys}

@@ -1,4 +1,4 @@
--- Plans in terms of their callers.
+-- Plans as their callers see them.
 use Rattle.std.specs.Prelude.{◌≡◌, ◌≤◌, ℕ, Bool, List}
 use Rattle.cq_position.specs.Games.{Game}
 use Rattle.cql_columns.specs.Costs.{filters_cost, searched_len}

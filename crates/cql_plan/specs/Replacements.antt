@@ -17,7 +17,7 @@ use Rattle.cql_syntax.specs.declared.leaves.Kind.{Kind}
 use Rattle.cql_syntax.specs.declared.leaves.Kind.TheVariants.{Position, Set, Number}
 use Rattle.cql_columns.specs.Costs.{filter_cost, filters_cost}
 
--- The property of each filter in the items of a flat query: it is no family, its parts are of its kind, and it breaks no rule.
+-- The property of each filter in the items of a flat query: it is no family, the parts of an `Any` are of its kind, and it breaks no rule.
 abbrev pub is_sound : Occurrence → Bool
 is_sound o = (not (is_family o.form) && has_its_kind o.form) && breaks_none o
 

@@ -1,4 +1,4 @@
--- Verdicts in terms of their callers.
+-- Verdicts as their callers see them.
 use Rattle.std.specs.Prelude.{ℕ, ℤ, List}
 use Rattle.cql_plan.specs.declared.verdict.Verdict.{Verdict}
 

@@ -1,4 +1,4 @@
--- The answers of one worker for games of a batch, in terms of the private functions.
+-- The answers of one worker for games of a batch, in the form that the private functions use.
 use Rattle.std.specs.Prelude.{ℕ, List, length}
 use Rattle.pgn_batches.specs.Games.{games_of, number_of}
 use Rattle.pgn_batches.specs.declared.batch.Batch.{Batch}

@@ -1,4 +1,4 @@
--- Calls of a function at elements that are numbered from i on, in terms of the private functions.
+-- Calls of a function at elements that are numbered from i on, in the form that the private functions use.
 use Rattle.std.specs.Prelude.{◌≡◌, ℕ, ◌+◌, List, [], ◌∷◌, ⊤}
 use denote.Ref.{MutBor}
 use denote.Param.Members.{Shared}

@@ -1,4 +1,4 @@
--- Workers before their first draw and after their last, in terms of the private functions.
+-- Workers before their first draw and after their last, in the form that the private functions use.
 use Rattle.std.specs.Prelude.{◌≡◌, ℕ, ◌<◌, ◌≤◌, List, [], ◌∷◌, ◌++◌, false}
 use Rattle.cq_board.specs.declared.seat.Board.{Board}
 use Rattle.cq_board.specs.Seats.{numbers_of, IsSeatOf, drawn, HasEnded}

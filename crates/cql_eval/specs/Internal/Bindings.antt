@@ -1,4 +1,4 @@
--- Squares that are bound to a name one by one, in terms of the private functions.
+-- Squares that are bound to a name one by one, in the form that the private functions use.
 use Rattle.std.specs.Prelude.{ℕ, Bool, ◌∷◌}
 use Rattle.cql_syntax.specs.Trees.{FilterTree}
 use Rattle.cql_syntax.specs.Values.{holds}

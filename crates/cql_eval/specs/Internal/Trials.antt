@@ -1,4 +1,4 @@
--- Squares that are tried under a name, in terms of the private functions.
+-- Squares that are tried under a name, in the form that the private functions use.
 use Rattle.std.specs.Prelude.{ℕ, Bool, List}
 use Rattle.cq_position.specs.Search.{SearchedTree}
 use Rattle.cql_syntax.specs.Meaning.{Names}

@@ -1,4 +1,4 @@
--- The items of a query at a node, in terms of the private functions.
+-- The items of a query at a node, in the form that the private functions use.
 use Rattle.std.specs.Prelude.{ℕ, Bool, []}
 use Rattle.cq_position.specs.Search.{SearchedTree}
 use Rattle.cql_syntax.specs.Meaning.{value}
