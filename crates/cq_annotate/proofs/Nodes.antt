@@ -63,7 +63,7 @@ pub right_of : {A : Type 0} (P : A → Type 0) (xs ys : List A) → All P (xs ++
 right_of P [] ys all = all
 right_of P (x ∷ xs) ys all = right_of P xs ys (rest_of P x (xs ++ ys) all)
 
--- what is left to add to a node: the node as it stands with that is the node as it was with all
+-- the change left to a node: it makes of the present node the same as the whole change makes of the old one
 pub record IsLeft (old now : Game) (n : ℕ) (left whole : Node → Node) : Type 0 where
   pub tags : now.tags ≡ old.tags
   pub ending : now.result ≡ old.result

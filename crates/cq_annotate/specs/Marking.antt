@@ -4,7 +4,7 @@ use Rattle.std.specs.List.{list_any}
 use Rattle.cq_position.specs.Games.{Game, Node, node_at, numbers}
 use Rattle.cql_syntax.specs.Hits.{with_marks}
 
--- a node, which has the texts after its own comments where it is one of those that are marked
+-- a node, with the texts after its own comments if it is one of those that are marked
 abbrev pub node_marked : List (List ℕ) → List ℕ → Game → ℕ → Node
 node_marked texts nodes game n =
     if list_any (λ k. k == n) nodes then with_marks texts (node_at game.nodes n) else node_at game.nodes n

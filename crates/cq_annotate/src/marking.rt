@@ -11,10 +11,14 @@ use cql_syntax::{Filter, Filters, Form, Query};
 use pgn_tree::Game;
 use std::alloc::Global;
 
-/// The same game, in which each of the nodes given has the query's match string and then its top comments after its own comments, each as
-/// its words; a text without a word adds nothing.
+/// The same game, with comments added to each of the nodes given: the query's match string and then its top comments. They follow the
+/// node's own comments, each split into its words. A text without a word adds nothing.
 ///
-/// The numbers of the nodes increase. No text of the query holds `}`, which ends a comment (PGN standard, section 5).
+/// The numbers of the nodes increase. No text of the query has `}`, which ends a comment (PGN standard, section 5).
+///
+/// # Errors
+///
+/// `NoMemory` if out of memory.
 pub fn mark(alloc: Global, game: &Game, nodes: &[u32], query: &Query) -> Result<Game, NoMemory>
     requires increasing { AllPairs (λ m n. m < n) nodes.now }
     requires inside { All (λ n. n < length game.now.nodes) nodes.now }

@@ -24,7 +24,7 @@ once_next n x = by_order (nat_lt x n) (n == x) refl (eqb_tells n x) refl
 times_push : (y : ℕ) (xs : List ℕ) (x : ℕ) → times y (xs ++ x ∷ []) ≡ times y xs + one_if (x == y)
 times_push y xs x = sum_by_push (λ z. one_if (z == y)) xs x
 
--- what a worker drew is below the next number
+-- a number that a worker drew is below the next number
 pub below_next : (next : ℕ) (lists : List (List ℕ)) (x : ℕ) → IsDrawnOnce next lists → 0 < times_in x lists → x < next
 below_next next lists x once stands = by_order (nat_lt x next) refl
   where

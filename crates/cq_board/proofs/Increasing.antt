@@ -15,7 +15,7 @@ abbrev pub IsRising : List ℕ → Type 0
 IsRising [] = Unit {0}
 IsRising (x ∷ xs) = Rises x xs
 
--- what stands at the next place of a longer list
+-- the element at the next place of a longer list
 next_place : (x : ℕ) (ys : List ℕ) (k : ℕ) → get_or (x ∷ ys) (suc k + 1) 0 ≡ get_or ys (k + 1) 0
 next_place x ys k = let e : suc k + 1 ≡ suc (k + 1) = omega arith in ap (λ (j : ℕ). get_or (x ∷ ys) j 0) e
 
@@ -79,7 +79,7 @@ rising_put (y ∷ ys) x apart up = by_order (nat_lt x y) refl
     by_order true e = (ltb-true x y e, up)
     by_order false e = let h = ltb-false x y e in rises_put y ys x (omega (arith, other)) (let m = times_more x y ys in omega arith) up
 
--- what a list counts is what it counts with x put in, less x
+-- the count of a list is its count with x put in, less x
 pub count_put : (p : ℕ → Bool) (x : ℕ) (xs : List ℕ) → count_by p (put_in x xs) ≡ one_if (p x) + count_by p xs
 count_put p x [] = sum_by-cons (λ z. one_if (p z)) x []
 count_put p x (y ∷ ys) = by_order (nat_lt x y) (count_put p x ys)

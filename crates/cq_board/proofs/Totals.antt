@@ -42,7 +42,7 @@ module _ {V : Type 0} where
   at_mapped g (x ∷ xs) zero y at = (x, refl, some-injective (g x) y at)
   at_mapped g (x ∷ xs) (suc id) y at = at_mapped g xs id y at
 
-  -- where g is 0, f is 0
+  -- if g is 0, f is 0
   abbrev Follows : (f g : V → ℕ) (views : List V) → Type 0
   Follows f g views = (id : ℕ) (v : V) → get_elem? views id ≡ some v → g v ≡ 0 → f v ≡ 0
 

@@ -1,28 +1,27 @@
--- Workers that draw the numbers from 0 on.
--- A state is the number that is drawn next and, for each worker, the list of the numbers that it drew. In
--- the one event, a worker draws: the next number goes to the end of its list, and one more is next.
+-- Workers that draw the numbers from 0 on. A state is the number that is drawn next and, for each worker, the list of the numbers that it
+-- drew. In the one event, a worker draws: the next number goes to the end of its list, and one more is next.
 use Rattle.std.specs.Prelude.{◌≡◌, ℕ, ◌+◌, List, [], ◌∷◌, ◌++◌, ◌==◌, if◌then◌else◌, nat_lt, slice_set, sum_by, count_by}
 use Rattle.std.specs.List.Sorted.{IsStrictlyIncreasing}
 use mathlib.Core.Option.{some}
 use lib.ListN.{get_elem?}
 
--- how often x stands in the list
+-- the number of times that x is in the list
 abbrev pub times : ℕ → List ℕ → ℕ
 times x xs = count_by (λ y. y == x) xs
 
--- how often x stands in all lists together
+-- the number of times that x is in all lists together
 abbrev pub times_in : ℕ → List (List ℕ) → ℕ
 times_in x lists = sum_by (times x) lists
 
--- once where x is below the next number, and else not at all
+-- one if x is below the next number, else zero
 abbrev pub once_below : ℕ → ℕ → ℕ
 once_below next x = if nat_lt x next then 1 else 0
 
--- Each number below `next` stands once in all lists together, and nothing else stands there
+-- Each number below `next` is once in all lists together, and no other number is there.
 abbrev pub IsDrawnOnce : ℕ → List (List ℕ) → Type 0
 IsDrawnOnce next lists = (x : ℕ) → times_in x lists ≡ once_below next x
 
--- The state is sound
+-- a sound state
 pub record IsSound (next : ℕ) (lists : List (List ℕ)) : Type 0 where
   pub increasing : (worker : ℕ) (list : List ℕ) → get_elem? lists worker ≡ some list → IsStrictlyIncreasing list
   pub once : IsDrawnOnce next lists
@@ -39,7 +38,7 @@ pub record IsDraw (worker next : ℕ) (lists : List (List ℕ)) (next_after : �
   pub drawn : lists_after ≡ slice_set lists worker (list ++ next ∷ [])
   pub one_more : next_after ≡ next + 1
 
--- These events, in their order, lead from one state to another: each is told by the worker that draws
+-- These events, in their order, lead from one state to another. Each is given by the worker that draws.
 abbrev pub AreDraws : List ℕ → ℕ → List (List ℕ) → ℕ → List (List ℕ) → Type 0
 AreDraws [] next lists next_after lists_after = (next_after ≡ next) × (lists_after ≡ lists)
 AreDraws (worker ∷ workers) next lists next_after lists_after =

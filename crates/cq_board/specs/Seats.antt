@@ -7,11 +7,11 @@ use Rattle.cq_board.specs.declared.seat.ClaimSeat.{ClaimSeat}
 abbrev pub numbers_of : Board → ℕ
 numbers_of b = b.table.shared.key.numbers
 
--- how many seats the board was made with
+-- the number of seats that the board was made with
 abbrev pub seats_of : Board → ℕ
 seats_of b = b.table.shared.key.seats
 
--- The seat belongs to the board
+-- The seat belongs to the board.
 pub record IsSeatOf (b : Board) (s : ClaimSeat) : Type 0 where
   pub table : s.seat.table_id ≡ b.table.shared.table_id
   pub numbers : s.seat.me.0.numbers ≡ numbers_of b
@@ -21,7 +21,7 @@ pub record IsSeatOf (b : Board) (s : ClaimSeat) : Type 0 where
 abbrev pub drawn : ClaimSeat → List ℕ
 drawn s = s.seat.me.0.drawn
 
--- the seat was answered None
+-- the seat has drawn `None`
 abbrev pub HasEnded : ClaimSeat → Type 0
 HasEnded s = s.seat.me.0.passes ≡ 0
 

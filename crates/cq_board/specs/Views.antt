@@ -1,4 +1,4 @@
--- The board's word 0 is the number that is drawn next. This is what its rule says of that word and of the views of its seats.
+-- The rule of a board: its word 0 is the number that is drawn next. It relates that word and the views of its seats.
 use Rattle.std.specs.Prelude.{◌≡◌, ℕ, ◌+◌, ◌-◌, ◌^◌, ◌<◌, ◌≤◌, ◌⊎◌, List, [], ◌∷◌, ◌++◌, map, length, slice_index, sum_by, count_by, nat_lt, nat_le, if◌then◌else◌}
 use mathlib.Core.Option.{some}
 use lib.ListN.{get_elem?}
@@ -17,7 +17,7 @@ spent = view 0 0 [] 0
 abbrev pub first_view : BoardSize → SeatView
 first_view terms = view terms.numbers terms.seats [] terms.seats
 
--- how many numbers of the list are not below n
+-- the number of elements of the list that are not below n
 abbrev pub late : ℕ → List ℕ → ℕ
 late n xs = count_by (λ x. nat_le n x) xs
 
@@ -34,7 +34,7 @@ pub record IsInPlay (terms : BoardSize) (v : SeatView) : Type 0 where
   pub seats : v.seats ≡ terms.seats
   pub part : 0 < share terms.numbers v
 
--- The rule
+-- The rule of a board.
 pub record IsKept (terms : BoardSize) (words : List ℕ) (views : List SeatView) : Type 0 where
   pub limits : (terms.numbers ≤ 2 ^ 32) × (terms.seats ≤ 64)
   pub word : length words ≡ 1
@@ -43,11 +43,11 @@ pub record IsKept (terms : BoardSize) (words : List ℕ) (views : List SeatView)
   pub shares : sum_by (share terms.numbers) views ≡ terms.seats
   pub room : slice_index words 0 ≤ terms.numbers + sum_by (λ v. late terms.numbers v.drawn) views
 
--- A seat draws x: its pass goes where x is not below n
+-- a seat draws x: its pass goes if x is not below n
 abbrev pub drawing : SeatView → ℕ → SeatView
 drawing v x = view v.numbers v.seats (v.drawn ++ x ∷ []) (v.passes - late v.numbers (x ∷ []))
 
--- A seat hands out a pass
+-- a seat hands out a pass
 abbrev pub one_pass_less : SeatView → SeatView
 one_pass_less v = view v.numbers v.seats v.drawn (v.passes - 1)
 
@@ -65,6 +65,6 @@ abbrev pub merged : List ℕ → List ℕ → List ℕ
 merged [] ys = ys
 merged (x ∷ xs) ys = put_in x (merged xs ys)
 
--- A seat takes in the view of another
+-- a seat takes in the view of another
 abbrev pub joined : SeatView → SeatView → SeatView
 joined v w = view v.numbers v.seats (merged v.drawn w.drawn) (v.passes + w.passes)

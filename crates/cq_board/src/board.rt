@@ -1,4 +1,4 @@
-//! How a board is made, drawn from and closed.
+//! The calls of a board: make, claim, close.
 ghost use Rattle.std.specs.Prelude.{◌≡◌, ℕ, ◌+◌, ◌^◌, ◌<◌, ◌≤◌, ◌++◌, ◌∷◌, [], All, Contains, length, IfOk, IfSome, IsOk, None};
 ghost use Rattle.cq_board.specs.Draws.{IsDrawnOnce, times_in};
 ghost use Rattle.std.specs.List.Sorted.{IsStrictlyIncreasing};
@@ -13,6 +13,10 @@ use std::alloc::Global;
 
 impl Board {
     /// A board of the numbers below `n`, with its seats.
+    ///
+    /// # Errors
+    ///
+    /// `NoMemory` if out of memory.
     pub fn make(alloc: Global, n: u64, seats: u32) -> Result<(Board, Vec<ClaimSeat>), NoMemory>
         requires numbers { n ≤ 2 ^ 32 }
         requires seats { (0 < seats) × (seats ≤ 64) }
@@ -35,8 +39,8 @@ impl Board {
         Ok((board, claims))
     }
 
-    /// Draws the next number, in one atomic step that waits for nobody. None says that it is not below the board's.
-    /// A seat that is answered `k` had drawn at most `k` numbers before, so it is answered None after `n` turns at the latest.
+    /// Draws the next number, in one atomic step that waits for no other worker. Returns `None` if this number is not below `n`. A
+    /// seat that draws `k` had drawn at most `k` numbers before, so it draws `None` after `n` turns at the latest.
     #[tactic(auto, using(crate::proofs::Increasing::numbers_before))]
     pub fn claim(&self, seat: &mut ClaimSeat) -> Option<u64>
         requires seat { IsSeatOf self.now seat.old }
@@ -57,8 +61,12 @@ impl Board {
         }
     }
 
-    /// Ends the draws, and answers the number that would be drawn next: each number below it was drawn once, by one of the seats.
-    /// Where one of them was answered None, all of the board's numbers were drawn.
+    /// Ends the draws, and returns the number that would be drawn next. Each number below it was drawn once, by one of the seats. If one of
+    /// them has drawn `None`, all of the board's numbers were drawn.
+    ///
+    /// # Errors
+    ///
+    /// `NoMemory` if out of memory.
     pub fn close(self, seats: Vec<ClaimSeat>) -> Result<u64, NoMemory>
         requires seats { All (IsSeatOf self) seats.items }
         requires all { length seats.items ≡ seats_of self }

@@ -2,8 +2,8 @@
 ghost use Rattle.std.specs.Prelude.{◌≡◌, ℕ, List, length};
 ghost use Rattle.cq_board.specs.Draws.{AreDraws, IsInitial, IsDraw, IsSound};
 
-/// The first state of the draws is sound, and every draw leads from a sound state to a sound one; so does every list of draws. From
-/// the first state on, as many numbers are drawn as there are draws.
+/// The first state of the draws is sound. Every draw leads from a sound state to a sound one, and so does every list of draws. From the
+/// first state on, as many numbers are drawn as there are draws.
 pub fn draws_stay_sound()
     ensures first { (next : ℕ) (lists : List (List ℕ)) → IsInitial next lists → IsSound next lists }
     ensures draw { (worker next : ℕ) (lists : List (List ℕ)) (next_after : ℕ) (lists_after : List (List ℕ)) →

@@ -21,7 +21,7 @@ pub struct Board {
 
 impl Shared for Board {}
 
-/// The right of one worker to draw, until it was answered None.
+/// The right of one worker to draw, until it has drawn `None`.
 #[derive(Drop)]
 pub struct ClaimSeat {
     pub(crate) seat: Seat<(), SeatView>,

@@ -1,8 +1,8 @@
-//! What seats know of the draws, and the rule that each step keeps. No value of a view is made.
+//! The knowledge of seats about the draws, and the rule that each step keeps. No value of a view is made.
 use atomic_table::{Join, Play, Split, TableRule};
 use std::collections::LinkedList;
 
-/// What a board is told when it is made.
+/// The parameters of a board, set when it is made.
 #[derive(Clone, Copy, Debug)]
 pub struct BoardSize {
     /// The board gives out the numbers below it.
@@ -10,12 +10,12 @@ pub struct BoardSize {
     pub seats: u64,
 }
 
-/// What a seat knows.
+/// The knowledge of a seat.
 pub struct SeatView {
     pub numbers: u64,
     pub seats: u64,
     pub drawn: LinkedList<u64>,
-    /// How many seats may still draw with this view.
+    /// The number of seats that may still draw with this view.
     pub passes: u64,
 }
 

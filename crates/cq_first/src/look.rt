@@ -6,7 +6,7 @@ ghost use Rattle.cq_first.specs.Views.{looking, IsSeen};
 use crate::seat::{FirstBoard, FirstSeat};
 use crate::view::{Look, LookTarget};
 
-/// The word, as one load finds it.
+/// The word, as one load reads it.
 pub(crate) fn look_at<K: LookTarget>(board: &FirstBoard, seat: &mut FirstSeat, k: u64) -> u64
     requires seat { IsSeatOf board.now seat.old }
     requires number { k ≡ K.number }

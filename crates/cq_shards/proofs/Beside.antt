@@ -1,4 +1,4 @@
--- Answers in the order of their games stand beside the games.
+-- Answers in the order of their games are the answers of the games one by one.
 use Rattle.std.proofs.Common.{◌≡◌, ◌⊎◌, ℕ, zero, suc, ◌+◌, ◌≤◌, ◌<◌, ◌==◌, Bool, true, false, List, [], ◌∷◌, length, get_or, Some, All, AllPairs, refl, sym, ap, ◌∙◌, subst, arith, cond, inl, inr}
 use Rattle.std.specs.Prelude.{nat_eq, slice_get}
 use Rattle.std.specs.List.Sorted.{IsPermutation}

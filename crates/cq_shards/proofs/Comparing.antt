@@ -1,4 +1,4 @@
--- Comparisons item by item, and that each is an order.
+-- Comparisons item by item, each of which is an order.
 use Rattle.std.proofs.Common.{◌≡◌, ℕ, ◌+◌, ◌<◌, ◌≤◌, ℤ, Bool, true, false, true≢false, List, [], ◌∷◌, length, drop, get_or, Option, refl, sym, ap, ◌∙◌}
 use Rattle.std.proofs.lemmas.Cmp.{int_cmp_total, nat_cmp_total, on_total, then_total, back_total}
 use Rattle.std.proofs.lemmas.List.{at_drop_more, at_drop_all}

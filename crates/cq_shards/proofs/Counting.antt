@@ -1,4 +1,4 @@
--- How often a number stands in a list with one more, and how many answers are of one game.
+-- The number of times that a number is in a list with one more element, and the number of answers that are of one game.
 use Rattle.std.proofs.Common.{◌==◌, ◌&&◌, ◌≡◌, ℕ, ◌+◌, ◌<◌, ◌≤◌, List, [], ◌∷◌, ◌++◌, refl, sym, ap, ◌∙◌, arith, All, eq-eqb, Bool, true, false}
 use Rattle.std.specs.Prelude.{nat_eq}
 use Rattle.std.proofs.lemmas.List.Elements.{All-head, All-tail}

@@ -1,4 +1,4 @@
--- Workers that look for the first match: what they answer and skip, one game after another, and what is joined of them all.
+-- Workers that look for the first match: their answers and skips, one game after another, and those of all workers, joined.
 use Rattle.std.proofs.Common.{◌≡◌, ◌⊎◌, inl, inr, ⊎_elim, zero, suc, ℕ, ◌+◌, ◌<◌, ◌&&◌, List, [], ◌∷◌, ◌++◌, map, refl, sym, ap, ◌∙◌, subst, arith, All, Some, None}
 use Rattle.std.specs.Prelude.{Option, flat_map}
 use Rattle.std.proofs.lemmas.List.{append-nil}

@@ -1,4 +1,4 @@
--- What a query finds in a game that was read.
+-- The result of a query in a game that was read.
 use Rattle.std.proofs.Common.{◌≡◌, ℕ, ◌+◌, ◌<◌, ◌==◌, true, false, ℤ, List, [], ◌∷◌, length, map, All, AllPairs, Some, Ok, Err, refl, ap, sym, subst, ◌∙◌, arith, cond}
 use Rattle.std.specs.Prelude.{Result, IfOk}
 use Rattle.std.specs.List.{filter, range_with_len}
@@ -36,7 +36,7 @@ matched_answer query n game text values some is keyed =
     cc (is, values_are) in
     one ∙ ap (λ b. record { index = n; what = cond b (Match (export_text (marked query game)) (values_in (keys query game))) Miss }) (sym some)
 
--- a game has the answer of what it is read as
+-- a game has the answer of its read result
 pub answered : {E : Type 0} (query : QueryTree) (n : ℕ) (games : KeptGames) (number : ℕ) (r : ReadResult) (result : Result GameAnswer E) → IsReadAt games number r
     → IfOk result (λ a. a ≡ answer_of query (n + number) r) → IfOk result (IsAnswerAt query n games number)
 answered query n games number r (Ok a) read is = record { game = read.game; outcome = r; at = read.at; read = read.read; is = is }

@@ -1,4 +1,4 @@
--- Answers and rows tell their games' numbers, so what a crew makes of a batch is the answer, or the row, of each game, once.
+-- Answers and rows have their games' numbers. So the outputs of workers for a batch are the answer, or the row, of each game, once.
 use Rattle.std.proofs.Common.{List, ap}
 use Rattle.pgn_batches.specs.Games.{number_of}
 use Rattle.pgn_batches.specs.declared.batch.Batch.{Batch}

@@ -18,7 +18,7 @@ use Rattle.cq_shards.specs.Internal.Comparing.{answer_cmp, keys_cmp, value_cmp}
 use Rattle.cq_shards.specs.Order.{AreApart, ComesBefore, ComesFirst, HasKeys, IsEarlier, Precede, is_match, key_at, keys_in}
 use Rattle.cq_shards.proofs.Comparing.{answer_total, by_item, keys_turned, no_item}
 
--- what a slice of all of a vector writes back
+-- the elements that a slice of a whole vector writes back
 pub written_back : (n : ℕ) (all xs ys : List GameAnswer) → length xs ≡ n → length ys ≡ length xs → take n (ys ++ drop (length ys) all) ≡ ys
 written_back n all xs ys count same =
     take-append-le n ys (drop (length ys) all) (omega (arith, count, same)) ∙ take_all n ys (omega (arith, count, same))
@@ -101,7 +101,7 @@ lower_first m n Less e below differ = absurd (true≢false below)
 lower_first m n Equal e below differ = absurd (differ (sym (ranked n m Equal (sym e))))
 lower_first m n Greater e below differ = ranked n m Greater (sym e)
 
--- what is not after comes before
+-- an answer that is not after another comes before it
 comes_before : (items : List Bool) (a b : GameAnswer) → length (keys_in a.what) ≡ length items → length (keys_in b.what) ≡ length items
     → a.index ≢ b.index → is_lt (answer_cmp items b a) ≡ false
     → (o : Ordering) → keys_cmp 0 items (keys_in b.what) (keys_in a.what) ≡ o → ComesBefore items a b

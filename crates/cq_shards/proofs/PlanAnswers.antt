@@ -1,4 +1,4 @@
--- The queries of a plan one by one, and what was found of each.
+-- The queries of a plan one by one, and the results of each.
 use Rattle.std.proofs.Common.{◌≡◌, ◌≢◌, ℕ, ◌<◌, ◌≤◌, ℤ, List, [], ◌∷◌, length, get_or, map, drop, Some, zero, suc, ap, sym, ◌∙◌, arith}
 use Rattle.std.proofs.lemmas.List.{get_or-map, length-map}
 use Rattle.cq_position.specs.Games.{Game}
@@ -40,7 +40,7 @@ keyed_at game (q ∷ qs) [] [] k d have inside = absurd have
 keyed_at game (q ∷ qs) [] (ks ∷ kss) k d have inside = absurd have
 keyed_at game (q ∷ qs) (ns ∷ nss) [] k d have inside = absurd have
 
--- the query of this number, and what was found of it
+-- the query with this number, and its results
 pub record FoundAt (queries : List QueryTree) (found : List (List ℕ)) (kss : List (List ℤ)) (k : ℕ) : Type 0 where
   pub query : QueryTree
   pub nodes : List ℕ

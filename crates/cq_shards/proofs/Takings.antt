@@ -27,7 +27,7 @@ snoc_same (x ∷ xs) (y ∷ ys) a b e = let r = snoc_same xs ys a b (ap (drop 1)
 abbrev IsAnswerIn : QueryTree → Batch → GameAnswer → Type 0
 IsAnswerIn query batch a = IsAnswerAmong query (number_of batch) (games_of batch) a
 
--- what is taken off so far, while these rows are left
+-- the answers taken off so far, while these rows are left
 pub record IsTaking (queries : List QueryTree) (batch : Batch) (rows left : List GameRow) (answers : List GameAnswer) : Type 0 where
   pub first : QueryTree
   pub later : List QueryTree

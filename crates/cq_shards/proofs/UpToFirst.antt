@@ -1,4 +1,4 @@
--- Answers in order, cut off behind the first match.
+-- Answers in order, cut off after the first match.
 use Rattle.std.proofs.Common.{◌==◌, ◌&&◌, ◌≡◌, inl, inr, zero, suc, ℕ, ◌+◌, ◌<◌, ◌≤◌, List, [], ◌∷◌, length, take, get_or, refl, sym, ap, ◌∙◌, subst, arith, All, AllPairs, Bool, true, false}
 use Rattle.std.specs.Prelude.{nat_eq}
 use Rattle.std.specs.List.Sorted.{IsPermutation}
@@ -69,7 +69,7 @@ first_of query n g gs word a ys are = record {
     here : a.index ≡ n
     here = index_of query n (g ∷ gs) a at ∙ omega (arith, number)
 
--- the answers behind the first
+-- the answers after the first
 from_next : (query : QueryTree) (n : ℕ) (g : KeptGame) (gs : KeptGames) (word : ℕ) (a : GameAnswer) (ys : List GameAnswer) → AreFrom query n (g ∷ gs) (word + 1) (a ∷ ys)
     → IsFirstOf query n g a ys → AreFrom query (n + 1) gs word ys
 from_next query n g gs word a ys are is = record {

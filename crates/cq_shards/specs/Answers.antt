@@ -15,21 +15,21 @@ use Rattle.cq_shards.specs.declared.answers.Answer.{Answer}
 use Rattle.cq_shards.specs.declared.answers.Answer.TheVariants.{Refused, Miss, Match}
 use Rattle.cq_shards.specs.declared.answers.GameAnswer.{GameAnswer}
 
--- whether a query matches at some node
+-- true if a query matches at some node
 abbrev pub has_match : QueryTree → Game → Bool
 has_match query game = not (length (hits query game) == 0)
 
--- what a query finds in a game that is read so
+-- the result of a query in a game with this read result
 abbrev pub found_in : QueryTree → ReadResult → Answer
 found_in query (Ok game) =
     if has_match query game then Match (export_text (marked query game)) (values_in (keys query game)) else Miss
 found_in query (Err fault) = Refused fault
 
--- the answer of a game that has this number and is read so
+-- the answer of a game with this number and this read result
 abbrev pub answer_of : QueryTree → ℕ → ReadResult → GameAnswer
 answer_of query number outcome = record { index = number; what = found_in query outcome }
 
--- the answers of some games, the first having this number
+-- the answers of some games, the first of which has this number
 unfoldable pub answers_from : QueryTree → ℕ → List ReadResult → List GameAnswer
 answers_from query number [] = []
 answers_from query number (r ∷ rs) = answer_of query number r ∷ answers_from query (number + 1) rs
@@ -59,7 +59,7 @@ pub record IsAnswerAt (query : QueryTree) (n : ℕ) (games : KeptGames) (number 
 abbrev pub IsAnswerAmong : QueryTree → ℕ → KeptGames → GameAnswer → Type 0
 IsAnswerAmong query n games a = (number : ℕ) × IsAnswerAt query n games number a
 
--- how many of some answers are of the game with this number in the archive
+-- the number of answers that are of the game with this number in the archive
 abbrev pub answers_at : ℕ → List GameAnswer → ℕ
 answers_at index answers = count_by (λ a. a.index == index) answers
 

@@ -8,8 +8,8 @@ use Rattle.cq_shards.specs.Answers.{IsAnswerOf}
 use Rattle.cq_shards.specs.Order.{is_match}
 use Rattle.cq_shards.specs.declared.answers.GameAnswer.{GameAnswer}
 
--- In order, the answer of each game up to and with the first match, or of all games where none matches. The first game has the
--- number `n` in the archive.
+-- In order, the answer of each game up to and with the first match, or of all games if none matches. The first game has the number `n` in
+-- the archive.
 abbrev pub AreUpToFirst : QueryTree → (n : ℕ) → KeptGames → List GameAnswer → Type 0
 AreUpToFirst query n [] [] = Unit {0}
 AreUpToFirst query n [] (a ∷ answers) = ⊥

@@ -1,4 +1,4 @@
--- The order in which answers come: by their games, and matches by the sort items of a query and then by their games.
+-- The order of answers: by their games, and matches by the sort items of a query and then by their games.
 use Rattle.std.specs.Prelude.{◌≡◌, ◌≢◌, ◌⊎◌, ◌<◌, ◌<ℤ◌, ℕ, ℤ, pos, Bool, true, false, List, [], ◌∷◌, ◌++◌, length, take, slice_index_or, AllPairs, Option, None, Some}
 use Rattle.cql_syntax.specs.Trees.{FilterTree, filter_at, FormTree, sort, FilterTrees, no_filters, more_filters}
 use Rattle.cq_shards.specs.declared.answers.Answer.{Answer}
@@ -13,7 +13,7 @@ AreApart answers = AllPairs (λ a b. a.index ≢ b.index) answers
 abbrev pub IsEarlier : GameAnswer → GameAnswer → Type 0
 IsEarlier a b = a.index < b.index
 
--- an answer is a match
+-- true if an answer is a match
 abbrev pub is_found : Answer → Bool
 is_found (Refused fault) = false
 is_found Miss = false
@@ -22,13 +22,13 @@ is_found (Match text keys) = true
 abbrev pub is_match : GameAnswer → Bool
 is_match a = is_found a.what
 
--- the keys of a match, and none of another answer
+-- the keys of a match; another answer has none
 abbrev pub keys_in : Answer → List ℤ
 keys_in (Refused fault) = []
 keys_in Miss = []
 keys_in (Match text keys) = keys
 
--- of each `sort` among the items of a query, whether it has `min`
+-- for each `sort` among the items of a query, true if it has `min`
 abbrev pub form_directions : FormTree → List Bool
 form_directions (sort least text f) = least ∷ []
 form_directions _ = []
@@ -65,6 +65,6 @@ pub record Precede (items : List Bool) (xs ys : List ℤ) : Type 0 where
   pub alike : take item xs ≡ take item ys
   pub first : ComesFirst (slice_index_or items item false) (key_at xs item) (key_at ys item)
 
--- by the keys, and where they are the same by the games
+-- by the keys and, if these are the same, by the games
 abbrev pub ComesBefore : List Bool → GameAnswer → GameAnswer → Type 0
 ComesBefore items a b = Precede items (keys_in a.what) (keys_in b.what) ⊎ ((keys_in a.what ≡ keys_in b.what) × IsEarlier a b)

@@ -1,4 +1,4 @@
--- The query whose answers a plan gives.
+-- The query of a plan, whose answers it gives.
 use Rattle.cql_plan.specs.Plans.{query_of}
 use Rattle.cql_plan.specs.declared.plan.Plan.{Plan}
 use Rattle.cql_syntax.specs.TreeOf.{query_tree}

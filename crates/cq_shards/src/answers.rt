@@ -1,4 +1,4 @@
-//! What a query finds in a game.
+//! The result of a query in a game.
 ghost use Rattle.std.specs.Prelude.{◌≡◌, List, ℤ, IfOk};
 
 use cq_common::{Bytes, NoMemory, Shared};
@@ -6,8 +6,8 @@ use pgn_reader::GameFault;
 use std::alloc::Global;
 use std::marker::Model;
 
-/// The values of a query's sort items over the hits in a game, the first item's foremost. Contracts see them as a list of whole
-/// numbers: an item has a value at each hit, since it holds there.
+/// The values of a query's sort items over the hits in a game, the first item's first. Contracts see them as a list of whole numbers: an
+/// item has a value at each hit, since it holds there.
 #[derive(Drop, Debug)]
 pub struct Keys {
     values: Vec<i64>,
@@ -23,6 +23,10 @@ impl Model for Keys {
 
 impl Keys {
     /// A copy of `keys`.
+    ///
+    /// # Errors
+    ///
+    /// `NoMemory` if out of memory.
     pub fn of(alloc: Global, keys: &[i64]) -> Result<Keys, NoMemory>
         ensures { IfOk result (λ made. made ≡ keys.now) }
     {
@@ -48,14 +52,14 @@ pub struct GameAnswer {
 
 impl Shared for GameAnswer {}
 
-/// What a query finds in a game.
+/// The result of a query in a game.
 #[derive(Drop, Debug)]
 pub enum Answer {
     /// The game is faulty.
     Refused(GameFault),
     /// The query has no hit.
     Miss,
-    /// The query has a hit: the export of the game with its hits marked, and what the game is sorted by.
+    /// The query has a hit: the export of the game with its hits marked, and the sort keys of the game.
     Match { text: Bytes, keys: Keys },
 }
 

@@ -12,7 +12,7 @@ use pgn_reader::GameFault;
 use pgn_tree::Game;
 use std::alloc::Global;
 
-/// The answers of the game that has this number in the archive. The first query's stands last, and is taken off first.
+/// The answers of the game with this number in the archive. The first query's is last, and is taken off first.
 #[derive(Drop)]
 pub(crate) struct GameRow {
     pub(crate) index: u64,
@@ -20,7 +20,7 @@ pub(crate) struct GameRow {
 }
 
 impl GameRow {
-    /// The export in the first query's answer; nothing where there is none.
+    /// The export in the first query's answer; empty if it has none.
     pub(crate) fn text(&self) -> &[u8] {
         match self.answers.last() {
             Some(answer) => answer.text(),
@@ -29,7 +29,7 @@ impl GameRow {
     }
 }
 
-/// The answers of the game that has this number in a batch. It is read once, and all queries are asked of it at once.
+/// The answers of the game with this number in a batch. It is read once, and all queries are matched with it at once.
 pub(crate) fn search_game_many<A: MultiMatcher>(
     alloc: Global,
     matcher: &A,
@@ -45,7 +45,7 @@ pub(crate) fn search_game_many<A: MultiMatcher>(
     Ok(GameRow { index, answers })
 }
 
-// The answers of a game that is read so.
+// The answers of a game with this read result.
 fn match_outcome_many<A: MultiMatcher>(
     alloc: Global,
     matcher: &A,

@@ -12,20 +12,20 @@ ghost use Rattle.cq_shards.specs.FirstMatch.{AnswersUpToFirst};
 ghost use Rattle.cq_shards.specs.Order.{AreApart, ComesBefore, IsEarlier, directions, values_in};
 ghost use Rattle.cq_shards.specs.OrderRows.{OrderRows};
 
-/// Which of two answers comes first.
+/// The order of two answers.
 #[tactic(auto, using(crate::proofs::OrderRows::order_rows))]
 pub fn answers_are_ordered_as_worked()
     ensures { OrderRows }
 {}
 
-/// The meaning of a query gives a game one key for each sort item, and where the query matches none is without a value.
+/// The meaning of a query gives a game one key for each sort item. If the query matches, each of them has a value.
 #[tactic(auto, using(crate::proofs::Counts::key_count, crate::proofs::Values::all_kept))]
 pub fn games_have_a_key_for_each_sort_item()
     ensures count { (q : QueryTree) (game : Game) → length (keys q game) ≡ length (directions q.items) }
     ensures values { (q : QueryTree) (game : Game) → 0 < length (hits q game) → map Some (values_in (keys q game)) ≡ keys q game }
 {}
 
-/// Answers stand in the order of their games in one way alone, and in that of their keys too.
+/// Answers have one order by their games, and one by their keys.
 #[tactic(auto, using(crate::proofs::OneWay::one_order))]
 pub fn answers_have_one_order()
     ensures games { (xs ys : List GameAnswer) → IsPermutation xs ys → AllPairs IsEarlier xs → AllPairs IsEarlier ys → xs ≡ ys }
@@ -40,7 +40,7 @@ pub fn ordered_answers_stand_beside_their_games()
         → IsPermutation answers sorted → (AreApart answers → AllPairs IsEarlier sorted) → AnswersBatch query batch sorted }
 {}
 
-/// The answers that all workers found, in the order of their games, are cut off behind the first match.
+/// The answers of all workers, in the order of their games, are cut off after the first match.
 #[tactic(auto, using(crate::proofs::UpToFirst::cut_off))]
 pub fn ordered_answers_are_cut_off_behind_the_first_match()
     ensures { (query : QueryTree) (batch : Batch) (word : ℕ) (answers sorted kept : List GameAnswer)

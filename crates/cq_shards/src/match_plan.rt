@@ -1,4 +1,4 @@
-//! What a plan finds in a game, by a thread that counts no steps.
+//! The result of a plan in a game, by a thread that counts no steps.
 ghost use Rattle.std.specs.Prelude.{◌≡◌, ◌≢◌, ◌<◌, [], map, Some, IfOk};
 ghost use Rattle.cql_syntax.specs.Hits.{hits, keys};
 ghost use Rattle.cql_plan.specs.Verdicts.{keys_of, nodes_of};
@@ -23,7 +23,7 @@ pub(crate) fn match_plan(alloc: Global, plan: &Plan, game: &Game) -> Result<Verd
     counted::<Brand>(alloc, plan, game, Blank::new(1))
 }
 
-// The same, from a blank for the count of steps.
+// The hits and keys, from a blank for the count of steps.
 fn counted<L: Ledger>(
     alloc: Global,
     plan: &Plan,
@@ -50,7 +50,7 @@ pub(crate) fn match_shared_plan(
     all_counted::<Brand>(alloc, plan, game, Blank::new(1))
 }
 
-// The same, from a blank for the count of steps.
+// The hits and keys, from a blank for the count of steps.
 fn all_counted<L: Ledger>(
     alloc: Global,
     plan: &SharedPlan,

@@ -1,4 +1,4 @@
-//! The order in which answers come.
+//! The order of answers.
 ghost use Rattle.std.specs.Prelude.{◌≡◌, [], ◌∷◌, filter, slice_get, All, AllPairs, IfOk, MatchOption};
 ghost use Rattle.std.specs.List.Sorted.{IsPermutation};
 ghost use Rattle.cql_syntax.specs.TreeOf.{filter_tree, filter_trees, query_tree};
@@ -12,7 +12,11 @@ use cql_syntax::{Filter, Form, Query};
 use std::alloc::Global;
 use std::cmp::Ordering;
 
-/// The same answers in the order of their games, where no two are of one game.
+/// The same answers in the order of their games, if no two are of one game.
+///
+/// # Errors
+///
+/// `NoMemory` if out of memory.
 pub fn in_order(alloc: Global, answers: Vec<GameAnswer>) -> Result<Vec<GameAnswer>, NoMemory>
     ensures same { IfOk result (λ sorted. IsPermutation answers.items sorted.items) }
     ensures order { AreApart answers.items → IfOk result (λ sorted. AllPairs IsEarlier sorted.items) }
@@ -24,9 +28,13 @@ pub fn in_order(alloc: Global, answers: Vec<GameAnswer>) -> Result<Vec<GameAnswe
     Ok(sorted)
 }
 
-/// The matches among the answers by the sort items of the query: greater keys first, with `min` lesser keys first, the first item
-/// foremost, and then in the order of their games. No two answers are to be of one game, and each match is to have a key for each
-/// sort item.
+/// The matches among the answers, by the sort items of the query: greater keys first, with `min` lesser keys first. The first item decides
+/// before the second, and so on; equal keys are in the order of their games. No two answers may be of one game, and each match must have a
+/// key for each sort item.
+///
+/// # Errors
+///
+/// `NoMemory` if out of memory.
 pub fn by_keys(
     alloc: Global,
     answers: Vec<GameAnswer>,
@@ -45,14 +53,14 @@ pub fn by_keys(
     Ok(matches)
 }
 
-/// Whether an answer is a match.
+/// Returns true if an answer is a match.
 pub(crate) fn is_match(answer: &GameAnswer) -> bool
     ensures { result ≡ is_matching answer.now }
 {
     matches!(answer.what, Answer::Match { .. })
 }
 
-// Of each `sort` among the items, whether the least value comes first.
+// For each `sort` among the items, true if the least value comes first.
 fn item_directions(alloc: Global, items: &[Filter]) -> Result<Vec<bool>, NoMemory>
     ensures { IfOk result (λ found. found.items ≡ directions (filter_trees items.now)) }
 {
@@ -65,7 +73,7 @@ fn item_directions(alloc: Global, items: &[Filter]) -> Result<Vec<bool>, NoMemor
     Ok(found)
 }
 
-// Of a `sort`, whether the least value comes first.
+// The direction of a `sort`: true if the least value comes first. Another filter has none.
 fn direction(filter: &Filter) -> Option<bool>
     ensures { MatchOption result (filter_directions (filter_tree filter.now) ≡ [])
         (λ least. filter_directions (filter_tree filter.now) ≡ least ∷ []) }
@@ -82,7 +90,7 @@ fn compare(least: &[bool], a: &GameAnswer, b: &GameAnswer) -> Ordering
     compare_keys(least, keys_of(a), keys_of(b)).then(a.index.cmp(&b.index))
 }
 
-// The keys of a match, and none of another answer.
+// The keys of a match; another answer has none.
 fn keys_of(answer: &GameAnswer) -> &[i64]
     ensures { result.now ≡ keys_in answer.now.what }
 {

@@ -1,4 +1,4 @@
-//! The query of a plan, which is asked of games.
+//! The query of a plan, which can be matched with games.
 ghost use Rattle.cq_shards.specs.PlanQuery.{query_in};
 
 use crate::answers::GameAnswer;
@@ -10,7 +10,7 @@ use cql_plan::Plan;
 use pgn_tree::Game;
 use std::alloc::Global;
 
-/// A plan whose query is asked.
+/// A plan whose query is matched.
 #[derive(Drop)]
 pub(crate) struct PlanMatcher<'a> {
     pub(crate) plan: &'a Plan,

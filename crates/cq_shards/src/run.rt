@@ -1,4 +1,4 @@
-//! What plans find in the games of a batch.
+//! The results of plans in the games of a batch.
 ghost use Rattle.std.specs.Prelude.{◌≤◌, IfOk};
 ghost use Rattle.cq_shards.specs.Answers.{AreAnswersOf};
 ghost use Rattle.cq_shards.specs.FirstMatch.{AnswersUpToFirst};
@@ -21,10 +21,13 @@ use pgn_batches::Batch;
 use std::alloc::Global;
 use std::thread::Threads;
 
-/// The answers of the games of a batch, each game's once, in any order. So many workers, from 1 to 64, which is a condition, draw the games
-/// one by one: a game is entered at the gate by the worker that drew it, before it is read, and left with its export once it is answered.
-/// A thread that can't be started is no refusal: this thread does that worker's work, after that of the later workers. `NoMemory` means
-/// that a worker, or the call itself, found no memory; no answer is given then.
+/// The answers of the games of a batch, each game's once, in any order. The workers, from 1 to 64, draw the games one by one. The
+/// worker that drew a game enters it at the gate before it is read, and leaves it with its export once its answer is made. If a thread
+/// can't be started, the call doesn't fail: this thread does that worker's work, after that of the later workers.
+///
+/// # Errors
+///
+/// `NoMemory` if a worker, or the call itself, is out of memory; there are no answers then.
 pub fn run_batch<R: Threads + Sync, G: Gate + Sync>(
     rt: &R,
     alloc: Global,
@@ -39,10 +42,14 @@ pub fn run_batch<R: Threads + Sync, G: Gate + Sync>(
     search_batch(rt, alloc, &PlanMatcher { plan }, batch, workers, gate)
 }
 
-/// In order, the answer of each game of a batch up to and with its first match, or of all games where none matches. So many workers,
-/// from 1 to 64, draw the games one by one. A worker that finds on the board a match before the game that it drew skips this game, which
-/// is then neither entered nor left at the gate; when it finds one is not promised. A thread that can't be started is no refusal: this
-/// thread does that worker's work, after that of the later workers.
+/// In order, the answer of each game of a batch up to and with its first match, or of all games if none matches. The workers, from 1 to 64,
+/// draw the games one by one. A worker that sees on the board a match before its game skips the game, which neither enters nor leaves the
+/// gate. No clause promises when it sees a match. If a thread can't be started, the call doesn't fail: this thread does that worker's work,
+/// after that of the later workers.
+///
+/// # Errors
+///
+/// `NoMemory` if a worker, or the call itself, is out of memory; there are no answers then.
 pub fn run_first<R: Threads + Sync, G: Gate + Sync>(
     rt: &R,
     alloc: Global,
@@ -57,11 +64,14 @@ pub fn run_first<R: Threads + Sync, G: Gate + Sync>(
     search_batch_first(rt, alloc, &PlanMatcher { plan }, batch, workers, gate)
 }
 
-/// For each query of a plan, the answers of the games of a batch, each game's once, in any order. So many workers, from 1 to 64, which
-/// is a condition, draw the games one by one, and each game is read once for all queries. It is entered at the gate by the worker that
-/// drew it, before it is read, and left with the first query's export once it is answered. A thread that can't be started is no refusal:
-/// this thread does that worker's work, after that of the later workers. `NoMemory` means that a worker, or the call itself, found no
-/// memory; no answer is given then.
+/// For each query of a plan, the answers of the games of a batch, each game's once, in any order. The workers, from 1 to 64, draw the games
+/// one by one, and each game is read once for all queries. The worker that drew a game enters it at the gate before it is read, and leaves
+/// it with the first query's export once the answers are made. If a thread can't be started, the call doesn't fail: this thread does that
+/// worker's work, after that of the later workers.
+///
+/// # Errors
+///
+/// `NoMemory` if a worker, or the call itself, is out of memory; there are no answers then.
 pub fn run_many<R: Threads + Sync, G: Gate + Sync>(
     rt: &R,
     alloc: Global,

@@ -14,7 +14,7 @@ use pgn_batches::Batch;
 use std::alloc::Global;
 use std::thread::Threads;
 
-/// Makes the answer of each game of a batch.
+/// The task that makes the answer of each game of a batch.
 #[derive(Drop)]
 struct AnswerTask<'a, A, G> {
     matcher: &'a A,
@@ -49,10 +49,13 @@ impl<'a, A: Matcher, G: Gate> GameTask for AnswerTask<'a, A, G> {
     }
 }
 
-/// The answers of the games of a batch, each game's once, in any order. So many workers, from 1 to 64, which is a condition, draw the games
-/// one by one: a game is entered at the gate by the worker that drew it, before it is read, and left with its export once it is answered.
-/// A thread that can't be started is no refusal: this thread does that worker's work, after that of the later workers. `NoMemory` means
-/// that a worker, or the call itself, found no memory; no answer is given then.
+/// The answers of the games of a batch, each game's once, in any order. The workers, from 1 to 64, draw the games one by one. The
+/// worker that drew a game enters it at the gate before it is read, and leaves it with its export once its answer is made. If a thread
+/// can't be started, the call doesn't fail: this thread does that worker's work, after that of the later workers.
+///
+/// # Errors
+///
+/// `NoMemory` if a worker, or the call itself, is out of memory; there are no answers then.
 pub fn search_batch<R: Threads + Sync, A: Matcher + Sync, G: Gate + Sync>(
     rt: &R,
     alloc: Global,

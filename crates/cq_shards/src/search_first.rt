@@ -17,7 +17,7 @@ use pgn_batches::Batch;
 use std::alloc::Global;
 use std::thread::Threads;
 
-/// Makes the answer of each game of a batch, except games after one that is already known to match.
+/// The task that makes the answer of each game of a batch, except games after one that is already known to match.
 #[derive(Drop)]
 struct FirstMatchTask<'a, A, G> {
     matcher: &'a A,
@@ -53,7 +53,7 @@ impl<'a, A: Matcher, G: Gate> GameTask for FirstMatchTask<'a, A, G> {
 }
 
 impl<'a, A: Matcher, G: Gate> FirstMatchTask<'a, A, G> {
-    // Skips a game that comes after a match, and answers another.
+    // Skips a game after a match, and makes the answer of another.
     fn take_one(
         &self,
         alloc: Global,
@@ -78,10 +78,14 @@ impl<'a, A: Matcher, G: Gate> FirstMatchTask<'a, A, G> {
     }
 }
 
-/// In order, the answer of each game of a batch up to and with its first match, or of all games where none matches. So many workers,
-/// from 1 to 64, draw the games one by one. A worker that finds on the board a match before the game that it drew skips this game, which
-/// is then neither entered nor left at the gate; when it finds one is not promised. A thread that can't be started is no refusal: this
-/// thread does that worker's work, after that of the later workers.
+/// In order, the answer of each game of a batch up to and with its first match, or of all games if none matches. The workers, from 1 to 64,
+/// draw the games one by one. A worker that sees on the board a match before its game skips the game, which neither enters nor leaves the
+/// gate. No clause promises when it sees a match. If a thread can't be started, the call doesn't fail: this thread does that worker's work,
+/// after that of the later workers.
+///
+/// # Errors
+///
+/// `NoMemory` if a worker, or the call itself, is out of memory; there are no answers then.
 pub fn search_batch_first<R: Threads + Sync, A: Matcher + Sync, G: Gate + Sync>(
     rt: &R,
     alloc: Global,
@@ -105,7 +109,7 @@ pub fn search_batch_first<R: Threads + Sync, A: Matcher + Sync, G: Gate + Sync>(
     cut_off(alloc, matcher, batch, answers, word)
 }
 
-// Tells the board of a match.
+// Reports a match to the board.
 fn report_match(first: &FirstBoard, seat: &mut FirstSeat, number: u64, matched: bool)
     requires number { number < board_games first.now }
     requires seat { IsSeatAt first.now seat.old }

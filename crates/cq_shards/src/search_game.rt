@@ -20,7 +20,7 @@ use pgn_tree::Game;
 use std::alloc::Global;
 
 impl GameAnswer {
-    /// The export in the answer; nothing where the game is refused or has no match.
+    /// The export in the answer; empty if the game is faulty or has no match.
     pub fn text(&self) -> &[u8]
         ensures { result.now ≡ text_of self.now.what }
     {
@@ -31,7 +31,7 @@ impl GameAnswer {
     }
 }
 
-/// The answer of the game that has this number in a batch.
+/// The answer of the game with this number in a batch.
 pub(crate) fn search_game<A: Matcher>(
     alloc: Global,
     matcher: &A,
@@ -45,7 +45,7 @@ pub(crate) fn search_game<A: Matcher>(
     match_outcome(alloc, matcher, &outcome, batch.index() + number)
 }
 
-/// What the game is read as that has this number in a batch.
+/// The read result of the game with this number in a batch.
 pub(crate) fn read_at(
     alloc: Global,
     batch: &Batch,
@@ -62,7 +62,7 @@ pub(crate) fn read_at(
     }
 }
 
-// The answer of a game that is read so.
+// The answer of a game with this read result.
 fn match_outcome<A: Matcher>(
     alloc: Global,
     matcher: &A,
@@ -87,8 +87,11 @@ pub(crate) fn refused(index: u64, fault: GameFault) -> GameAnswer
     }
 }
 
-/// The answer of a game that has this number in the archive, by the hits of a query in it and, where there are any, its keys over them.
-/// `NoMemory` means that no memory was found.
+/// The answer of a game with this number in the archive, from the hits of a query in it and, if there are any, its keys over them.
+///
+/// # Errors
+///
+/// `NoMemory` if out of memory.
 pub fn build_answer(
     alloc: Global,
     query: &TypedQuery,

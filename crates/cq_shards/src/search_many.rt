@@ -30,7 +30,7 @@ pub(crate) struct AnswerList {
     pub(crate) answers: Vec<GameAnswer>,
 }
 
-/// Makes a row of each game of a batch.
+/// The task that makes a row of each game of a batch.
 #[derive(Drop)]
 struct RowTask<'a, A, G> {
     matcher: &'a A,
@@ -66,7 +66,7 @@ impl<'a, A: MultiMatcher, G: Gate> GameTask for RowTask<'a, A, G> {
 }
 
 impl ManyAnswers {
-    /// The answers of a query, which are handed out: an empty list stays in their place. Takes no memory.
+    /// Takes the answers of a query out, and leaves an empty list in their place. It allocates no memory.
     pub fn take(&mut self, query: u32) -> Vec<GameAnswer>
         requires { query < length (answers_in self.old) }
         ensures given { result.items ≡ get_or (answers_in self.old) query [] }
@@ -77,11 +77,14 @@ impl ManyAnswers {
     }
 }
 
-/// For each of several queries, the answers of the games of a batch, each game's once, in any order. So many workers, from 1 to 64, which
-/// is a condition, draw the games one by one, and each game is read once for all queries. It is entered at the gate by the worker that
-/// drew it, before it is read, and left with the first query's export once it is answered. A thread that can't be started is no refusal:
-/// this thread does that worker's work, after that of the later workers. `NoMemory` means that a worker, or the call itself, found no
-/// memory; no answer is given then.
+/// For each of several queries, the answers of the games of a batch, each game's once, in any order. The workers, from 1 to 64, draw the
+/// games one by one, and each game is read once for all queries. The worker that drew a game enters it at the gate before it is read, and
+/// leaves it with the first query's export once the answers are made. If a thread can't be started, the call doesn't fail: this thread
+/// does that worker's work, after that of the later workers.
+///
+/// # Errors
+///
+/// `NoMemory` if a worker, or the call itself, is out of memory; there are no answers then.
 pub fn search_batch_many<R: Threads + Sync, A: MultiMatcher + Sync, G: Gate + Sync>(
     rt: &R,
     alloc: Global,

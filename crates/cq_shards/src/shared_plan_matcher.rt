@@ -1,4 +1,4 @@
-//! The queries of a plan of several, which are asked of games all at once.
+//! The queries of a plan of several, which are matched with games all at once.
 ghost use Rattle.cql_syntax.specs.QueryTrees.{trees_of};
 ghost use Rattle.cq_shared.specs.Plans.{queries_of};
 
@@ -11,7 +11,7 @@ use cq_shared::SharedPlan;
 use pgn_tree::Game;
 use std::alloc::Global;
 
-/// A plan whose queries are asked.
+/// A plan whose queries are matched.
 #[derive(Drop)]
 pub(crate) struct SharedPlanMatcher<'a> {
     pub(crate) plan: &'a SharedPlan,

@@ -14,7 +14,7 @@ use Rattle.cq_shared.specs.PartTables.{is_among}
 use Rattle.cq_shared.proofs.Gaining.{asked_more}
 use Rattle.cq_shared.proofs.Seeking.{all_more, keeps_with}
 
--- a filter of a list can stand by itself where all can
+-- a filter of a list can be the only item if all can
 pub one_stands : (fs : List Filter) (i : ℕ) (f : Filter) → list_all stands_alone (map filter_tree fs) ≡ true → i < length fs → f ≡ get_or fs i f → stands_alone (filter_tree f) ≡ true
 one_stands [] i f all low reads = absurd (omega (arith, low))
 one_stands (x ∷ xs) zero f all low reads = ap (λ y. stands_alone (filter_tree y)) reads ∙ (and_parts (stands_alone (filter_tree x)) (list_all stands_alone (map filter_tree xs)) all).0

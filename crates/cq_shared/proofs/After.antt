@@ -1,4 +1,4 @@
--- What is left after some parts, and what they cost.
+-- The nodes left after some parts, and the cost of the parts.
 use Rattle.std.proofs.Common.{◌≡◌, ℕ, zero, suc, ◌+◌, ◌<◌, ◌≤◌, ◌&&◌, ◌||◌, not, Bool, true, false, List, [], ◌∷◌, ◌++◌, length, get_or, take, drop, Option, ℤ, refl, sym, ap, ap₂, ◌∙◌, subst, arith, nat_lt, nat_eq}
 use Rattle.std.specs.Prelude.{if◌then◌else◌}
 use Rattle.std.specs.List.{list_all, list_any, filter}
@@ -63,7 +63,7 @@ pub left_all : (taken : Part → Bool) (game : Game) (parts : List Part) (k : �
     → AreLeft taken game parts start_nodes left
 left_all taken game parts k start_nodes left past had = subst (λ ps. AreLeft taken game ps start_nodes left) (take_all k parts past) had
 
--- what is left was there
+-- a node that is left was a start node
 pub fewer_left : (taken : Part → Bool) (game : Game) (parts : List Part) (start_nodes left : List NodeSet) (q n : ℕ) → AreLeft taken game parts start_nodes left → is_left left q n ≡ true → is_left start_nodes q n ≡ true
 fewer_left taken game parts start_nodes left q n had there = and_first (is_left start_nodes q n) (list_all (meets_if taken game q n) parts) (sym (had.each q n) ∙ there)
 
@@ -130,7 +130,7 @@ left_next c game parts start_nodes left later had asked = record {
       (λ p. ap (λ b. not b || meets game q n p) (below_next p.class c) ∙ meets_both (is_before c p) (is_class c p) (meets game q n p))));
 }
 
--- what parts cost
+-- the cost of parts
 
 parted : (a b w : Bool) (v : ℕ) → (a ≡ true → b ≡ false) → (if (a || b) && w then v else 0) ≡ (if a && w then v else 0) + (if b && w then v else 0)
 parted true true w v other = let e = other refl in cc
@@ -200,7 +200,7 @@ cost_some game test (p ∷ ps) = by (test p) (filter test ps) (cost_some game te
     by true rs less = omega (arith, sum_by-cons (part_cost game) p rs, sum_by-cons (part_cost game) p ps, less)
     by false rs less = omega (arith, sum_by-cons (part_cost game) p ps, less)
 
--- a part that is taken, as a callee answers for it
+-- a part that is taken, with the clauses of the call
 
 pub cost_taken : (taken want : Part → Bool) (game : Game) (p : Part) → taken p ≡ true → cost_if (both taken want) game p ≡ cost_if (both (λ p. true) want) game p
 cost_taken taken want game p is = ap (λ b. if b && want p then part_cost game (shown p.single) else 0) is
@@ -219,7 +219,7 @@ cost_wanted game p left live before now cost covers = λ want admits.
 pub cost_live : (live : List Bool) (cost before now : ℕ) → list_any (λ b. b) live ≡ true → now ≤ before + cost → now ≤ before + cost_at live cost
 cost_live live cost before now some most = omega (arith, most, ap (λ b. if b then cost else 0) some)
 
--- what some query still wants it wanted before
+-- a node that is still left to some query was left to it before
 pub still_admits : (taken : Part → Bool) (game : Game) (parts : List Part) (start_nodes left : List NodeSet) (want : Part → Bool) (p : Part) → AreLeft taken game parts start_nodes left
     → Admits want start_nodes p → Admits want left p
 still_admits taken game parts start_nodes left want p had admits = λ w.
@@ -229,7 +229,7 @@ pub narrowed_fewer : (taken : Part → Bool) (game : Game) (p : Part) (left late
     → (q n : ℕ) → is_left later q n ≡ true → is_left left q n ≡ true
 narrowed_fewer taken game p left later by q n there = and_first (is_left left q n) (meets_if taken game q n p) (sym (by.each q n) ∙ there)
 
--- the numbers of a part, where the nodes that are asked for cover those that are left
+-- the numbers of a part, if the live nodes cover those that are left
 pub narrowed_row : (game : Game) (p : Part) (left later : List NodeSet) (live : List Bool) (row : List (Option ℤ)) → IsNarrowedBy game p left later → CoversWanted p left live
     → (p.class ≡ sort_class → IsRowAt game p live row) → HasRow game later p row
 narrowed_row game p left later live row by covers told = record {

@@ -13,7 +13,7 @@ use Rattle.cq_shared.specs.Interning.{with_part, with_parts}
 use Rattle.cq_shared.specs.Parts.{PartTree, same_part, other_than, different}
 use Rattle.cq_shared.proofs.Meeting.{flag_is}
 
--- what passes one test after another
+-- the elements that pass one test after another
 module _ {X : Type 0} (f g h : X → Bool) where
   filter_twice : ((x : X) → h x ≡ (f x && g x)) → (xs : List X) → filter h xs ≡ filter g (filter f xs)
   filter_twice each [] = refl

@@ -1,4 +1,4 @@
--- The nodes at which queries are asked at first, query by query.
+-- The nodes at which the evaluation of queries starts, query by query.
 use Rattle.std.proofs.Common.{◌≡◌, ℕ, zero, suc, ◌+◌, ◌<◌, ◌≤◌, Bool, true, false, ◌&&◌, List, [], ◌∷◌, ◌++◌, length, take, map, get_or, refl, sym, ap, ◌∙◌, subst, arith, nat_lt, length-append, ⊎_elim}
 use Rattle.std.specs.List.{list_any}
 use Rattle.std.proofs.lemmas.Bool.{cases_lt, lt-ltb, le-ltb, and_parts, and_from, or_left, or_right, ltb-true}
@@ -89,7 +89,7 @@ with_variations v [] k p low reads = absurd (omega (arith, low))
 with_variations v (f ∷ fs) zero p low reads = ap (λ r. r.variations) reads
 with_variations v (f ∷ fs) (suc k) p low reads = with_variations v fs k p (omega (arith, low)) reads
 
--- each part that some query wants at first is one of a query that the game has what it needs for
+-- each part with a start node is one of a query whose needs the game meets
 
 any_at : (h : PartTree → Bool) (ps : List PartTree) (k : ℕ) (p : PartTree) → k < length ps → p ≡ get_or ps k p → h p ≡ true → list_any h ps ≡ true
 any_at h [] k p low reads is = absurd (omega (arith, low))

@@ -1,4 +1,4 @@
--- All parts of a query hold where all of its items do.
+-- All parts of a query hold exactly if all of its items do.
 use Rattle.std.proofs.Common.{◌≡◌, ℕ, List, [], ◌∷◌, ◌++◌, Bool, true, false, ◌&&◌, refl, sym, ap, ap₂, ◌∙◌}
 use Rattle.std.specs.List.{list_all}
 use Rattle.cq_position.specs.Search.{SearchedTree}

@@ -1,4 +1,4 @@
--- What is left to a query, and its rows, are its hits and its keys.
+-- The nodes left to a query, and its rows, are its hits and its keys.
 use Rattle.std.proofs.Common.{◌≡◌, ◌≢◌, ℕ, zero, suc, ◌+◌, ◌<◌, ◌≤◌, ◌&&◌, Bool, true, false, List, [], ◌∷◌, ◌++◌, length, map, drop, get_or, All, Some, ℤ, refl, sym, ap, ap₂, ◌∙◌, subst, arith, nat_lt}
 use Rattle.std.specs.Prelude.{is_some, cond, ◌==◌, if◌then◌else◌}
 use Rattle.std.specs.List.{list_all, filter, range_with_len}
@@ -124,13 +124,13 @@ hits_found q game there law is = by (query_passes q game) refl
         (λ n. is n ∙ false_and (nat_lt n (length game.nodes)) (query_passes q game) (is_searched q.variations game.nodes n) (is_hit (tree_of q game) (flat_query q).items n) refused)
         ∙ sym (none (hits q game) law refused)
 
--- what is left to all queries, and the rows of their parts
+-- the nodes left to all queries, and the rows of their parts
 pub record AreSought (game : Game) (parts : List Part) (owners : List PartOwner) (left : List NodeSet) (rows : List SortRow) : Type 0 where
   pub askers_ : AreOwners parts owners
   pub found : AreFound game owners left
   pub rows_ : HaveRows game left parts rows
 
--- what is left and the rows, of one query
+-- the nodes left and the rows, of one query
 pub found_by : (game : Game) (parts : List Part) (owners : List PartOwner) (left : List NodeSet) (rows : List SortRow) (q : ℕ) (a : PartOwner) (x : NodeSet) → AreSought game parts owners left rows
     → q < length owners → a ≡ get_or owners q a → x ≡ get_or left q x → IsFoundBy game parts a x rows
 found_by game parts owners left rows q a x are low reads here =

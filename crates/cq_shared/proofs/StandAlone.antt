@@ -1,4 +1,4 @@
--- The parts of a flat query can stand by themselves.
+-- The parts of a flat query can be its only item.
 use Rattle.std.proofs.Common.{◌≡◌, ℕ, Bool, true, false, ◌&&◌, ◌||◌, not, List, [], ◌∷◌, ◌++◌, Option, None, Some, refl, ap, ap₂, ◌∙◌}
 use Rattle.std.specs.List.{list_all, list_any}
 use Rattle.cql_syntax.specs.FlatItems.{has_family, kinds_agree, break_no_rule, has_its_kind, breaks_none, is_empty}
@@ -37,7 +37,7 @@ module _ {X : Type 0} (h : X → Bool) where
   and_second [] ys e = e
   and_second (x ∷ xs) ys e = and_second xs ys (second (h x) (list_all h (xs ++ ys)) e)
 
--- how a filter stands at the top of a query, and in a part of it
+-- the place of a filter at the top of a query, and in a part of it
 
 abbrev standing : Option ℕ → TypingContext
 standing item = record { wanted = Position; names = []; squares = 0; item = item }
@@ -68,7 +68,7 @@ empty_both : {X : Type 0} (xs ys : List X) → is_empty xs ≡ true → is_empty
 empty_both [] ys e f = f
 empty_both (x ∷ xs) ys e f = e
 
--- what breaks no rule somewhere at the top, or in a part of that, breaks none as the first item
+-- a filter that breaks no rule at the top, or in a part of that, breaks none as the first item
 rules_same : (i : Option ℕ) (at : ℕ) (f : FormTree) → is_empty (broken_rules (record { standing = standing i; at = at; form = f })) ≡ true
     → is_empty (broken_rules (record { standing = standing (Some 0); at = at; form = f })) ≡ true
 rules_same i at f e =

@@ -1,4 +1,4 @@
--- What a part tells at the nodes that are asked for.
+-- The values of a part at the live nodes.
 use Rattle.std.proofs.Common.{◌≡◌, ℕ, zero, suc, ◌+◌, ◌<◌, ◌≤◌, Bool, true, false, ◌&&◌, List, [], ◌∷◌, length, get_or, Option, None, Some, ℤ, refl, sym, ap, ◌∙◌, cond, subst, arith}
 use Rattle.std.specs.Prelude.{is_some, count_by, if◌then◌else◌}
 use Rattle.std.specs.List.{list_any, filter, range_with_len}
@@ -21,7 +21,7 @@ use Rattle.cq_shared.specs.Singles.{shown}
 use Rattle.cq_shared.specs.declared.part.Part.{Part}
 use Rattle.cq_shared.proofs.Keyed.{SortForm, form_sorts, sort_has}
 
--- nodes that are asked for
+-- live nodes
 
 none_live : (live : List Bool) (n : ℕ) → list_any (λ b. b) live ≡ false → is_live live n ≡ true → ⊥
 none_live [] zero none there = cc
@@ -51,7 +51,7 @@ count_within t (b ∷ bs) k all = by b (t k) (λ e. ap t (let z : k ≡ k + 0 = 
     by false true implied rest = let e = sum_by-cons (λ b. cond b 1 0) false bs in omega (arith, rest, e)
     by false false implied rest = let e = sum_by-cons (λ b. cond b 1 0) false bs in omega (arith, rest, e)
 
--- the nodes that are asked for are no more than those that are searched
+-- the live nodes are no more than those that are searched
 count_asked : (tree : SearchedTree) (live : List Bool) → IsNodeSet tree live → count_by (λ b. b) live ≤ length (nodes_in tree)
 unfolding searched
 count_asked tree live asked =
@@ -76,7 +76,7 @@ hit_alone tree (more_filters f no_filters) n e = and_true (holds (value tree [] 
     and_true false = refl
 hit_alone tree (more_filters f (more_filters g fs)) n e = cc
 
--- a node that is asked for is a hit where the part holds
+-- a live node is a hit if the part holds
 hit_there : (game : Game) (p : Part) (live hits : List Bool) (n : ℕ) → is_single (filters_tree p.single.query.items) ≡ true
     → ((k : ℕ) → get_or hits k false ≡ (is_live live k && is_hit (tree_for game p) (filters_tree p.single.query.items) k))
     → is_live live n ≡ true → get_or hits n false ≡ part_holds game p n
@@ -94,7 +94,7 @@ told_none game p live truths none = record { each = λ n there. absurd (none_liv
 pub row_none : (game : Game) (p : Part) (live : List Bool) (row : List (Option ℤ)) → list_any (λ b. b) live ≡ false → IsRowAt game p live row
 row_none game p live row none = record { each = λ n there. absurd (none_live live n none there) }
 
--- the same by the form in which the part is asked
+-- the same by the form in which the part is evaluated
 
 pub cost_joined : (game : Game) (p : Part) (live : List Bool) (before now : ℕ) → IsNodeSet (tree_for game p) live
     → now ≤ before + count_by (λ b. b) live + filters_cost (searched_len (searched_tree game p.single.joined.variations)) (filters_tree p.single.joined.items)

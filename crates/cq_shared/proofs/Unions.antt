@@ -47,7 +47,7 @@ past_end none [] (suc n) h = refl
 past_end none (x ∷ xs) zero h = absurd (omega (arith, h))
 past_end none (x ∷ xs) (suc n) h = past_end none xs n (omega (arith, h))
 
--- where there is no value past the end, the items are the values everywhere
+-- if there is no value past the end, the items are the values everywhere
 pub filled_all : {X : Type 0} (none : X) (value : ℕ → X) (k : ℕ) (items : List X) → Filled none value k items → ((n : ℕ) → k ≤ n → value n ≡ none)
     → (n : ℕ) → get_or items n none ≡ value n
 filled_all none value k items had past n =
@@ -65,7 +65,7 @@ or_right : (a b : Bool) → b ≡ true → (a || b) ≡ true
 or_right true b e = refl
 or_right false b e = e
 
--- the queries that have a part, and whether one of them still wants a node
+-- the queries that have a part, and if a node is still left to one of them
 one_step : (t : ℕ → Bool) (xs : List ℕ) (i d : ℕ) → i < length xs → t (get_or xs i d) ≡ false → list_any t (drop i xs) ≡ list_any t (drop (i + 1) xs)
 one_step t [] i d inside not_here = absurd (omega arith)
 one_step t (x ∷ xs) zero d inside not_here = ap (λ b. b || list_any t xs) not_here
@@ -131,7 +131,7 @@ are_united game p left k live high low ready had = (
         is_not : {b : Bool} → b ≡ false → b ≡ true → ⊥
         is_not e f = cc
 
--- what is left to each query behind a part, for the first k queries
+-- the nodes left to each query after a part, for the first k queries
 pub record AreNarrowed (game : Game) (p : Part) (left later : List NodeSet) (k : ℕ) : Type 0 where
   pub count : length later ≡ k
   pub each : (q n : ℕ) → q < k → is_left later q n ≡ (is_left left q n && meets game q n p)
@@ -165,14 +165,14 @@ by_truth false wants b t told = refl
 by_truth true false b t told = refl
 by_truth true true b t told = told refl refl
 
--- whether a part holds, told at all nodes at which a query wants to know
+-- the truth of a part, known at all nodes that are left to a query
 pub record TruthsOf (game : Game) (p : Part) (left : List NodeSet) : Type 0 where
   pub live : List Bool
   pub truths : List Bool
   pub told : ArePartTruths game p live truths
   pub covers : CoversWanted p left live
 
--- of some nodes these are left, if the part is asked for
+-- the nodes left of some, if the part is evaluated
 abbrev pub AreLeftOf : Bool → List Bool → NodeSet → NodeSet → Type 0
 AreLeftOf wants truths x y = (n : ℕ) → get_or y.there.items n false ≡ (get_or x.there.items n false && (not wants || get_or truths n false))
 

@@ -1,4 +1,4 @@
--- What is left after all parts, and what they cost.
+-- The nodes left after all parts, and the cost of the parts.
 use Rattle.std.proofs.Common.{◌≡◌, ℕ, ◌+◌, ◌<◌, ◌≤◌, ◌&&◌, true, List, [], ◌∷◌, length, map, get_or, refl, sym, ap, ap₂, ◌∙◌, subst, arith, Bool}
 use Rattle.std.specs.List.{filter}
 use Rattle.cq_position.specs.Games.{Game}
@@ -38,7 +38,7 @@ are_found game parts owners start_nodes left later are had first second =
           all.each q n ∙ ap₂ (λ x y. x && y) (had.each q a low reads n) (met_before game parts q n (classes_low parts) ∙ meets_hit game parts q n a (are.each q a low reads));
     }
 
--- what they cost
+-- the cost of the parts
 
 abbrev pub asked_cost : Game → List PartOwner → ℕ
 asked_cost game owners = plan_cost game (needed_parts game (trees_of (map (λ a. query_of a.plan) owners)) (plan_parts (map (λ a. query_of a.plan) owners)))

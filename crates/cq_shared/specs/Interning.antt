@@ -1,4 +1,4 @@
--- The parts that a plan has found, and which queries have them.
+-- The parts in a plan, and the queries that have them.
 use Rattle.std.specs.Prelude.{ℕ, zero, suc, Bool, false, List, [], ◌∷◌, ◌++◌, map, if◌then◌else◌}
 use Rattle.std.specs.List.{list_any}
 use Rattle.cq_shared.specs.Parts.{PartTree, same_part}
@@ -9,11 +9,11 @@ use Rattle.cq_shared.specs.declared.part.Part.{Part}
 abbrev pub all_shown : List Part → List PartTree
 all_shown parts = map (λ p. shown p.single) parts
 
--- with a part, where none that is the same is there
+-- the list with a part, unless it has one that is the same
 unfoldable pub with_part : List PartTree → PartTree → List PartTree
 with_part seen p = if list_any (λ r. same_part r p) seen then seen else seen ++ p ∷ []
 
--- with some parts, one by one
+-- the list with some parts, one by one
 unfoldable pub with_parts : List PartTree → List PartTree → List PartTree
 with_parts seen [] = seen
 with_parts seen (p ∷ ps) = with_parts (with_part seen p) ps

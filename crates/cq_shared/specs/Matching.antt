@@ -1,4 +1,4 @@
--- Several queries over one game: each different part is asked at most once, at the nodes that the queries that have it still want.
+-- Several queries over one game. Each different part is evaluated at most once, at the nodes that are still left to queries that have it.
 use Rattle.std.specs.Prelude.{◌≡◌, ℕ, zero, suc, ◌+◌, ◌<◌, ◌&&◌, ◌||◌, ◌==◌, nat_lt, not, Bool, true, false, List, [], ◌∷◌, Option, None, ℤ, get_or, length, if◌then◌else◌}
 use Rattle.std.specs.List.{list_all, sum_by, list_any}
 use Rattle.cq_position.specs.Games.{Game, is_searched}
@@ -34,7 +34,7 @@ form_number tree f n = None
 unfoldable pub sort_number : SearchedTree → FilterTree → ℕ → Option ℤ
 sort_number tree (filter_at at f) n = form_number tree f n
 
--- what a part takes at most as the only item: a step for each searched node, and what its lines cost
+-- the greatest cost of a part as the only item: a step for each searched node, and the cost of its lines
 unfoldable pub part_cost : Game → PartTree → ℕ
 part_cost game p =
     searched_len (searched_tree game p.variations) + filter_cost (searched_len (searched_tree game p.variations)) p.filter
@@ -82,7 +82,7 @@ pub record AreLeft (taken : Part → Bool) (game : Game) (parts : List Part) (st
   pub count : length left ≡ length start_nodes
   pub each : (q n : ℕ) → is_left left q n ≡ (is_left start_nodes q n && list_all (meets_if taken game q n) parts)
 
--- each query that has the part has left nodes of the game alone, and searched ones
+-- the nodes left to each query that has the part are searched nodes of the game
 pub record IsReady (game : Game) (left : List NodeSet) (p : Part) : Type 0 where
   pub searched : (q n : ℕ) → is_owned_by q p ≡ true → is_left left q n ≡ true
       → is_searched p.single.query.variations game.nodes n ≡ true
@@ -91,31 +91,31 @@ pub record IsReady (game : Game) (left : List NodeSet) (p : Part) : Type 0 where
 abbrev pub AreReady : Game → List NodeSet → List Part → Type 0
 AreReady game left parts = (k : ℕ) (p : Part) → k < length parts → p ≡ get_or parts k p → IsReady game left p
 
--- some query that has the part still wants a node
+-- a node is still left to some query that has the part
 pub record IsWanted (p : Part) (left : List NodeSet) : Type 0 where
   pub query : ℕ
   pub node : ℕ
   pub has : is_owned_by query p ≡ true
   pub there : is_left left query node ≡ true
 
--- Every node that a query with the part still wants is in the set, and if the set has a node, some query still wants one.
+-- Every node still left to a query with the part is in the set. If the set has a node, one is left to some query with the part.
 pub record CoversWanted (p : Part) (left : List NodeSet) (live : List Bool) : Type 0 where
   pub each : (q n : ℕ) → is_owned_by q p ≡ true → is_left left q n ≡ true → is_live live n ≡ true
   pub some : list_any (λ b. b) live ≡ true → IsWanted p left
 
--- a cost, where some node is there
+-- a cost, if the set has a node
 abbrev pub cost_at : List Bool → ℕ → ℕ
 cost_at live cost = if list_any (λ b. b) live then cost else 0
 
--- whether the part holds, at the nodes that are asked for
+-- the truths of the part, at the live nodes
 pub record ArePartTruths (game : Game) (p : Part) (live truths : List Bool) : Type 0 where
   pub each : (n : ℕ) → is_live live n ≡ true → get_or truths n false ≡ part_holds game p n
 
--- the numbers of a sort item, at the nodes that are asked for
+-- the numbers of a sort item, at the live nodes
 pub record IsRowAt (game : Game) (p : Part) (live : List Bool) (row : List (Option ℤ)) : Type 0 where
   pub each : (n : ℕ) → is_live live n ≡ true → get_or row n None ≡ sort_number (tree_for game p) (shown p.single).filter n
 
--- what is left to each query after one part
+-- the nodes left to each query after one part
 pub record IsNarrowedBy (game : Game) (p : Part) (left later : List NodeSet) : Type 0 where
   pub count : length later ≡ length left
   pub each : (q n : ℕ) → is_left later q n ≡ (is_left left q n && meets game q n p)

@@ -1,4 +1,4 @@
--- What a plan of several queries keeps of each of them.
+-- The record of each query in a plan of several.
 use Rattle.std.specs.Prelude.{◌≡◌, ℕ, ◌<◌, ◌≤◌, true, false, List, get_or, length}
 use Rattle.cql_plan.specs.Plans.{query_of}
 use Rattle.cql_syntax.specs.Flat.{flat_query}
@@ -13,7 +13,7 @@ use Rattle.cq_shared.specs.declared.part.PartOwner.{PartOwner}
 abbrev pub owner_query : PartOwner → QueryTree
 owner_query a = query_tree (query_of a.plan).query
 
--- the numbers of a query's parts, in order, and how many stand before its sort items
+-- the numbers of a query's parts, in order, and the number of those before its sort items
 pub record IsOwner (parts : List Part) (q : ℕ) (a : PartOwner) : Type 0 where
   pub numbers : are_at (all_shown parts) a.numbers.items (parts_in (owner_query a)) ≡ true
   pub asked : (k : ℕ) → is_owned parts k q ≡ is_among k a.numbers.items

@@ -22,7 +22,7 @@ unfoldable mutual
   all_parts no_filters = []
   all_parts (more_filters f fs) = parts_of f ++ all_parts fs
 
--- what a top item has among the first parts, and among the sort items
+-- the first parts of a top item, and its sort items
 unfoldable pub item_parts : FilterTree → List FilterTree
 item_parts (filter_at at (sort least text f)) = []
 item_parts (filter_at at (comment text)) = []
@@ -43,7 +43,7 @@ top_sorts (more_filters f fs) = item_sorts f ++ top_sorts fs
 abbrev pub query_parts : FilterTrees → List FilterTree
 query_parts items = top_parts items ++ top_sorts items
 
--- a part, and whether its query searches the variations
+-- a part, with the flag of its query for the search of variations
 pub record PartTree : Type 0 where
   pub variations : Bool
   pub filter : FilterTree
@@ -59,7 +59,7 @@ abbrev pub parts_in_all : List QueryTree → List PartTree
 parts_in_all [] = []
 parts_in_all (q ∷ qs) = parts_in q ++ parts_in_all qs
 
--- Two parts are the same wherever they begin, where their queries search the same nodes.
+-- Two parts with different places are the same if their filters agree and their queries search the same nodes.
 abbrev pub same_part : PartTree → PartTree → Bool
 same_part p r = same_flag p.variations r.variations && same_unplaced p.filter r.filter
 
@@ -76,7 +76,7 @@ equal_parts ps rs = false
 abbrev pub other_than : PartTree → List PartTree → List PartTree
 other_than p ps = filter (λ r. not (same_part p r)) ps
 
--- the different ones of some parts, each where it first stands
+-- the different ones of some parts, each at its first place
 unfoldable pub different : List PartTree → List PartTree
 different [] = []
 different (p ∷ ps) = p ∷ other_than p (different ps)
@@ -86,23 +86,23 @@ abbrev pub first_of : FilterTrees → FilterTree
 first_of no_filters = filter_at 0 (comment [])
 first_of (more_filters f fs) = f
 
--- there is one filter
+-- the list has one filter
 abbrev pub is_single : FilterTrees → Bool
 is_single no_filters = false
 is_single (more_filters f no_filters) = true
 is_single (more_filters f (more_filters g fs)) = false
 
--- a filter by itself
+-- a list of one filter
 abbrev pub alone : FilterTree → FilterTrees
 alone f = more_filters f no_filters
 
--- the part of a number is the same as this one
+-- the part with a number is the same as this one
 unfoldable pub is_at : List PartTree → ℕ → PartTree → Bool
 is_at [] k r = false
 is_at (p ∷ ps) zero r = same_part p r
 is_at (p ∷ ps) (suc k) r = is_at ps k r
 
--- the parts of some numbers are the same as these, each as the one in its place
+-- the parts with some numbers are the same as these, each as the one in its place
 unfoldable pub are_at : List PartTree → List ℕ → List PartTree → Bool
 are_at ps [] [] = true
 are_at ps (k ∷ ks) (r ∷ rs) = is_at ps k r && are_at ps ks rs

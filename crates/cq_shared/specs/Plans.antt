@@ -12,7 +12,7 @@ use Rattle.cq_shared.specs.declared.plan.SharedPlan.{SharedPlan}
 abbrev pub queries_of : SharedPlan → List TypedQuery
 queries_of plan = map (λ a. query_of a.plan) plan.owners.items
 
--- what a plan keeps of each query, and its parts
+-- the record of each query of a plan, and its parts
 abbrev pub owners_of : SharedPlan → List PartOwner
 owners_of plan = plan.owners.items
 

@@ -1,4 +1,4 @@
--- Whether a filter can stand by itself in a flat query.
+-- Filters that can be the only item of a flat query.
 use Rattle.std.specs.Prelude.{Bool, ◌&&◌, not}
 use Rattle.std.specs.List.{list_all}
 use Rattle.cql_syntax.specs.FlatItems.{has_its_kind, breaks_none}
@@ -6,7 +6,7 @@ use Rattle.cql_syntax.specs.Occurrences.{Occurrence, occurrences, top_item}
 use Rattle.cql_syntax.specs.TreeFaults.{is_family}
 use Rattle.cql_syntax.specs.Trees.{FilterTree}
 
--- no family, of the kind that an `Any` names, and no rule is broken
+-- the filter is no family, the parts of an `Any` have the kind that it names, and the filter breaks no rule
 abbrev pub is_sound : Occurrence → Bool
 is_sound o = not (is_family o.form) && (has_its_kind o.form && breaks_none o)
 

@@ -1,4 +1,4 @@
--- What asking takes at most: the cost of the parts that are still wanted.
+-- The greatest cost of evaluation: the cost of the parts for which a node is still left.
 use Rattle.std.specs.Prelude.{◌≡◌, ℕ, ◌+◌, ◌<◌, ◌≤◌, ◌&&◌, Bool, true, List, get_or, length}
 use Rattle.std.specs.List.{list_any, filter}
 use Rattle.cq_position.specs.Games.{Game}
@@ -9,7 +9,7 @@ use Rattle.cq_shared.specs.Parts.{PartTree, same_part, parts_in}
 use Rattle.cq_shared.specs.declared.nodes.NodeSet.{NodeSet}
 use Rattle.cq_shared.specs.declared.part.Part.{Part}
 
--- The test is true of the part if a query that has the part still wants a node. `AdmitsAll` says it of each part.
+-- The test is true of the part if a node is still left to a query that has the part. `AdmitsAll` requires it of each part.
 abbrev pub Admits : (Part → Bool) → List NodeSet → Part → Type 0
 Admits want left p = IsWanted p left → want p ≡ true
 
@@ -19,7 +19,7 @@ AdmitsAll want left parts = (k : ℕ) (p : Part) → k < length parts → p ≡ 
 abbrev pub both : (Part → Bool) → (Part → Bool) → Part → Bool
 both taken want p = taken p && want p
 
--- For each such test the steps rise by at most the cost of the parts that are taken and of which the test is true.
+-- For each such test the steps rise by at most the cost of those parts that are taken and meet the test.
 abbrev pub TakesAtMost : (Part → Bool) → Game → Part → List NodeSet → ℕ → ℕ → Type 0
 TakesAtMost taken game p left before now =
     (want : Part → Bool) → Admits want left p → now ≤ before + cost_if (both taken want) game p

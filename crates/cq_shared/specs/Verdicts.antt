@@ -1,4 +1,4 @@
--- What several queries find in a game, as their callers see it: a list for each query, in order.
+-- The results of several queries in a game, as their callers see them: a list for each query, in order.
 use Rattle.std.specs.Prelude.{◌≡◌, ◌≢◌, ℕ, ℤ, List, [], ◌∷◌, Some, map}
 use Rattle.cq_position.specs.Games.{Game}
 use Rattle.cql_syntax.specs.Hits.{keys}
@@ -11,7 +11,7 @@ nodes_of v = map (λ f. f.nodes.items) v.found.items
 abbrev pub keys_of : Verdicts → List (List ℤ)
 keys_of v = map (λ f. f.keys.items) v.found.items
 
--- the keys of a query where it hits, and none where it doesn't
+-- the keys of a query if it has a hit, and none if it has none
 pub record IsKeyed (game : Game) (q : QueryTree) (nodes : List ℕ) (ks : List ℤ) : Type 0 where
   pub keys : nodes ≢ [] → map Some ks ≡ keys q game
   pub none : nodes ≡ [] → ks ≡ []

@@ -1,4 +1,4 @@
-//! What is found of each query in a game.
+//! The hits and keys of each query in a game.
 ghost use Rattle.std.specs.Prelude.{◌≡◌, ◌<◌, length, map, All, AllPairs, IfOk};
 ghost use Rattle.cql_columns.specs.Columns.{is_live};
 ghost use Rattle.cql_syntax.specs.Hits.{hits as hits_of};
@@ -19,6 +19,10 @@ use pgn_tree::Game;
 use std::alloc::Global;
 
 /// The hits of each query and its keys, from the nodes that are left to it and the rows of its sort items there.
+///
+/// # Errors
+///
+/// `NoMemory` if out of memory.
 pub fn collect_verdicts(
     alloc: Global,
     owners: &[PartOwner],
@@ -43,7 +47,7 @@ pub fn collect_verdicts(
     Ok(Verdicts { found })
 }
 
-// What is found of one query.
+// The hits and keys of one query.
 fn collect_one(
     alloc: Global,
     owner: &PartOwner,
@@ -56,7 +60,7 @@ fn collect_one(
     ensures nodes { IfOk result (λ f. f.nodes.items ≡ hits_of (owner_query owner.now) game.now) }
     ensures keys { IfOk result (λ f. IsKeyed game.now (owner_query owner.now) f.nodes.items f.keys.items) }
 {
-    // A game in which a query hits has what the query needs.
+    // A game with a hit of a query passes its needs.
     games_with_a_hit_pass();
     let nodes = hits(alloc, nodes, game)?;
     let keys = keys(alloc, owner, parts, rows, nodes.as_slice())?;

@@ -80,7 +80,7 @@ fn add_sort(alloc: Global, item: &Filter, to: &mut Vec<Filter>) -> Result<(), No
     }
 }
 
-/// How many parts some filters have, one at least, for a table of that size.
+/// The number of parts of some filters, on top of `before`, for the size of a table.
 pub(crate) fn count_top(items: &Filters, before: usize) -> usize
     ensures { before ≤ result }
 {

@@ -1,4 +1,4 @@
-//! The nodes at which queries are asked at first.
+//! The nodes at which the evaluation of queries starts.
 ghost use Rattle.std.specs.Prelude.{◌≡◌, ℕ, ◌<◌, ◌&&◌, length, get_or, false, IfOk};
 ghost use Rattle.cq_position.specs.Games as games;
 ghost use Rattle.cq_shared.specs.PartOwners.{owner_query};
@@ -12,12 +12,12 @@ use cql_values::walks::is_searched;
 use pgn_tree::Game;
 use std::alloc::Global;
 
-/// For each query the searched nodes of a game, or none where the game hasn't what the query needs.
-pub fn start_nodes(
-    alloc: Global,
-    owners: &[PartOwner],
-    game: &Game,
-) -> Result<Vec<NodeSet>, NoMemory>
+/// For each query the searched nodes of a game, or none if the game fails the needs of the query.
+///
+/// # Errors
+///
+/// `NoMemory` if out of memory.
+pub fn start_nodes(alloc: Global, owners: &[PartOwner], game: &Game) -> Result<Vec<NodeSet>, NoMemory>
     ensures { IfOk result (λ start_nodes. AreStartNodes game.now owners.now start_nodes.items) }
 {
     let mut start_nodes = Vec::with_capacity(alloc, owners.len())?;

@@ -1,4 +1,4 @@
-//! The parts that are found, each once.
+//! The table of parts, which has each once.
 ghost use Rattle.std.specs.Prelude.{◌≡◌, ℕ, ◌<◌, ◌++◌, ◌∷◌, ◌&&◌, ◌||◌, ◌==◌, [], true, false, length, map, IfOk, OnOk, MatchOption};
 ghost use Rattle.std.specs.List.{list_all, list_any};
 ghost use Rattle.cql_syntax.specs.TreeOf.{filter_tree};
@@ -17,7 +17,7 @@ use cql_pruning::order::class_of;
 use cql_syntax::Filter;
 use std::alloc::Global;
 
-/// Adds the parts of a query and gives their numbers, in order. Where a part is known already, the query is added to it.
+/// Adds the parts of a query and returns their numbers, in order. If there is a part already, the query is added to its owners.
 pub(crate) fn add_all(
     alloc: Global,
     filters: &[Filter],
@@ -46,7 +46,7 @@ pub(crate) fn add_all(
     Ok(numbers)
 }
 
-// Adds a part, or, where it is known, the query to it, and gives its number.
+// Adds a part or, if there is one that is the same, the query to its owners, and returns its number.
 fn add(
     alloc: Global,
     parts: &mut Vec<Part>,
@@ -96,7 +96,7 @@ fn is_same(parts: &[Part], number: usize, single: &Single) -> bool
     same_single(&parts[number].single, single)
 }
 
-// Adds a query to those that have a part.
+// Adds a query to the owners of a part.
 fn ask(parts: &mut Vec<Part>, number: usize, owner: u32) -> Result<(), NoMemory>
     requires { number < length parts.old.items }
     ensures parts { OnOk result (all_shown parts.new.items ≡ all_shown parts.old.items) }
@@ -108,7 +108,7 @@ fn ask(parts: &mut Vec<Part>, number: usize, owner: u32) -> Result<(), NoMemory>
     Ok(())
 }
 
-// Adds a part that is not known yet.
+// Adds a part that is not in the table yet.
 fn add_new(
     alloc: Global,
     parts: &mut Vec<Part>,

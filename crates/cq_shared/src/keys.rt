@@ -12,7 +12,7 @@ use cql_plan::key_over;
 use cql_syntax::{Filter, Form};
 use std::alloc::Global;
 
-/// One key for each sort item over the hits, the first item foremost; over no nodes there are none.
+/// One key for each sort item over the hits, the first item first; over no nodes there are none.
 pub(crate) fn keys(
     alloc: Global,
     owner: &PartOwner,

@@ -12,7 +12,7 @@ ghost use Rattle.cql_syntax.specs.Values.{holds};
 ghost use Rattle.cq_shared.specs.StandaloneFilters.{stands_alone};
 ghost use Rattle.cq_shared.specs.Parts.{query_parts, alone};
 
-/// A query has a hit at a node exactly where all of its parts hold there.
+/// A query has a hit at a node exactly if all of its parts hold there.
 #[tactic(auto, using(crate::proofs::PartsHold::parts_hold))]
 pub fn parts_hold_at_hits()
     ensures { (tree : SearchedTree) (items : FilterTrees) (n : ℕ) →
@@ -25,7 +25,7 @@ pub fn texts_are_one()
     ensures { (f g : FilterTree) → same_unplaced f g ≡ true → items_text (alone f) ≡ items_text (alone g) }
 {}
 
-/// Each part of a flat query can stand by itself in one.
+/// Each part of a flat query can be the only item of one.
 #[tactic(auto, using(crate::proofs::StandAlone::parts_stand))]
 pub fn parts_stand_alone()
     ensures { (items : FilterTrees) → has_family items ≡ false → kinds_agree items ≡ true → break_no_rule items ≡ true →

@@ -1,7 +1,7 @@
-//! Several queries over one game: each of the different parts of their plan is asked at most once a game.
+//! Several queries over one game: each of the different parts of their plan is evaluated at most once a game.
 //!
-//! `specs/Parts` has the parts of a query and defines when two parts are the same; `specs/Matching` has the result and the cost of each
-//! part in a game; `specs/Verdicts` the result of each query.
+//! `specs/Parts` has the parts of a query and defines equality of parts. `specs/Matching` has the result and the cost of each part in a
+//! game; `specs/Verdicts` the result of each query.
 #![tactic(auto)]
 
 mod collecting;

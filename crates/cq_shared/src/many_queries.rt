@@ -19,8 +19,12 @@ use std::sync::ledger::Ledger;
 
 /// The hits of each query of a plan in a game, and its keys.
 ///
-/// The steps are at most the cost of those different parts that some query has whose needs the game meets, and so at most that of all
-/// different parts. A part costs what it takes as the only item of a query.
+/// The steps are at most the cost of those different parts that some query has whose needs the game meets. So they are at most the cost of
+/// all different parts. The cost of a part is its cost as the only item of a query.
+///
+/// # Errors
+///
+/// `NoMemory` if out of memory.
 pub fn match_all<L: Ledger>(
     alloc: Global,
     plan: &SharedPlan,

@@ -14,8 +14,8 @@ use pgn_tree::Game;
 use std::alloc::Global;
 use std::sync::ledger::Ledger;
 
-/// The nodes that are left to each query after all parts but the sort items. Parts are asked in the order of their classes, a guess at
-/// what they cost.
+/// The nodes that are left to each query after all parts but the sort items. Parts are evaluated in the order of their classes, a guess at
+/// their cost.
 pub(crate) fn nodes_left_by<L: Ledger>(
     alloc: Global,
     parts: &[Part],
@@ -54,7 +54,7 @@ fn narrow_by_class<L: Ledger>(
     Ok(later)
 }
 
-// The nodes that are left after a part, where it is of the class.
+// The nodes that are left after a part, if it is of the class.
 fn after_if<L: Ledger>(
     alloc: Global,
     class: u32,
@@ -74,8 +74,8 @@ fn after_if<L: Ledger>(
     Ok(later.left)
 }
 
-// The nodes that are left to each query after a part, and if it is a sort item, its row. It is asked at most once, at the nodes that
-// some query that has it still wants.
+// The nodes that are left to each query after a part, and if it is a sort item, its row. It is evaluated at most once, at the nodes that
+// are still left to some query that has it.
 fn after<L: Ledger>(
     alloc: Global,
     part: &Part,
@@ -121,7 +121,7 @@ pub(crate) fn sort_rows_by<L: Ledger>(
     Ok(SortedNodes { left: later, rows })
 }
 
-// The nodes that are left after a part, where it is a sort item, and its numbers there.
+// The nodes that are left after a part, if it is a sort item, and its numbers there.
 fn after_sort_if<L: Ledger>(
     alloc: Global,
     part: &Part,

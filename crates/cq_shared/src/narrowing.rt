@@ -11,7 +11,11 @@ use cql_operators::narrow::keep_true;
 use pgn_tree::Game;
 use std::alloc::Global;
 
-/// The nodes that some query that has the part still wants.
+/// The nodes that are still left to some query that has the part.
+///
+/// # Errors
+///
+/// `NoMemory` if out of memory.
 pub fn wanted_nodes(
     alloc: Global,
     part: &Part,
@@ -29,7 +33,7 @@ pub fn wanted_nodes(
     Ok(live)
 }
 
-// Whether one of these queries still wants a node.
+// Returns true if a node is still left to one of these queries.
 fn is_wanted(owners: &[u32], left: &[NodeSet], n: usize) -> bool
     ensures { result ≡ list_any (λ q. is_left left.now q n) owners.now }
 {
@@ -50,21 +54,25 @@ fn is_left(left: &[NodeSet], q: usize, n: usize) -> bool
     false
 }
 
-// Whether a query has the part.
+// Returns true if a query has the part.
 fn has(part: &Part, q: usize) -> bool
     ensures { result ≡ is_owned_by q part.now }
 {
     part.owners.iter().any(|owner| *owner as usize == q)
 }
 
-/// Whether a node is in a set.
+/// Returns true if a node is in a set.
 pub(crate) fn is_there(nodes: &NodeSet, n: usize) -> bool
     ensures { result ≡ get_or nodes.now.there.items n false }
 {
     nodes.there.get(n).copied().unwrap_or(false)
 }
 
-/// Of the nodes left to each query that has the part those at which the part holds.
+/// The nodes left to each query: for those that have the part, without the nodes at which it fails.
+///
+/// # Errors
+///
+/// `NoMemory` if out of memory.
 pub fn narrowed(
     alloc: Global,
     part: &Part,

@@ -1,4 +1,4 @@
-//! What is kept of a game's nodes while parts are asked.
+//! Sets of a game's nodes and rows of numbers, kept while parts are evaluated.
 
 /// A set of nodes: a truth for each.
 #[derive(Drop)]
@@ -26,7 +26,7 @@ pub struct NarrowedNodes {
     pub row: SortRow,
 }
 
-/// Whether a part holds, and if it is a sort item, its numbers, a place for each node.
+/// The truths of a part and, if it is a sort item, its numbers, a place for each node.
 #[derive(Drop)]
 pub struct PartValues {
     pub truths: Vec<bool>,

@@ -1,4 +1,4 @@
-//! A part of queries, and what a query knows of its own parts.
+//! A part of queries, and a query's record of its own parts.
 ghost use Rattle.std.specs.Prelude.{◌≡◌};
 ghost use Rattle.cql_pruning.specs.Classes.{filter_class};
 ghost use Rattle.cql_syntax.specs.TreeOf.{filters_tree};
@@ -8,7 +8,7 @@ use crate::single::Single;
 use cql_plan::Plan;
 use cql_syntax::Filter;
 
-/// A part, its class, a guess at what it costs to ask, and the numbers of the queries that have it, each as often as the query has it.
+/// A part, its class, which is a guess at its cost, and the numbers of the queries that have it, each as often as the query has it.
 #[derive(Drop)]
 pub struct Part {
     pub single: Single,
@@ -17,7 +17,7 @@ pub struct Part {
     pub ghost class_is: { class ≡ filter_class (first_of (filters_tree single.query.items)) },
 }
 
-/// The filters of a query that are its parts, in their order, how many of them stand before its sort items, and its word `variations`.
+/// The filters of a query that are its parts, in their order, the number of those before its sort items, and its word `variations`.
 #[derive(Drop)]
 pub(crate) struct QueryParts {
     pub(crate) plan: Plan,
@@ -26,7 +26,7 @@ pub(crate) struct QueryParts {
     pub(crate) variations: bool,
 }
 
-/// A query, with the numbers of its parts in their order, and how many of them stand before its sort items.
+/// A query, with the numbers of its parts in their order, and the number of those before its sort items.
 #[derive(Drop)]
 pub struct PartOwner {
     pub(crate) plan: Plan,

@@ -1,4 +1,4 @@
-//! What a part gives at the nodes that are asked for.
+//! The values of a part at the live nodes.
 ghost use Rattle.std.specs.Prelude.{◌≡◌, ℕ, ◌+◌, ◌<◌, ◌≤◌, [], length, get_or, false, None, IfOk, if◌then◌else◌};
 ghost use Rattle.std.specs.List.{list_any};
 ghost use Rattle.cql_columns.specs.Columns.{IsNodeSet};
@@ -16,7 +16,7 @@ use pgn_tree::Game;
 use std::alloc::Global;
 use std::sync::ledger::Ledger;
 
-/// What a part gives at the nodes that are asked for. Where there are none, it isn't looked at.
+/// The values of a part at the live nodes. If there are none, it isn't evaluated.
 pub(crate) fn values_at<L: Ledger>(
     alloc: Global,
     part: &Part,
@@ -41,7 +41,7 @@ pub(crate) fn values_at<L: Ledger>(
     sort_values_at(alloc, part, game, live, steps)
 }
 
-// Whether a part holds, by the form in which it is asked.
+// The truths of a part, by the form in which it is evaluated.
 fn joined_values_at<L: Ledger>(
     alloc: Global,
     part: &Part,
@@ -61,7 +61,7 @@ fn joined_values_at<L: Ledger>(
     })
 }
 
-// What a sort item gives.
+// The values of a sort item.
 fn sort_values_at<L: Ledger>(
     alloc: Global,
     part: &Part,
@@ -86,7 +86,7 @@ fn any_live(live: &[bool]) -> bool
     live.iter().any(|there| *there)
 }
 
-// The numbers of a sort item, by its column; of another part there are none.
+// The numbers of a sort item, by its column; another part has none.
 fn numbers_of(
     alloc: Global,
     part: &Part,

@@ -8,7 +8,7 @@ pub(crate) mod reading;
 
 use cql_syntax::FlatQuery;
 
-/// A filter as the only item of a flat query, and the form in which it is asked where it is no sort item.
+/// A filter as the only item of a flat query, and the form in which it is evaluated if it is no sort item.
 #[derive(Drop)]
 pub struct Single {
     pub query: FlatQuery,

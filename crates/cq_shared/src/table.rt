@@ -1,4 +1,4 @@
-//! A table of the numbers of parts, by the texts of the parts: parts that are the same have one text, so they stand at one place.
+//! A table of the numbers of parts, by the texts of the parts. Parts that are the same have one text, so they are at one place.
 ghost use Rattle.std.specs.Prelude.{◌≡◌, ℕ, ◌<◌, ◌++◌, ◌∷◌, [], length, get_or, IfOk, OnOk};
 ghost use Rattle.cq_shared.specs.PartTables.{mixed, hash_bytes, numbers_at};
 
@@ -11,7 +11,7 @@ pub(crate) struct PartBucket {
     pub(crate) numbers: Vec<usize>,
 }
 
-/// Places without numbers, so many.
+/// `many` places without numbers.
 pub(crate) fn empty_buckets(alloc: Global, many: usize) -> Result<Vec<PartBucket>, NoMemory>
     ensures { IfOk result (λ places. length places.items ≡ many) }
 {
@@ -24,7 +24,7 @@ pub(crate) fn empty_buckets(alloc: Global, many: usize) -> Result<Vec<PartBucket
     Ok(places)
 }
 
-/// A number made of the bytes of a text.
+/// A hash of the bytes of a text.
 #[tactic(auto, unfolding(crate::specs::PartTables::hash_bytes, crate::specs::PartTables::mixed))]
 pub(crate) fn hash_of(text: &[u8]) -> u64
     ensures { result ≡ hash_bytes text.now }

@@ -1,10 +1,10 @@
-//! What several queries find in a game.
+//! The results of several queries in a game.
 ghost use Rattle.std.specs.Prelude.{◌≡◌, ◌<◌, [], length, get_or};
 ghost use Rattle.cq_shared.specs.Verdicts.{nodes_of, keys_of};
 
 use cq_common::Shared;
 
-/// The hits of each query of a plan in a game, and by what it sorts the game.
+/// The hits of each query of a plan in a game, and its sort keys of the game.
 #[derive(Drop)]
 pub struct Verdicts {
     pub(crate) found: Vec<HitsAndKeys>,
@@ -28,7 +28,7 @@ impl Verdicts {
         self.found[query as usize].nodes.as_slice()
     }
 
-    /// The keys of a query's sort items over its hits, the first item foremost; none where there is no hit.
+    /// The keys of a query's sort items over its hits, the first item first; none if there is no hit.
     pub fn keys(&self, query: u32) -> &[i64]
         requires { query < length (nodes_of self.now) }
         ensures { result.now ≡ get_or (keys_of self.now) query [] }

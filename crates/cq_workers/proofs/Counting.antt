@@ -1,4 +1,4 @@
--- How often a number stands in a list with one more, and how many things of a list with one more meet a test.
+-- The number of times that a number is in a list with one more element, and the number of elements of such a list that meet a test.
 use Rattle.std.proofs.Common.{◌≡◌, ◌≢◌, ℕ, ◌+◌, List, [], ◌∷◌, ◌++◌, ap, ◌∙◌, arith, Bool, false}
 use Rattle.std.specs.Prelude.{count_by, nat_eq}
 use Rattle.std.proofs.lemmas.List.Sums.{sum_by_push}

@@ -1,4 +1,4 @@
--- Workers of a crew as they draw, and what is gathered of them.
+-- Workers as they draw, and the outputs that are collected from them.
 use Rattle.std.proofs.Common.{Some, length-append, ◌==◌, ◌≡◌, ℕ, ◌+◌, ◌<◌, ◌≤◌, List, [], ◌∷◌, ◌++◌, length, map, refl, sym, ap, ◌∙◌, subst, arith, All, false}
 use Rattle.std.specs.Prelude.{sum_by, flat_map, Contains, Option}
 use Rattle.std.proofs.lemmas.List.{append-nil, map-append}
@@ -35,7 +35,7 @@ starts HasMade board w fresh = record {
   has_made = subst (λ numbers. HasMade w.kept numbers w.made.items) (sym fresh.nothing) fresh.made;
 }
 
--- what a worker draws, and makes of it
+-- the games that a worker draws, and their outputs
 pub record DrewOne {K X : Type 0} (HasMade : K → List ℕ → List X → Type 0) (board : Board) (s : ClaimSeat) (kept kept' : K) (was now : List X) : Type 0 where
   pub t : ClaimSeat
   pub number : ℕ
@@ -81,13 +81,13 @@ ends HasMade board w s number made seat ended drew past = record {
 
 -- ---- gathering
 
--- what is gathered of workers
+-- the states and outputs that are collected from workers
 pub record Gathered (K X : Type 0) : Type 0 where
   pub seats : List ClaimSeat
   pub kept : List K
   pub made : List X
 
--- what is gathered of the workers that are taken so far, while these are left
+-- the states and outputs that are collected from the workers so far, while these are left
 pub record IsGathering {K X : Type 0} (HasMade : K → List ℕ → List X → Type 0) (board : Board) (left : List (Worker K X)) (all : Gathered K X) : Type 0 where
   pub worked : All (HasWorked HasMade board) left
   pub taken : All (IsSeatOf board) all.seats

@@ -1,4 +1,4 @@
--- What workers make of the games that they drew, one after another, and what is joined of them all.
+-- The outputs of workers for the games that they drew, one after another, and the outputs of all workers, joined.
 use Rattle.std.proofs.Common.{◌==◌, ◌≡◌, ℕ, ◌+◌, ◌<◌, List, [], ◌∷◌, ◌++◌, map, refl, sym, ap, ◌∙◌, subst, All}
 use Rattle.std.specs.Prelude.{flat_map}
 use Rattle.std.proofs.lemmas.List.Elements.{All-append, All-head, All-nil, All-push, All-tail}

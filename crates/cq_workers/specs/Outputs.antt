@@ -1,25 +1,25 @@
--- What workers make of games.
+-- The outputs of workers.
 use Rattle.std.specs.Prelude.{◌≡◌, ℕ, ◌<◌, List, [], ◌∷◌, ◌++◌, All, map, Option, None, Some}
 use Rattle.std.specs.List.{flat_map}
 use Rattle.cq_board.specs.Draws.{times_in}
 
--- what is made of one game, of which a skipped one has none
+-- the output of one game, of which a skipped one has none
 abbrev pub those : {X : Type 0} → Option X → List X
 those None = []
 those (Some x) = x ∷ []
 
--- a worker made this of the game with this number, after whatever it made before
+-- a worker made this output of the game with this number, after all outputs that it made before
 abbrev pub AddsOne : {K X : Type 0} → (K → List ℕ → List X → Type 0) → ℕ → (was now : K) → Option X → Type 0
 AddsOne {K} {X} HasMade number was now one =
     (numbers : List ℕ) (made : List X) → HasMade was numbers made → HasMade now (numbers ++ number ∷ []) (made ++ those one)
 
--- the games that one worker drew, what it keeps, and what it made of them
+-- the games that one worker drew, its state, and its outputs
 pub record Share (K X : Type 0) : Type 0 where
   pub numbers : List ℕ
   pub kept : K
   pub made : List X
 
--- the workers, which keep these, made these things of the games below n: each game was drawn once, by one of them
+-- the workers, with these states, made these outputs of the games below n: each game was drawn once, by one of them
 pub record AreMadeOf {K X : Type 0} (HasMade : K → List ℕ → List X → Type 0) (n : ℕ) (kept : List K)
     (made : List X) : Type 0 where
   pub shares : List (Share K X)

@@ -1,29 +1,33 @@
-//! What a worker makes of the games that it draws.
+//! The task of a worker on the games that it draws.
 ghost use Rattle.std.specs.Prelude.{◌<◌, ◌≡◌, ℕ, List, IfOk};
 ghost use Rattle.cq_workers.specs.Outputs.{AddsOne};
 
 use cq_common::NoMemory;
 use std::alloc::Global;
 
-/// What a worker makes of a game that it drew.
+/// The task of a worker on a game that it drew.
 pub trait GameTask {
-    /// What is made of a game.
+    /// The output of a game.
     type Output: Send + Drop;
 
-    /// What a worker keeps from game to game.
+    /// The state that a worker keeps from game to game.
     type State: Send + Drop;
 
-    /// How many games there are.
+    /// The number of games.
     ghost games: { Self → ℕ };
 
-    /// A worker that keeps this made these things of the games with these numbers.
+    /// A worker with this state made these outputs of the games with these numbers.
     ghost has_made: { Self → Self.State → List ℕ → List Self.Output → Type 0 };
 
-    /// How many games there are.
+    /// Returns the number of games.
     fn len(&self) -> u64
         ensures { result ≡ games self.now };
 
-    /// What the worker `me` makes of the game with this number; nothing where it skips the game.
+    /// Returns the output of the worker `me` for the game with this number, or `None` if it skips the game.
+    ///
+    /// # Errors
+    ///
+    /// `NoMemory` if out of memory.
     fn make(
         &self,
         alloc: Global,

@@ -1,4 +1,4 @@
-//! Workers that draw games by their numbers, each game once and by one worker, and make something of each.
+//! Workers that draw games by their numbers, each game once and by one worker, and make an output of each.
 #![tactic(auto)]
 
 mod game_task;

@@ -7,10 +7,10 @@ ghost use Rattle.cq_workers.specs.Internal.Starts.{AcceptsFrom, ChangesFrom, May
 use std::thread;
 use std::thread::{Threads, join_mut};
 
-/// Calls `f(i, &mut all[i])` at each place: a single call in this thread, and each of several in a new one, or, where none can be made, in
-/// this one after the calls at later places.
+/// Calls `f(i, &mut all[i])` at each place. A single call is made in this thread, each of several in a new one. If a thread can't be
+/// started, its call is made in this one, after the calls at later places.
 ///
-/// Of several calls this thread makes none that can have a thread of its own: a new thread may be put on the processor of the one that
+/// Of several calls this thread makes none that can have a thread of its own. A new thread may be put on the processor of the one that
 /// starts it, and would wait there while that one works.
 pub(crate) fn for_each_started<R: Threads + Sync, T: Send, F: Fn(usize, &mut T) + Sync>(
     rt: &R,

@@ -1,4 +1,4 @@
-//! Workers that draw games and make something of each.
+//! Workers that draw games and make an output of each.
 ghost use Rattle.std.specs.Prelude.{◌≡◌, ◌++◌, ◌<◌, ◌≤◌, ◌^◌, [], length, All, IfOk, OnOk};
 ghost use Rattle.cq_board.specs.Seats.{numbers_of, seats_of, IsSeatOf, drawn, HasEnded};
 ghost use Rattle.cq_workers.specs.Internal.WorkerStates.{HasWorked, IsFresh, IsThrough};
@@ -11,7 +11,7 @@ use cq_common::NoMemory;
 use std::alloc::Global;
 use std::thread::Threads;
 
-/// A worker: its seat at the board, what it keeps from game to game, and what it made so far. One that is out of memory stops.
+/// A worker: its seat at the board, its state, and its outputs so far. A worker that is out of memory stops.
 #[derive(Drop)]
 pub(crate) struct Worker<K, X> {
     pub(crate) seat: ClaimSeat,
@@ -20,7 +20,11 @@ pub(crate) struct Worker<K, X> {
     pub(crate) is_out_of_memory: bool,
 }
 
-/// What so many workers keep that keep nothing.
+/// The states of so many workers that keep none.
+///
+/// # Errors
+///
+/// `NoMemory` if out of memory.
 pub fn unit_states(alloc: Global, workers: u32) -> Result<Vec<()>, NoMemory>
     ensures { IfOk result (λ kept. length kept.items ≡ workers) }
 {
@@ -31,9 +35,12 @@ pub fn unit_states(alloc: Global, workers: u32) -> Result<Vec<()>, NoMemory>
     Ok(kept)
 }
 
-/// What workers that keep these make of all games. They draw the games one by one. A thread that can't be started is no refusal: this
-/// thread does that worker's work, after that of the later workers. `NoMemory` means that a worker, or the call itself, found no memory;
-/// nothing is given then.
+/// The outputs of all games, and the last states of workers that begin with these. They draw the games one by one. If a thread can't be
+/// started, the call doesn't fail: this thread does that worker's work, after that of the later workers.
+///
+/// # Errors
+///
+/// `NoMemory` if a worker, or the call itself, is out of memory; there is no output then.
 pub fn run_workers<R: Threads + Sync, M: GameTask + Sync>(
     rt: &R,
     alloc: Global,
@@ -90,7 +97,7 @@ fn seat_workers<M: GameTask>(
     Ok(slots)
 }
 
-// Draws games until none is left, or no memory.
+// Draws games until none is left, or the worker is out of memory.
 fn work<M: GameTask>(
     alloc: Global,
     task: &M,
@@ -105,7 +112,7 @@ fn work<M: GameTask>(
     worker.is_out_of_memory = draw_all(alloc, task, board, me, worker).is_err();
 }
 
-// Draws games and makes something of each until the seat is answered None.
+// Draws games and makes an output of each until the seat draws `None`.
 fn draw_all<M: GameTask>(
     alloc: Global,
     task: &M,
@@ -127,7 +134,7 @@ fn draw_all<M: GameTask>(
     Ok(())
 }
 
-// Keeps what was made, if anything.
+// Keeps the output, if there is one.
 fn keep<X: Drop>(made: &mut Vec<X>, one: Option<X>) -> Result<(), NoMemory>
     ensures { OnOk result (made.new.items ≡ made.old.items ++ those one) }
 {
@@ -137,7 +144,7 @@ fn keep<X: Drop>(made: &mut Vec<X>, one: Option<X>) -> Result<(), NoMemory>
     }
 }
 
-// What all workers made, once they have ended.
+// The outputs and states of all workers, once they have ended.
 fn collect_outputs<M: GameTask>(
     alloc: Global,
     task: &M,

@@ -1,4 +1,4 @@
--- What filters cost is the sum over the atoms of their lines.
+-- The cost of filters is the sum over the atoms of their lines.
 use Rattle.std.proofs.Common.{◌≡◌, ℕ, ◌+◌, ◌*◌, List, [], ◌∷◌, ◌++◌, sym, ap, ap₂, ◌∙◌, arith, add-one}
 use Rattle.std.specs.Prelude.{◌^◌}
 use Rattle.std.specs.List.{sum_by}

@@ -1,4 +1,4 @@
--- Squares that are left by the column of a filter in which no open name stands.
+-- Squares that are left by the column of a filter without open names.
 use Rattle.std.proofs.Common.{◌≡◌, ℕ, ◌+◌, ◌≤◌, Bool, true, List, [], sym, ap, ◌∙◌, subst, arith}
 use Rattle.cq_position.specs.Games.{node_at}
 use Rattle.cq_position.specs.Search.{SearchedTree}
@@ -15,7 +15,7 @@ use Rattle.cql_pruning.proofs.CoverLaw.{cut_as, cut_wide}
 pub no_steps : (before later cost : ℕ) → cost ≡ 0 → later ≤ before + cost → before ≤ later → later ≡ before
 no_steps before later cost none most rises = omega (arith, none, most, rises)
 
--- the column is asked where there are squares, and shows the filter's value whatever is bound to the open names
+-- the column is evaluated at nodes with squares, and has the filter's value whatever is bound to the open names
 module _ (tree : SearchedTree) (live some at there : List Bool) (opened outer : Names) (given : List ℕ) (f : FilterTree) (c : FilterColumn) (old new : List ℕ)
     (same : at ≡ some) (same_too : there ≡ some) (has_some : HasSome tree live old some) (free : IsIndependent opened f) (column : IsColumn c at (value tree [] outer f)) where
   shows : (n : ℕ) (inner : Names) → is_live some n ≡ true → Agree opened inner outer → shown c n ≡ value tree [] inner f n

@@ -1,4 +1,4 @@
--- Of a move the parts in which no open name stands.
+-- The parts of a move without open names.
 use Rattle.std.proofs.Common.{◌≡◌, ℕ, ◌&&◌, Bool, true, List, [], Option, Some, None, option_map, refl, sym, ap, ◌∙◌}
 use Rattle.cq_position.specs.Led.{PlainLed, led_to}
 use Rattle.cq_position.specs.Search.{SearchedTree}
@@ -26,21 +26,21 @@ asks_free tree opened outer w live c free column = record {
   each = λ n inner a agree q met. ap (λ x. meets x q) (column n a ∙ sym (free.each tree inner outer n agree)) ∙ met;
 }
 
--- what is asked of the parts of a move
+-- the parts of a move
 record Parts : Type 0 where
   origin : Option Value
   goal : Option Value
   taken : Option Value
   promoted : Option Value
 
--- what meets the one parts meets the others
+-- a move that meets the one parts meets the others
 record AskLess (less parts : Parts) : Type 0 where
   at_origin : (q : Option ℕ) → meets parts.origin q ≡ true → meets less.origin q ≡ true
   at_goal : (q : Option ℕ) → meets parts.goal q ≡ true → meets less.goal q ≡ true
   at_taken : (q : Option ℕ) → meets parts.taken q ≡ true → meets less.taken q ≡ true
   at_promoted : (q : Option ℕ) → meets parts.promoted q ≡ true → meets less.promoted q ≡ true
 
--- a move that meets what is asked meets what is asked of it by less
+-- a move that meets a condition meets a weaker one
 meets_less : (l : Option PlainLed) (less parts : Parts) → AskLess less parts → meets_all l parts.origin parts.goal parts.taken parts.promoted ≡ true
     → meets_all l less.origin less.goal less.taken less.promoted ≡ true
 meets_less None less parts asks all = all

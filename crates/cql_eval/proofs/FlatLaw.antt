@@ -161,7 +161,7 @@ pub items_flat : (fs : FilterTrees) → has_family fs ≡ false → break_no_rul
 unfolding has_family break_no_rule
 items_flat fs family rules = items_free fs 0 (all_free (of_items 0 fs) family rules)
 
--- a form, and the filter in a box, are flat where the filter in which they stand is
+-- a form, and the filter in a box, are flat if the filter around them is
 
 pub form_flat : (f : Filter) (form : FormTree) → form_tree f.form ≡ form → IsFlat (filter_tree f) → IsFlatForm form
 unfolding unflat

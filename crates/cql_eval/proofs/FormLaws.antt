@@ -1,4 +1,4 @@
--- What a form of filter gives by its parts.
+-- The values of a form of filter by its parts.
 use Rattle.std.proofs.Common.{Result, IfOk, ◌≡◌, ◌+◌, ◌≤◌, ◌⊎◌, inl, inr, ◌∙◌, ℕ, Bool, true, false, List, [], refl, sym, ap, ap₂, subst, arith}
 use Rattle.std.specs.Prelude.{not, Some, is_some, if◌then◌else◌}
 use Rattle.std.specs.List.{list_any}
@@ -75,7 +75,7 @@ line_form tree e f at l is n = sym (ap (λ x. value tree [] e x n) is)
 pub IfOk_then : {A E : Type 0} (r : Result A E) {P Q : A → Type 0} → IfOk r P → ((x : A) → P x → Q x) → IfOk r Q
 IfOk_then r {P} {Q} had more = IfOk-weaker r P Q more had
 
--- the second column where the first holds, and the third where it doesn't
+-- the second column if the first holds, and the third if it doesn't
 pub if_where : (live : List Bool) (a b c : FilterColumn) (u v w : ℕ → Value) → IsColumn a live u → Where live (λ n. is_as_wanted true (holds (shown a n)) ≡ true → shown b n ≡ v n)
     → Where live (λ n. is_as_wanted false (holds (shown a n)) ≡ true → shown c n ≡ w n) → (n : ℕ) → is_live live n ≡ true
     → if_of (shown a n) (shown b n) (shown c n) ≡ if_of (u n) (v n) (w n)
@@ -150,7 +150,7 @@ if_parts at form a b c first second third is same same_too same_again =
     ap (filter_at at) is ∙ ap (λ p. filter_at at (if_ (filter_tree p) (filter_tree b) (filter_tree c))) (sym same)
     ∙ ap₂ (λ p q. filter_at at (if_ (filter_tree first) (filter_tree p) (filter_tree q))) (sym same_too) (sym same_again)
 
--- what is taken is within what a filter costs
+-- the cost taken is within the cost of the filter
 
 pub within : (before later cost a : ℕ) → cost ≡ a → later ≤ before + a → later ≤ before + cost
 within before later cost a is taken = subst (λ k. later ≤ before + k) (sym is) taken

@@ -23,7 +23,7 @@ use Rattle.cql_columns.proofs.Filling.{live_below, any_default, both_left, part_
 use Rattle.cql_pruning.specs.Classes.{IsLeft}
 use Rattle.cql_pruning.proofs.Placing.{Placed}
 
--- the searched nodes are asked for
+-- the searched nodes are live
 module _ (tree : SearchedTree) (all : List Bool) (is : all ≡ map (is_searched tree.variations tree.game.nodes) (numbers tree.game.nodes)) where
   pub all_at : (n : ℕ) → n < length tree.game.nodes → is_live all n ≡ is_searched tree.variations tree.game.nodes n
   all_at n h = ap (λ l. get_or l n false) is ∙ get_or-map-range_with_len (is_searched tree.variations tree.game.nodes) 0 (length tree.game.nodes) n n false h (omega arith)
@@ -123,7 +123,7 @@ sorts_begun : (xs : List Filter) → sort_numbers (filter_trees (take 0 xs)) ≡
 sorts_begun [] = refl
 sorts_begun (x ∷ xs) = refl
 
--- what something makes of the sort items so far, one by one
+-- the result of a function on the sort items so far, one by one
 pub made_begun : {A : Type 0} (make : FilterTree → A) (made : List A) (xs : List Filter) → made ≡ [] → made ≡ map make (sort_numbers (filter_trees (take 0 xs)))
 made_begun make made xs none = none ∙ sym (ap (map make) (sorts_begun xs))
 

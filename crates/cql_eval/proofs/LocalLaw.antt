@@ -1,4 +1,4 @@
--- What is asked of the squares of an empty set.
+-- Filters on the squares of an empty set.
 use Rattle.std.proofs.Common.{◌≡◌, ℕ, Bool, true, false, List, [], ◌∷◌, cond, refl, sym, ap, ◌∙◌}
 use Rattle.std.specs.List.{list_all, list_any, filter}
 use Rattle.cq_geometry.specs.Squares.{squares}

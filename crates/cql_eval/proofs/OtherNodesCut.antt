@@ -1,4 +1,4 @@
--- Squares with which a word may hold that asks its part at other nodes: those that are brought back from there.
+-- Squares with which a word may hold that evaluates its part at other nodes: those that are brought back from there.
 use Rattle.std.proofs.Common.{◌≡◌, ℕ, ◌<◌, true, Bool, List, get_or, sym, subst, arith}
 use Rattle.cq_symmetry.specs.Images.{is_in}
 use Rattle.cql_syntax.specs.Meaning.{Names, unary_of}
@@ -11,7 +11,7 @@ use Rattle.cql_operators.proofs.OtherNodesLaw.{holds_at}
 use Rattle.cql_pruning.specs.Covers.{AreCut, MayHold, AreAmong, AreUniform}
 use Rattle.cql_pruning.proofs.CoverForms.{KeepsHolding, Tried}
 
--- the word asks its part at other nodes, at all of which the squares stand that are in the sets
+-- the word evaluates its part at other nodes, all of which have the squares of the sets
 pub record StandThere (t : Tried) (word : Unary) (wide : List Bool) (old there : List ℕ) : Type 0 where
   pub sure : is_from_other_nodes word ≡ true
   pub looked : CoverSourceNodes t.tree word t.live wide

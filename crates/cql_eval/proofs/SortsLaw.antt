@@ -1,4 +1,4 @@
--- The sort items of a query, which are asked after all others.
+-- The sort items of a query, which are evaluated after all others.
 use Rattle.std.proofs.Common.{◌≡◌, ℕ, ◌+◌, ◌≤◌, ◌&&◌, Bool, true, false, List, [], length, take, refl, sym, ap, ◌∙◌, subst}
 use Rattle.std.specs.Prelude.{is_some}
 use Rattle.cq_position.specs.Search.{SearchedTree}

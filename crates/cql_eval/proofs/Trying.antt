@@ -1,4 +1,4 @@
--- What the squares of a name are tried with, as the lemmas take it.
+-- The context in which squares of a name are tried, as the lemmas take it.
 use Rattle.cql_columns.specs.Scopes.{tree_in}
 use Rattle.cql_eval.specs.declared.evaluate.trial.Trial.{Trial}
 use Rattle.cql_pruning.proofs.CoverForms.{Tried}

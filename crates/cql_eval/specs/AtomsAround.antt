@@ -1,10 +1,10 @@
--- The atoms of the lines in filters, each by how many `square`s there are around it.
+-- The atoms of the lines in filters, each by the number of `square`s around it.
 use Rattle.std.specs.Prelude.{ℕ, ◌+◌, ◌*◌, ◌^◌, List, [], ◌∷◌, ◌++◌}
 use Rattle.std.specs.List.{sum_by}
 use Rattle.cql_syntax.specs.Trees.{FilterTree, filter_at, FormTree, designator, number, name, plain, tagged, outcome, elo, unary, direction, chain, sum_of, pair, if_, square, line, played, transform, sort, comment, any, FilterTrees, no_filters, more_filters, TermTrees, no_terms, more_terms, LineTree, path, PlayedTree, move_of, WrittenTree, left_out, written, PartTrees, no_parts, more_parts, BodyTree, atom, group}
 
--- For each atom how many `square`s ask it of their squares one by one, where so many are around the filter given. The atoms of a line
--- within an atom are atoms too, and those within a transform are left out.
+-- The number of `square`s around each atom, if `around` are around the filter: each evaluates the atom square by square. The atoms of a
+-- line within an atom are atoms too, and those within a transform are left out.
 unfoldable mutual
   pub filter_atoms : ℕ → FilterTree → List ℕ
   filter_atoms around (filter_at at f) = form_atoms around f

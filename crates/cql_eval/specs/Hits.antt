@@ -1,4 +1,4 @@
--- What the column of a query gives: where its items hold, and the values of its sort items.
+-- The column of a query: its hits, and the values of its sort items.
 use Rattle.std.specs.Prelude.{◌≡◌, ℕ, ◌&&◌, Bool, true, false, List, [], ◌∷◌, ◌++◌, Option, None, ℤ, map, get_or, length, if◌then◌else◌}
 use Rattle.cq_position.specs.Games.{is_searched, numbers}
 use Rattle.cq_position.specs.Search.{SearchedTree}
@@ -9,7 +9,7 @@ use Rattle.cql_syntax.specs.Values.{amount}
 use Rattle.cql_columns.specs.Columns.{is_live}
 use Rattle.cql_eval.specs.declared.column.Column.{Column}
 
--- node by node: whether all items hold, and the values of each sort item
+-- the hits, node by node, and the values of each sort item
 abbrev pub hits_of : Column → List Bool
 hits_of column = column.hits.items
 
@@ -28,7 +28,7 @@ abbrev pub sort_numbers : FilterTrees → List FilterTree
 sort_numbers no_filters = []
 sort_numbers (more_filters f fs) = item_numbers f ++ sort_numbers fs
 
--- at each node whether it is searched and all items hold there
+-- true at each node that is searched and at which all items hold
 abbrev pub hit_column : SearchedTree → FilterTrees → List Bool
 hit_column tree items = map (λ n. is_searched tree.variations tree.game.nodes n && is_hit tree items n) (numbers tree.game.nodes)
 

@@ -1,8 +1,8 @@
-//! Where the items of a query hold, and the values of its sort items.
+//! The hits of a query in a game, node by node, and the values of its sort items.
 
 mod accessors;
 
-/// Where the items of a query hold in a game, and the values of its sort items, node by node.
+/// The nodes of a game at which all items of a query hold, and the values of its sort items, node by node.
 #[derive(Drop)]
 pub struct Column {
     pub(crate) hits: Vec<bool>,

@@ -48,7 +48,7 @@ use squares::square_filter_truths;
 use std::alloc::Global;
 use std::sync::ledger::Ledger;
 
-/// What a filter gives at each node that is asked for, with squares bound to names. Where no node is asked for nothing is looked at.
+/// The values of a filter at each live node, with squares bound to names. With no live node nothing is looked at.
 #[cycle(evaluate)]
 #[tactic(auto, unfolding(cql_syntax::specs::Meaning::value, cql_syntax::specs::Contexts::designator_image, cql_columns::specs::Costs::filter_cost, cql_columns::specs::FlatTrees::unflat))]
 pub(crate) fn evaluate<L: Ledger>(
@@ -129,7 +129,7 @@ pub(crate) fn evaluate<L: Ledger>(
     }
 }
 
-// What a part gives where a column holds, or where it doesn't; elsewhere it isn't asked.
+// The values of a part at the nodes at which a column holds or, if not `want`, doesn't hold. It is not evaluated at others.
 #[cycle(evaluate)]
 fn column_where<L: Ledger>(
     alloc: Global,
@@ -152,7 +152,7 @@ fn column_where<L: Ledger>(
     evaluate(alloc, part, scope, &there, steps)
 }
 
-/// What a word or mark before a part gives. Some words ask their part at other nodes.
+/// The values of a filter of a word or mark and a part. Some words evaluate their part at other nodes.
 #[cycle(evaluate)]
 fn unary_column<L: Ledger>(
     alloc: Global,
@@ -180,7 +180,7 @@ fn unary_column<L: Ledger>(
     here_column(alloc, word, scope, column, live)
 }
 
-/// What a filter of any number of parts gives.
+/// The values of a filter of any number of parts.
 #[cycle(evaluate)]
 fn chain_column<L: Ledger>(
     alloc: Global,
@@ -211,7 +211,7 @@ fn chain_column<L: Ledger>(
     }
 }
 
-/// What any of some filters of a kind gives.
+/// The values of a family of filters of a kind.
 #[cycle(evaluate)]
 fn any_column<L: Ledger>(
     alloc: Global,

@@ -1,8 +1,8 @@
-//! What each filter of a query gives at every node of a game at once: a column. A column is asked for at some nodes, and promises its
-//! values there alone, so that a later part of a filter is asked for where the earlier ones leave something open. Here the parts of a
-//! filter are asked; `cql_columns` has what is made of their columns.
+//! The column of a query: the values of each of its filters at every node of a game. A column is evaluated at a set of nodes, the live
+//! ones, and promises its values there alone. So a later part of a filter is evaluated at the nodes that the earlier ones leave open. This
+//! crate evaluates the parts of a filter; `cql_columns` makes the column of the whole from theirs.
 //!
-//! `cql_syntax/specs/Meaning` has the meaning, `cql_columns/specs/Columns` what a column promises.
+//! `cql_syntax/specs/Meaning` has the meaning, `cql_columns/specs/Columns` the promise of a column.
 #![tactic(auto)]
 
 pub mod column;

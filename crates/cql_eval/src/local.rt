@@ -1,4 +1,4 @@
-//! What is asked of squares one by one, asked node by node.
+//! Filters on squares, evaluated node by node and square by square.
 ghost use Rattle.std.specs.Prelude.{◌≡◌, ◌<◌, ℕ, length, true, IfOk, IfSome};
 ghost use Rattle.cql_syntax.specs.TreeOf.{filter_tree};
 ghost use Rattle.cql_syntax.specs.Values as spec;
@@ -15,7 +15,7 @@ use cql_syntax::Filter;
 use cql_values::names::Names;
 use std::alloc::Global;
 
-/// Whether what is asked holds of every square of a column, or of some, asked node by node; nothing where it is not answered so.
+/// The truth that a filter holds with every square of a column, or with some, evaluated node by node; `None` if its form doesn't allow it.
 pub(crate) fn local_truths(
     alloc: Global,
     binding: &Binding,
@@ -42,7 +42,7 @@ pub(crate) fn local_truths(
     Ok(Some(truths))
 }
 
-// The same at one node; of a node that isn't wanted any truth will do.
+// The truth at one node. At a node that isn't wanted any value will do.
 fn local_truth(
     binding: &Binding,
     asked: &Filter,

@@ -31,10 +31,14 @@ use pgn_tree::Game;
 use std::alloc::Global;
 use std::sync::ledger::Ledger;
 
-/// Where all items of a query hold in a game, and the values of its sort items at every searched node; at a node that is not searched
-/// nothing holds, and no item has a value.
+/// The hits of a query in a game, and the values of its sort items at every searched node. At a node that is not searched no item holds or
+/// has a value.
 ///
 /// Each searched node is a step, and so is each look at the atoms of a line.
+///
+/// # Errors
+///
+/// `NoMemory` if out of memory.
 pub fn columns<L: Ledger>(
     alloc: Global,
     query: &FlatQuery,
@@ -67,10 +71,14 @@ pub fn columns<L: Ledger>(
     Ok(Column { hits: left, keys })
 }
 
-/// Where all items of a query hold in a game, and the values of its sort items there alone. The items are asked class by class, each where
-/// those before it hold, and the sort items last.
+/// The hits of a query in a game, and the values of its sort items at the hits alone. The items are evaluated class by class, each at the
+/// nodes that those before it leave, and the sort items last.
 ///
 /// Each searched node is a step, and so is each look at the atoms of a line.
+///
+/// # Errors
+///
+/// `NoMemory` if out of memory.
 pub fn hit_columns<L: Ledger>(
     alloc: Global,
     query: &FlatQuery,
@@ -91,9 +99,13 @@ pub fn hit_columns<L: Ledger>(
     Ok(column)
 }
 
-/// The same at the searched nodes of a set alone: at other nodes nothing holds.
+/// The hits and values at the searched nodes of a set alone. At other nodes no item holds.
 ///
 /// Each node of the set is a step, and so is each look at the atoms of a line.
+///
+/// # Errors
+///
+/// `NoMemory` if out of memory.
 pub fn hit_columns_at<L: Ledger>(
     alloc: Global,
     query: &FlatQuery,
@@ -116,7 +128,7 @@ pub fn hit_columns_at<L: Ledger>(
     Ok(column)
 }
 
-// What the items give at the nodes of a set.
+// The hits and values of the items at the nodes of a set.
 fn columns_of<L: Ledger>(
     alloc: Global,
     query: &FlatQuery,
@@ -150,8 +162,7 @@ fn columns_of<L: Ledger>(
     Ok(Column { hits: left, keys })
 }
 
-// Takes the nodes out of a set at which a sort item has no value, and adds its values at the nodes of the set. Nothing is done for another
-// item.
+// Removes the nodes of a set at which a sort item has no value, and adds its values at the nodes of the set. Another item changes nothing.
 #[tactic(auto, unfolding(cql_syntax::specs::Meaning::value, cql_columns::specs::Costs::filter_cost, cql_columns::specs::FlatTrees::unflat, cql_pruning::specs::Classes::form_class))]
 fn sort_by<L: Ledger>(
     alloc: Global,
@@ -185,7 +196,7 @@ fn sort_by<L: Ledger>(
     }
 }
 
-// The nodes that are left at which an item holds; the values of a sort item at the nodes that are asked for are added.
+// The nodes left at which an item holds. For a sort item, its values at the `asked` nodes are added.
 #[tactic(auto, unfolding(cql_syntax::specs::Meaning::value, cql_columns::specs::Costs::filter_cost, cql_columns::specs::FlatTrees::unflat))]
 fn narrowed_by<L: Ledger>(
     alloc: Global,
@@ -227,7 +238,7 @@ fn narrowed_by<L: Ledger>(
     }
 }
 
-// Adds the numbers of a column at the nodes that are asked for, and none at others.
+// Adds the numbers of a column at the live nodes, and none at others.
 fn push_row(
     alloc: Global,
     column: &FilterColumn,
@@ -242,7 +253,7 @@ fn push_row(
     Ok(())
 }
 
-// The numbers of a column at the nodes that are asked for, and none at others.
+// The numbers of a column at the live nodes, and none at others.
 fn key_row(
     alloc: Global,
     column: &FilterColumn,

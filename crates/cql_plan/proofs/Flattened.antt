@@ -54,11 +54,11 @@ module _ (q : QueryTree) (game : Game) (variations : Bool) (items : FilterTrees)
       → filters_cost (searched_len (searched_tree game variations)) items ≡ filters_cost (searched_len (searched_tree game q.variations)) (flat_query q).items
   costs_are same searched = ap₂ (λ v fs. filters_cost (searched_len (searched_tree game v)) fs) searched (filters_are items (flat_query q).items same)
 
--- where the query has a hit, its flat items pass
+-- if the query has a hit, its flat items pass
 pub flat_passes : (q : QueryTree) (game : Game) → (hits q game ≡ [] → ⊥) → all_pass (tree_of q game) (flat_query q).items ≡ true
 flat_passes q game some = hits_pass (flat_query q) game (λ none. some (sym (hits_same q game) ∙ none))
 
--- the same by the items that are asked
+-- the same by the items that are evaluated
 
 hits_alike : (items asked : FilterTrees) → HaveSameHits items asked → (tree : SearchedTree) → hits_in tree asked ≡ hits_in tree items
 hits_alike items asked found tree = ap (λ test. filter test (nodes_in tree)) (fun_ext (found.here tree))

@@ -110,7 +110,7 @@ inside_members kind s i fs h =
 below : (s : ℕ) → s < 64 → nat_lt s 64 ≡ true
 below s low = lt-ltb s 64 low
 
--- the whole tells what its members tell
+-- the members decide the truth of the whole
 pub whole_tells : (kind : Kind) (s : ℕ) (vs : List Value) → s < 64 → (kind ≡ Number → ⊥) → tells kind s (any_of kind vs) ≡ list_any (tells kind s) vs
 whole_tells Position s vs low other = refl
 whole_tells Set s vs low other = ap (λ b. b && list_any (λ x. has x s) vs) (below s low)
@@ -128,7 +128,7 @@ gathered_inside kind i before after fs other had = record {
   cost = λ searched. omega (arith, had.cost searched);
 }
 
--- one in the stead of another
+-- a replacement of one filter
 
 member_instead : (kind : Kind) (s : TypingContext) (f g : FilterTree) → StandsFor f g → is_member kind s f ≡ true → is_member kind s g ≡ true
 member_instead kind s f g stands h =

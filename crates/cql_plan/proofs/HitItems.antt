@@ -20,7 +20,7 @@ unfolding values
 values_each tree n [] = refl
 values_each tree n (f ∷ fs) = ap (λ vs. value tree [] [] (filter_tree f) n ∷ vs) (values_each tree n fs)
 
--- all items hold where each does
+-- all items hold if each does
 pub all_items : (tree : SearchedTree) (n : ℕ) (fs : List Filter) (items : FilterTrees) → filter_trees fs ≡ items
     → is_hit tree items n ≡ list_all (item_holds tree n) fs
 all_items tree n fs items is =

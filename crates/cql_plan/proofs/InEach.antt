@@ -1,4 +1,4 @@
--- What stands in each member of a family alike, asked once before the rests.
+-- The parts that all members of a family have, evaluated once before the rests.
 use Rattle.std.proofs.Common.{◌≡◌, ℕ, ◌+◌, ◌<◌, ◌≤◌, Bool, true, false, ◌&&◌, ◌||◌, List, [], ◌∷◌, length, get_or, take, refl, sym, ap, ap₂, ◌∙◌, arith, subst, Option, None, Some}
 use Rattle.std.specs.List.{list_all}
 use Rattle.std.proofs.lemmas.List.{take_all}
@@ -95,7 +95,7 @@ module _ (s : TypingContext) where
   may_last (more_filters g gs) f h =
       may_last gs f (all_second is_sound (occurrences (part_of s Position) g) (all_of (part_of s Position) (with_filter gs f)) h)
 
--- what holds where one of the members does
+-- the truth of filters that hold if one of the members does
 
 both_follow : (m c h : Bool) → (m && c) ≡ m → (m && (h && true)) ≡ m → (m && (c && h)) ≡ m
 both_follow true c h a b = both c h a (left h true b)
@@ -205,7 +205,7 @@ divided_rest parts common rest f had = record {
   cost = λ searched. omega (arith, had.cost searched, cost_more searched parts f, cost_more searched rest f);
 }
 
--- what is left of parts
+-- the parts that are left
 
 pub left_none : (common : FilterTrees) → AreLeft common no_filters no_filters
 left_none common = record {

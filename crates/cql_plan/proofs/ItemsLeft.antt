@@ -11,7 +11,7 @@ use Rattle.cql_syntax.specs.TreeOf.{filter_tree, filter_trees}
 use Rattle.cql_syntax.specs.Trees.{FilterTrees, more_filters}
 use Rattle.cql_syntax.specs.declared.tree.Filter.{Filter}
 
--- what is left of filters
+-- the filters that are left
 pub filters_left : (xs : List Filter) (i : ℕ) (f : Filter) → i < length xs → f ≡ get_or xs i f → filter_trees (drop i xs) ≡ more_filters (filter_tree f) (filter_trees (drop (i + 1) xs))
 filters_left [] zero f h e = absurd (omega (arith, h))
 filters_left [] (suc i) f h e = absurd (omega (arith, h))

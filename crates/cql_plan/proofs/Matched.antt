@@ -1,4 +1,4 @@
--- What is found by the form that is asked, of the query itself.
+-- The results of the form that is evaluated are those of the query itself.
 use Rattle.std.proofs.Common.{◌≡◌, ◌≢◌, ℕ, Bool, true, false, List, [], ◌∷◌, map, Some, Result, Ok, Err, IfOk, refl, ◌∙◌}
 use Rattle.cq_position.specs.Games.{Game}
 use Rattle.cql_values.specs.Trees.{searched_tree}
@@ -7,7 +7,7 @@ use Rattle.cql_syntax.specs.Trees.{FilterTrees, QueryTree}
 use Rattle.cql_plan.specs.Plans.{IsJoinedFormOf}
 use Rattle.cql_plan.specs.declared.verdict.Verdict.{Verdict}
 
--- a game that is turned away has no hit
+-- a game that fails the needs has no hit
 pub none_found : (ns : List ℕ) (may_hold : Bool) → (ns ≢ [] → may_hold ≡ true) → may_hold ≡ false → [] ≡ ns
 none_found [] may_hold some away = refl
 none_found (n ∷ ns) may_hold some away = absurd (let holds = some (λ none. cc) in cc)

@@ -1,4 +1,4 @@
--- What holds at a searched node passes the needs test.
+-- A filter that holds at a searched node passes the needs test.
 use Rattle.std.proofs.Common.{◌≡◌, ℕ, zero, suc, ◌<◌, ◌≤◌, All, Bool, true, false, List, [], ◌∷◌, length, refl, ap, ◌∙◌, arith, Some}
 use Rattle.std.specs.Prelude.{◌&&◌, ◌||◌, ◌==◌, nat_lt, slice_index_or, if◌then◌else◌}
 use Rattle.std.specs.List.{list_all, list_any, range_with_len, filter}
@@ -74,7 +74,7 @@ man_found tree n s k is_node is low =
     ∙ in_range (λ n. kept n && there n) 0 (length tree.game.nodes) n (omega arith) (omega (arith, is_node.below))
     (both (kept n) (there n) is_node.kept (man_there (position_at tree n).men s k is low))
 
--- where a designator stands, one of its men does
+-- if a designator holds, one of its men is in the position
 stands_then : (tree : SearchedTree) (n s : ℕ) (d : Designator) → IsSearched tree n → stands_on (position_at tree n).men (Some d) s ≡ true
     → is_in d.men 12 ≡ false → one_stands tree d.men ≡ true
 unfolding one_stands
@@ -97,7 +97,7 @@ designator_passes tree n d is_node holds =
     let found = square_found (λ s. nat_lt s 64 && stands_on (position_at tree n).men (Some d) s) holds in
     designator_by tree n found.k d (is_in d.men 12) refl is_node (right (nat_lt found.k 64) (stands_on (position_at tree n).men (Some d) found.k) found.passes)
 
--- what has a square holds
+-- a value that has a square holds
 has_then : (v : Value) (s : ℕ) → s < 64 → has v s ≡ true → holds v ≡ true
 has_then (as_truth b) s low e = cc
 has_then (as_squares x) s low e = some_square x s low e
@@ -192,7 +192,7 @@ hit_searched tree items =
 pub hits_hit : (tree : SearchedTree) (items : FilterTrees) → All (λ n. is_hit tree items n ≡ true) (hits_in tree items)
 hits_hit tree items = filter_passes (is_hit tree items) (nodes_in tree)
 
--- where there is a hit, all items pass
+-- if there is a hit, all items pass
 pub some_hit_passes : (tree : SearchedTree) (items : FilterTrees) → 0 < length (hits_in tree items) → all_pass tree items ≡ true
 some_hit_passes tree items some =
     let n = slice_index_or (hits_in tree items) 0 0 in

@@ -1,4 +1,4 @@
--- What the parts of a filter need, one part after the other.
+-- The needs of the parts of a filter, one part after the other.
 use Rattle.std.proofs.Common.{◌≡◌, ◌&&◌, ◌||◌, true, false, sym, ap, ◌∙◌}
 use Rattle.cq_position.specs.Search.{SearchedTree}
 use Rattle.cql_syntax.specs.Trees.{FilterTree, FilterTrees, no_filters, more_filters}

@@ -1,4 +1,4 @@
--- The hits and the keys of a query, as its column tells them.
+-- The hits and the keys of a query, from its column.
 use Rattle.std.proofs.Common.{◌≡◌, ℕ, zero, suc, ◌+◌, ◌<◌, Bool, true, false, ◌&&◌, List, [], ◌∷◌, ◌++◌, length, map, drop, get_or, All, Option, Some, None, ℤ, refl, sym, ap, ap₂, ◌∙◌, subst, arith}
 use Rattle.std.specs.Prelude.{fold, is_some}
 use Rattle.std.proofs.lemmas.List.FromFn.{get_or-map-range_with_len}
@@ -14,7 +14,7 @@ use Rattle.cql_plan.specs.Internal.KeyRows.{IsRowOf, AreRowsFrom}
 use Rattle.cql_plan.proofs.ItemsLeft.{hits_are_inside}
 use Rattle.cql_plan.proofs.Needed.{hits_hit, hit_searched}
 
--- whether a node is a hit
+-- true if a node is a hit
 pub column_hit : (tree : SearchedTree) (items : FilterTrees) (hits : List Bool) (k : ℕ) → hits ≡ hit_column tree items → k < length tree.game.nodes
     → get_or hits k false ≡ (is_searched tree.variations tree.game.nodes k && is_hit tree items k)
 column_hit tree items hits k is low =
@@ -111,7 +111,7 @@ key_added tree nodes rows old key item part least sorts are found =
     map_snoc [] x = refl
     map_snoc (y ∷ xs) x = ap (λ l. Some y ∷ l) (map_snoc xs x)
 
--- every hit is told as one
+-- every hit is found as one
 pub hits_told : (tree : SearchedTree) (items : FilterTrees) (hits : List Bool) (nodes : List ℕ) → hits ≡ hit_column tree items → nodes ≡ hits_in tree items
     → All (λ n. get_or hits n false ≡ true) nodes
 unfolding searched

@@ -1,4 +1,4 @@
--- What may stand in a flat query, part by part.
+-- The filters that may be in a flat query, part by part.
 use Rattle.std.proofs.Common.{◌≡◌, ℕ, Bool, true, false, ◌&&◌, ◌||◌, List, [], ◌∷◌, ◌++◌, Option, Some, None, refl, sym, ap, ap₂, ◌∙◌}
 use Rattle.std.specs.Prelude.{not}
 use Rattle.std.specs.List.{list_all, list_any}
@@ -26,7 +26,7 @@ module _ {A : Type 0} (p : A → Bool) (xs ys : List A) where
   pub all_both : list_all p xs ≡ true → list_all p ys ≡ true → list_all p (xs ++ ys) ≡ true
   all_both a b = list_all-append p xs ys ∙ both _ _ a b
 
--- what is sound of a filter
+-- the sound properties of a filter
 
 pub own_kind : (o : Occurrence) → is_sound o ≡ true → has_its_kind o.form ≡ true
 own_kind o h = right (not (is_family o.form)) (has_its_kind o.form) (left (not (is_family o.form) && has_its_kind o.form) (breaks_none o) h)
@@ -40,7 +40,7 @@ own_family o h = left (not (is_family o.form)) (has_its_kind o.form) (left (not 
 pub own_sound : (o : Occurrence) → not (is_family o.form) ≡ true → has_its_kind o.form ≡ true → breaks_none o ≡ true → is_sound o ≡ true
 own_sound o a b c = both (not (is_family o.form) && has_its_kind o.form) (breaks_none o) (both (not (is_family o.form)) (has_its_kind o.form) a b) c
 
--- what breaks no rule breaks none with other parts
+-- a filter that breaks no rule breaks none with other parts
 pub rules_same : (s : TypingContext) (i : ℕ) (f g : FormTree) → form_kind g ≡ form_kind f → below_top s.item g ≡ below_top s.item f
     → past_four_sorts s.item g ≡ past_four_sorts s.item f → (unbound_name s.names g ++ brace_in_comment g) ≡ (unbound_name s.names f ++ brace_in_comment f)
     → is_long_line g ≡ is_long_line f → is_fifth_square s.squares g ≡ is_fifth_square s.squares f
@@ -138,7 +138,7 @@ pub rules_from : (items : FilterTrees) → list_all is_sound (of_items 0 items) 
 unfolding break_no_rule
 rules_from items h = all_rules (of_items 0 items) h
 
--- members are of their kind, and may stand
+-- members are of their kind, and may be parts
 
 module _ (kind : Kind) (s : TypingContext) where
   pub members_from : (fs : FilterTrees) → list_all (λ f. same_kind (filter_kind f) kind) (filters_of fs) ≡ true

@@ -1,4 +1,4 @@
--- What a query needs of a game, whatever the node: a game without it has no hit.
+-- The needs of a query, at whatever node: a game without them has no hit.
 use Rattle.std.specs.Prelude.{ℕ, Bool, true, false, ◌&&◌, ◌||◌}
 use Rattle.std.specs.List.{list_any, range_with_len}
 use Rattle.cq_position.specs.Games.{Game}
@@ -13,7 +13,7 @@ use Rattle.cql_syntax.specs.Trees.{FilterTree, filter_at, FormTree, designator, 
 use Rattle.cql_syntax.specs.declared.leaves.Chain.TheVariants.{Or, And, All, Union, Intersect}
 use Rattle.cql_syntax.specs.declared.leaves.Kind.TheVariants.{Position, Set}
 
--- one of the twelve men, by the bits of their numbers, stands in some searched position, on any square
+-- true if one of the twelve men, by the bits of their numbers, is in some searched position, on any square
 unfoldable pub one_stands : SearchedTree → ℕ → Bool
 one_stands tree men = list_any (λ k. is_in men k && has_man_in tree k) (range_with_len 0 (man_number Empty))
 
@@ -21,7 +21,7 @@ one_stands tree men = list_any (λ k. is_in men k && has_man_in tree k) (range_w
 abbrev pub designator_passes : SearchedTree → ℕ → Bool
 designator_passes tree men = is_in men (man_number Empty) || one_stands tree men
 
--- Whether a game passes the needs of a filter: its tags, its result, and its men. Every other filter needs nothing.
+-- The needs of a filter, tested on a game: its tags, its result, and its men. Every other filter needs nothing.
 unfoldable mutual
   pub passes : SearchedTree → FilterTree → Bool
   passes tree (filter_at at f) = form_passes tree f
@@ -47,6 +47,6 @@ unfoldable mutual
   some_passes tree no_filters = false
   some_passes tree (more_filters f fs) = passes tree f || some_passes tree fs
 
--- a game passes the needs of a query where it passes those of all of its flat items
+-- true if a game passes the needs of all flat items of a query
 abbrev pub query_passes : QueryTree → Game → Bool
 query_passes q game = all_pass (tree_of q game) (flat_query q).items

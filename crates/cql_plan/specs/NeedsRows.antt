@@ -1,4 +1,4 @@
--- Which games pass the needs of filters.
+-- The games that pass the needs of filters.
 use Rattle.std.specs.Prelude.{◌≡◌, true, false, List, [], ◌∷◌, None, codes}
 use Rattle.cq_position.specs.Search.{SearchedTree}
 use Rattle.cq_position.specs.declared.men.Man.TheVariants.{K, BlackK}
@@ -63,7 +63,7 @@ pub record PartRows : Type 0 where
   pub items : all_pass kings (filters both) ≡ false
   pub no_items : all_pass kings (filters []) ≡ true
 
--- a queen isn't needed where it isn't asked for by itself
+-- a queen isn't needed if no filter tests for it at the node itself
 pub record OtherRows : Type 0 where
   pub denied : passes kings (at (unary Not queen)) ≡ true
   pub sought : passes kings (at (unary Find queen)) ≡ true

@@ -14,11 +14,11 @@ use Rattle.cql_values.specs.Trees.{searched_tree}
 abbrev pub query_of : Plan → TypedQuery
 query_of plan = plan.query
 
--- the form that is asked
+-- the form that is evaluated
 abbrev pub joined_of : Plan → FlatQuery
 joined_of plan = plan.joined
 
--- Items that are asked in the stead of a query: they have its hits and its keys in every game, and cost no more looks than its flat items.
+-- Items that are evaluated instead of a query: they have its hits and its keys in every game, and cost no more looks than its flat items.
 pub record IsJoinedFormOf (q : QueryTree) (variations : Bool) (items : FilterTrees) : Type 0 where
   pub searched : variations ≡ q.variations
   pub hits : (game : Game) → hits_in (searched_tree game variations) items ≡ hits_of q game

@@ -1,7 +1,7 @@
-//! A number made of the designators of a filter.
+//! A hash of the designators of a filter.
 //!
-//! Filters that are the same but for their places have the same number. What the members of a family differ in are most often their
-//! designators, so others mostly have another number; nothing is told by it.
+//! Filters that are the same but for their places have the same hash. The members of a family differ most often in their designators, so
+//! others mostly have another hash. No result depends on it.
 
 use cql_syntax::{Body, Constituents, Filter, Filters, Form, Played, Terms};
 

@@ -15,7 +15,7 @@ use cql_values::walks::push_if;
 use pgn_tree::Game;
 use std::alloc::Global;
 
-/// What a query's column tells of a game.
+/// The column of a query in a game.
 #[derive(Drop)]
 pub(crate) struct QueryColumn<'a> {
     pub(crate) query: &'a FlatQuery,
@@ -27,8 +27,8 @@ pub(crate) struct QueryColumn<'a> {
     ghost nodes: { length (hits_of column) ≡ length game.now.nodes },
 }
 
-/// The numbers of the nodes at which all of the items hold, increasing: of all nodes where the variations are searched, else of those of
-/// the main line.
+/// The numbers of the nodes at which all of the items hold, increasing. With variations all nodes are searched, else those of the main
+/// line.
 pub(crate) fn hits(alloc: Global, told: &QueryColumn) -> Result<Vec<u32>, NoMemory>
     ensures value { IfOk result (λ found. found.items
         ≡ hits_in (searched_tree told.now.game.now told.now.query.now.variations) (filters_tree told.now.query.now.items)) }
@@ -43,8 +43,8 @@ pub(crate) fn hits(alloc: Global, told: &QueryColumn) -> Result<Vec<u32>, NoMemo
     Ok(found)
 }
 
-/// One key for each sort item over the hits, the first item foremost: its greatest value there, or with `min` the least. Over no nodes
-/// there are no keys.
+/// One key for each sort item over the hits, the first item first: its greatest value there, or with `min` the least. Over no nodes there
+/// are no keys.
 pub(crate) fn keys(alloc: Global, told: &QueryColumn, nodes: &[u32]) -> Result<Vec<i64>, NoMemory>
     requires { nodes.now
         ≡ hits_in (searched_tree told.now.game.now told.now.query.now.variations) (filters_tree told.now.query.now.items) }
@@ -62,7 +62,7 @@ pub(crate) fn keys(alloc: Global, told: &QueryColumn, nodes: &[u32]) -> Result<V
     Ok(keys)
 }
 
-// Adds the key of an item, where it is a sort item.
+// Adds the key of an item, if it is a sort item.
 #[tactic(auto, unfolding(cql_syntax::specs::Meaning::value))]
 fn add_key(
     keys: &mut Vec<i64>,

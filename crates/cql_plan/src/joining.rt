@@ -1,4 +1,4 @@
-//! The form of a query that is asked: of families within families each member once.
+//! The form of a query that is evaluated: a family within families has each member once.
 ghost use Rattle.std.specs.Prelude.{◌≡◌, IfOk, OnOk};
 ghost use Rattle.cql_syntax.specs.Trees.{no_filters};
 ghost use Rattle.cql_syntax.specs.TreeOf.{filter_tree, filters_tree};
@@ -11,6 +11,10 @@ use cql_syntax::{Filter, Filters, FlatQuery, Form, Kind};
 use std::alloc::Global;
 
 /// A query with the same hits and keys, in which a family within families is one of their members, each once up to places.
+///
+/// # Errors
+///
+/// `NoMemory` if out of memory.
 pub fn join(alloc: Global, query: &FlatQuery) -> Result<FlatQuery, NoMemory>
     ensures variations { IfOk result (λ q. q.variations ≡ query.now.variations) }
     ensures hits { IfOk result (λ q. HaveSameHits (filters_tree query.now.items) (filters_tree q.items)) }
@@ -33,7 +37,7 @@ fn joined_all(alloc: Global, filters: &Filters) -> Result<Filters, NoMemory>
     Ok(made)
 }
 
-// What holds by its parts alone is looked into; every other filter is copied.
+// A filter whose truth depends on its parts alone is rebuilt from joined parts. Every other filter is copied.
 #[cycle(join)]
 fn joined_one(alloc: Global, f: &Filter) -> Result<Filter, NoMemory>
     ensures { IfOk result (λ g. StandsFor (filter_tree f.now) (filter_tree g)) }
@@ -96,7 +100,7 @@ fn gather(alloc: Global, kind: Kind, parts: &Filters, to: &mut Members) -> Resul
     Ok(())
 }
 
-// A part of the kind that has members itself gives these.
+// A part of the kind that has members itself is replaced by these.
 #[cycle(join)]
 fn gather_one(alloc: Global, kind: Kind, part: &Filter, to: &mut Members) -> Result<(), NoMemory>
     ensures { OnOk result (Gathers kind (filters_tree to.old.filters) (filters_tree to.new.filters) (alone (filter_tree part.now))) }

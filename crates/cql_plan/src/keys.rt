@@ -3,8 +3,7 @@ ghost use Rattle.std.specs.Prelude.{◌≡◌, ◌<◌, length, get_or, true, No
 ghost use Rattle.cql_plan.specs.RowKeys.{key_in};
 ghost use Rattle.cql_syntax.specs.Hits.{chosen as chosen_of};
 
-/// The greatest entry of a row at some nodes, or the least. That there are nodes, and that the row has an entry at each of them, are
-/// conditions.
+/// The greatest entry of a row at some nodes, or the least. There must be a node, and the row must have an entry at each of them.
 pub fn key_over(row: &[Option<i64>], least: bool, nodes: &[u32]) -> i64
     requires some { 0 < length nodes.now }
     requires values { All (λ n. is_some (get_or row.now n None) ≡ true) nodes.now }

@@ -1,4 +1,4 @@
-//! What a query needs of a game at worked rows, and that a game with a hit has it.
+//! The needs of a query, by worked rows, and the law that a game with a hit has them.
 ghost use Rattle.std.specs.Prelude.{◌≡◌, ◌≢◌, ◌<◌, ℕ, true, [], length};
 ghost use Rattle.cq_position.specs.Games.{Game, is_searched};
 ghost use Rattle.cq_position.specs.Search.{SearchedTree};
@@ -9,7 +9,7 @@ ghost use Rattle.cql_syntax.specs.Values.{holds};
 ghost use Rattle.cql_plan.specs.Needs.{passes, all_pass, query_passes};
 ghost use Rattle.cql_plan.specs.NeedsRows.{DesignatorRows, HeaderRows, PartRows, OtherRows};
 
-/// Which games pass the needs of small filters.
+/// The games that pass the needs of small filters.
 #[tactic(auto, using(crate::proofs::NeedsRows::designator_rows, crate::proofs::NeedsRows::header_rows, crate::proofs::NeedsRows::part_rows, crate::proofs::NeedsRows::other_rows))]
 pub fn needs_are_as_worked()
     ensures designators { DesignatorRows }

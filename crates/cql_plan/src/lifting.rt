@@ -1,4 +1,4 @@
-//! A family with parts that stand in each of its members alike: these are asked once, and of each member the rest.
+//! A family whose members have parts in common: these are evaluated once, and then the rest of each member.
 ghost use Rattle.std.specs.Prelude.{◌≡◌, true, take, IfOk, IfSome, OnOk};
 ghost use Rattle.cql_syntax.specs.Trees.{FilterTrees, filter_at, chain, any, with_filter};
 ghost use Rattle.cql_syntax.specs.TreeOf.{filter_tree, filters_in, filters_tree, filter_trees};
@@ -12,14 +12,14 @@ use cq_common::NoMemory;
 use cql_syntax::{Chain, Filter, Filters, Form, Kind};
 use std::alloc::Global;
 
-/// The parts of a member: those that stand in each member alike, and the rest.
+/// The parts of a member: those that each member has, and the rest.
 #[derive(Drop)]
 struct CommonAndRest {
     common: Filters,
     rest: Filters,
 }
 
-/// A filter that holds where some member holds.
+/// A filter that holds if some member holds.
 pub(crate) fn any_of(alloc: Global, at: u32, members: Filters) -> Result<Filter, NoMemory>
     ensures { IfOk result (λ g. StandsFor (filter_at at (any Position (filters_tree members))) (filter_tree g)) }
 {
@@ -32,7 +32,7 @@ pub(crate) fn any_of(alloc: Global, at: u32, members: Filters) -> Result<Filter,
     }
 }
 
-// The same, where something stands in each member alike, with that before the rests.
+// The common parts and then the rests, if the members have parts in common; else `None`.
 fn lifted(alloc: Global, at: u32, members: &Filters) -> Result<Option<Filter>, NoMemory>
     ensures { IfOk result (λ found. IfSome found (λ g.
         StandsFor (filter_at at (any Position (filters_tree members.now))) (filter_tree g))) }
@@ -89,7 +89,7 @@ fn add_copy(alloc: Global, filter: &Filter, to: &mut Filters) -> Result<(), NoMe
     Ok(())
 }
 
-// Whether a part stands in each member alike.
+// Returns true only if each member has the part.
 fn all_have(members: &Filters, part: &Filter) -> bool
     ensures { result ≡ true → AreCommon (filters_tree members.now) (alone (filter_tree part.now)) }
 {
@@ -110,7 +110,7 @@ fn has_part(member: &Filter, part: &Filter) -> bool
     }
 }
 
-// The common parts and any of the rests, where there are common parts.
+// The common parts and any of the rests, if there are common parts.
 fn before_rests(
     alloc: Global,
     at: u32,
@@ -143,7 +143,7 @@ fn before_rests(
     }))
 }
 
-// The rest of each member, of which that of the first is known.
+// The rest of each member, given that of the first.
 fn rests_of(
     alloc: Global,
     members: &Filters,

@@ -20,8 +20,12 @@ use std::sync::ledger::Ledger;
 
 /// The hits of the plan's query in a game, and its keys.
 ///
-/// A game that hasn't what the query needs is turned away by [`may_hold`], and takes no step. Else each searched node is a step, and so
-/// is each look at the atoms of a line: at most those that the flat items cost, where what is asked of a square counts 64 times.
+/// A game that fails the needs of the query ([`may_hold`]) takes no step. Else each searched node is a step, and so is each look at the
+/// atoms of a line. These looks are at most the cost of the flat items, in which the part of a `square` counts 64 times.
+///
+/// # Errors
+///
+/// `NoMemory` if out of memory.
 pub fn match_game<L: Ledger>(
     alloc: Global,
     plan: &Plan,

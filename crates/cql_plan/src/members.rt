@@ -12,10 +12,10 @@ use cql_rewrite::same_unplaced;
 use cql_syntax::{Filter, Filters};
 use std::alloc::Global;
 
-/// How many places a table has, a prime, so that every bit of a key counts.
+/// The number of places of a table, a prime, so that every bit of a key counts.
 const BUCKETS: u64 = 1021;
 
-/// Members, and the numbers of those at each place by their keys. That they stand there saves time, and nothing is told by it.
+/// Members, and the numbers of those at each place by their keys. The places save time, and no result depends on them.
 #[derive(Drop)]
 pub(crate) struct Members {
     pub(crate) filters: Filters,
@@ -28,7 +28,7 @@ struct MemberBucket {
     numbers: Vec<usize>,
 }
 
-/// No members.
+/// The empty table of members.
 pub(crate) fn no_members(alloc: Global) -> Result<Members, NoMemory>
     ensures { IfOk result (λ m. filters_tree m.filters ≡ no_filters) }
 {
@@ -44,7 +44,7 @@ pub(crate) fn no_members(alloc: Global) -> Result<Members, NoMemory>
     })
 }
 
-/// Adds a member, where none is there that is the same but for its places.
+/// Adds a member, unless there is one that is the same but for its places.
 pub(crate) fn add(to: &mut Members, member: Filter) -> Result<(), NoMemory>
     ensures { OnOk result ((kind : Kind) →
         Gathers kind (filters_tree to.old.filters) (filters_tree to.new.filters) (alone (filter_tree member))) }
@@ -60,7 +60,7 @@ pub(crate) fn add(to: &mut Members, member: Filter) -> Result<(), NoMemory>
     Ok(())
 }
 
-// Whether a member is known that is the same but for its places. Those of its place alone are looked at.
+// Returns true only if there is a member that is the same but for its places. Those with its key's place alone are looked at.
 fn is_known(members: &Members, at: usize, member: &Filter) -> bool
     ensures { result ≡ true → spec.has_like (filters_tree members.now.filters) (filter_tree member.now) ≡ true }
 {
@@ -75,7 +75,7 @@ fn is_known(members: &Members, at: usize, member: &Filter) -> bool
     false
 }
 
-/// Whether a filter is there that is the same but for its places.
+/// Returns true only if there is a filter that is the same but for its places.
 pub(crate) fn has_like(filters: &Filters, member: &Filter) -> bool
     ensures { result ≡ true → spec.has_like (filters_tree filters.now) (filter_tree member.now) ≡ true }
 {

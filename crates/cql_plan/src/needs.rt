@@ -1,4 +1,4 @@
-//! Whether a game has what a query needs.
+//! The needs of a query, tested on a game.
 ghost use Rattle.std.specs.Prelude.{◌≡◌, ◌<◌, ◌&&◌, length};
 ghost use Rattle.cq_position.specs.Games as games;
 ghost use Rattle.cq_position.specs.Games.{node_at};
@@ -16,8 +16,8 @@ use cql_values::walks::is_searched;
 use cql_values::words::has_man;
 use pgn_tree::Game;
 
-/// Whether a game has what each of the items of a query needs. Its positions are looked at only where men are needed, up to the first in
-/// which one of them stands, and no memory is taken.
+/// Returns true if a game has the needs of all items of a query. Its positions are looked at only if men are needed, each up to the
+/// first that has one of them. It allocates no memory.
 pub(crate) fn all_needed(items: &Filters, variations: bool, game: &Game) -> bool
     ensures { result ≡ spec.all_pass (searched_tree game.now variations) (filters_tree items.now) }
 {
@@ -25,7 +25,7 @@ pub(crate) fn all_needed(items: &Filters, variations: bool, game: &Game) -> bool
     all_pass(items, &look)
 }
 
-// A look at a game: its tags and result, and its searched positions.
+// A game under test: its tags and result, and its searched positions.
 #[derive(Drop)]
 struct GameUnderTest<'a> {
     game: &'a Game,
@@ -74,7 +74,7 @@ fn some_passes(filters: &Filters, look: &GameUnderTest) -> bool
     false
 }
 
-// Whether one of a designator's men stands somewhere, or the empty square is among them.
+// Returns true if one of a designator's men is on a square of some searched position, or the empty square is among them.
 fn one_stands(designator: &Designator, look: &GameUnderTest) -> bool
     ensures { result ≡ spec.designator_passes (searched_tree look.now.game.now look.now.variations) designator.now.men }
 {
@@ -84,10 +84,10 @@ fn one_stands(designator: &Designator, look: &GameUnderTest) -> bool
     some_stands(designator.men, look)
 }
 
-// How many men there are: the empty square is the last of the list.
+// The number of kinds of men. The empty square is after them in the list.
 const MAN_KINDS: usize = 12;
 
-// Whether one of some men stands in a searched position.
+// Returns true if one of some men is on a square of a searched position.
 fn some_stands(men: u16, look: &GameUnderTest) -> bool
     ensures { result ≡ spec.one_stands (searched_tree look.now.game.now look.now.variations) men }
 {
@@ -106,7 +106,7 @@ fn needed_stands(men: u16, man: Man, look: &GameUnderTest) -> bool
     has_man(men, man) && stands(man, look)
 }
 
-// Whether a man stands in a searched position. Those after the first in which it does are not looked at.
+// Returns true if a man is on a square of a searched position. Positions after the first that has it are not looked at.
 fn stands(man: Man, look: &GameUnderTest) -> bool
     ensures { result ≡ has_man_in (searched_tree look.now.game.now look.now.variations) (man_number man) }
 {

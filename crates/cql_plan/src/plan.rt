@@ -10,7 +10,7 @@ pub mod making;
 use cq_common::Shared;
 use cql_syntax::{FlatQuery, TypedQuery};
 
-/// A query, its flat form, which tells what it needs of a game, and the form that is asked, made once for many games.
+/// A query, its flat form, which gives the needs, and the form that is evaluated, made once for many games.
 #[derive(Drop)]
 pub struct Plan {
     query: TypedQuery,

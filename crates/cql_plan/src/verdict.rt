@@ -1,4 +1,4 @@
-//! What a query finds in a game.
+//! The result of a query in a game.
 ghost use Rattle.std.specs.Prelude.{◌≡◌, ◌≢◌, ◌+◌, ◌<◌, ◌≤◌, [], length, map, Some, All, AllPairs, IfOk, OnOk};
 ghost use Rattle.cq_position.specs.Search.{nodes_in};
 ghost use Rattle.cql_columns.specs.Costs.{filters_cost, searched_len};
@@ -15,7 +15,7 @@ use pgn_tree::Game;
 use std::alloc::Global;
 use std::sync::ledger::Ledger;
 
-/// The hits of a query in a game, and by what the game is sorted.
+/// The hits of a query in a game, and the sort keys of the game.
 #[derive(Drop, Debug)]
 pub struct Verdict {
     pub(crate) nodes: Vec<u32>,
@@ -32,7 +32,7 @@ impl Verdict {
         self.nodes.as_slice()
     }
 
-    /// The keys of the sort items over the hits, the first item foremost; none where there is no hit.
+    /// The keys of the sort items over the hits, the first item first; none if there is no hit.
     pub fn keys(&self) -> &[i64]
         ensures { result.now ≡ keys_of self.now }
     {
@@ -40,7 +40,7 @@ impl Verdict {
     }
 }
 
-/// What a flat query finds in a game.
+/// The result of a flat query in a game.
 pub(crate) fn find<L: Ledger>(
     alloc: Global,
     query: &FlatQuery,

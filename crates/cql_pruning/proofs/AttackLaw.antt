@@ -1,4 +1,4 @@
--- Squares that are tried one by one, where it is asked whether a man on the square attacks one of a designator.
+-- The test, square by square, that a man on the square attacks one of a designator.
 use Rattle.std.proofs.Common.{◌≡◌, ℕ, ◌<◌, Bool, true, false, not, ◌&&◌, ◌==◌, List, [], ◌∷◌, length, get_or, Option, None, Some, refl, sym, ap, ap₂, ◌∙◌, arith}
 use Rattle.std.specs.Prelude.{nat_lt, IfSome, if◌then◌else◌}
 use Rattle.std.proofs.lemmas.Bool.{lt-ltb}

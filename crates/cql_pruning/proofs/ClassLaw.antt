@@ -1,4 +1,4 @@
--- Filters that are asked class by class.
+-- Filters that are evaluated class by class.
 use Rattle.std.proofs.Common.{◌≡◌, ℕ, ◌+◌, ◌<◌, ◌≤◌, Bool, true, false, ◌&&◌, ◌||◌, not, List, [], ◌∷◌, ◌++◌, length, take, drop, get_or, refl, sym, ap, ap₂, ◌∙◌, subst, arith, nat_lt, nat_eq}
 use Rattle.std.specs.Prelude.{if◌then◌else◌}
 use Rattle.std.specs.List.{list_all, list_any}
@@ -27,7 +27,7 @@ pub and_assoc : (a b c : Bool) → ((a && b) && c) ≡ (a && (b && c))
 and_assoc true b c = refl
 and_assoc false b c = refl
 
--- what is left, and left of that
+-- the nodes left, and the nodes left of those
 pub is_left_begun : (tree : SearchedTree) (live left : List Bool) (test : ℕ → Bool) → IsNodeSet tree live → left ≡ live → ((n : ℕ) → test n ≡ true)
     → IsLeft tree live test left
 is_left_begun tree live left test asked is all = record {
@@ -45,7 +45,7 @@ is_left_then tree live left later s t u first second more = record {
 pub is_left_same : (tree : SearchedTree) (live left : List Bool) (s t : ℕ → Bool) → ((n : ℕ) → s n ≡ t n) → IsLeft tree live s left → IsLeft tree live t left
 is_left_same tree live left s t same is = record { asked = is.asked; each = λ n. is.each n ∙ ap (λ b. is_live live n && b) (same n) }
 
--- one filter, where it is taken and where it is not
+-- one filter, taken or not
 pub left_told : (taken : FilterTree → Bool) (tree : SearchedTree) (e : Names) (want : Bool) (f : FilterTree) (live left : List Bool) (c : FilterColumn)
     → taken f ≡ true → IsNodeSet tree live → Where live (λ n. holds (shown c n) ≡ holds (value tree [] e f n)) → IsNarrowed live c want left
     → IsLeft tree live (is_as_wanted_if taken tree e want f) left
@@ -165,7 +165,7 @@ so_all tree e want no_filters n = refl
 so_all tree e want (more_filters f fs) n =
     ap₂ (λ a b. (not a || is_as_wanted want (holds (value tree [] e f n))) && b) (class_low f) (so_all tree e want fs n)
 
--- none holds where each doesn't
+-- none holds if each doesn't
 pub so_no : (tree : SearchedTree) (e : Names) (fs : FilterTrees) (n : ℕ)
     → are_as_wanted (is_before 6) tree e false fs n ≡ not (list_any holds (values tree [] e fs n))
 so_no tree e fs n = so_all tree e false fs n ∙ none (values tree [] e fs n)
@@ -211,7 +211,7 @@ pub truth_left : (live left : List Bool) (s t : ℕ → Bool) (tree : SearchedTr
     → (n : ℕ) → is_live live n ≡ true → as_truth (get_or left n false) ≡ as_truth (t n)
 truth_left live left s t tree is same n l = ap as_truth (is.each n ∙ ap (λ b. b && s n) l ∙ same n)
 
--- what the classes cost
+-- the cost of the classes
 cost_step : (taken : FilterTree → Bool) (nodes : ℕ) (x : Filter) (xs : List Filter)
     → cost_of taken nodes (filter_trees (x ∷ xs)) ≡ cost_if taken nodes (filter_tree x) + cost_of taken nodes (filter_trees xs)
 unfolding cost_of

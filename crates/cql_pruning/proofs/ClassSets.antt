@@ -65,7 +65,7 @@ among_more xs i f classes c low is own had k e =
         (λ other. ne_eqb (filter_class (filter_tree f)) k other)
         (cases_eq (filter_class (filter_tree f)) k)
 
--- of a class of which there is no filter nothing is asked
+-- no filter of an absent class is evaluated
 none_asked : (tree : SearchedTree) (e : Names) (want : Bool) (k : ℕ) (xs : List Filter) (n : ℕ) → list_any (λ f. is_of k (filter_tree f)) xs ≡ false
     → are_as_wanted (is_of k) tree e want (filter_trees xs) n ≡ true
 unfolding are_as_wanted

@@ -1,4 +1,4 @@
--- With which squares a form of filter may hold.
+-- The squares with which a form of filter may hold.
 use Rattle.std.proofs.Common.{◌≡◌, ◌⊎◌, ⊎_elim, ℕ, ◌<◌, ◌==◌, ◌&&◌, not, nat_lt, Bool, true, false, List, [], ◌∷◌, Option, Some, None, length, take, drop, ◌++◌, refl, sym, ap, ap₂, ◌∙◌, subst, arith}
 use Rattle.std.specs.Prelude.{if◌then◌else◌}
 use Rattle.std.specs.List.{list_any, list_all, filter}
@@ -30,7 +30,7 @@ use Rattle.cql_pruning.proofs.IndependenceLaw.{all_at, some_there}
 use Rattle.cql_pruning.proofs.MoveLaw.{move_value, origin_of, goal_of, taken_of, promoted_of}
 use Rattle.cql_pruning.proofs.Placing.{Placed}
 
--- what squares of a name are tried with: a searched tree, the nodes at which it is asked, the names that are open, and what is bound to others
+-- the context in which squares of a name are tried: a searched tree, the live nodes, the open names, and the bindings of others
 pub record Tried : Type 0 where
   pub tree : SearchedTree
   pub live : List Bool
@@ -132,7 +132,7 @@ yes_both false b e f = cc
 related_has : (test : ℕ → ℕ → Bool) (x y : Value) (s : ℕ) → has (related test x y) s ≡ true → has x s ≡ true
 related_has test x y s h = first_true (has x s) (list_any (λ t. has y t && test s t) squares) (second_true (nat_lt s 64) (has x s && list_any (λ t. has y t && test s t) squares) h)
 
--- a filter asks which squares of one set attack some of another, or are attacked from there
+-- the squares of one set that attack some of another, or are attacked from there
 pub record IsAttack (f : FilterTree) (p : Pair) (a b : FilterTree) : Type 0 where
   pub at : ℕ
   pub is : f ≡ filter_at at (pair p a b)
@@ -171,7 +171,7 @@ turned_has test x y s only h =
     (some_square (λ t. has x t && test t b.k) a.k a_low
     (yes_both (has x a.k) (test a.k b.k) (first_true (has x a.k) (list_any (λ u. has y u && test a.k u) squares) there) (second_true (has y b.k) (test a.k b.k) b.passes)))))
 
--- one is the other asked the other way round
+-- one attack is the converse of the other
 pub record AreTurned (p back : Pair) : Type 0 where
   pub attacks : p ≡ Attacks → back ≡ AttackedBy
   pub attacked : p ≡ AttackedBy → back ≡ Attacks
@@ -217,7 +217,7 @@ own_meets tree given w e m s q own binds met = by q (sym (ap (λ x. meets (writt
 some_is : (a b : ℕ) → ◌≡◌ {A = Option ℕ} (Some a) (Some b) → a ≡ b
 some_is a b e = cc
 
--- what is asked of three parts of a move is met by no square but one, as far as each is so
+-- as far as each is such a part, no square but one meets the three parts of a move
 record MeetOnly (a b c : Option Value) (origin goal taken : Bool) (s : ℕ) : Type 0 where
   from_origin : origin ≡ true → (q : Option ℕ) → meets a q ≡ true → q ≡ Some s
   from_goal : goal ≡ true → (q : Option ℕ) → meets b q ≡ true → q ≡ Some s

@@ -98,7 +98,7 @@ cases : (b : Bool) → (b ≡ true) ⊎ (b ≡ false)
 cases true = inl refl
 cases false = inr refl
 
--- where there are no squares none can be lost
+-- if there are no squares none can be lost
 pub cut_wide : (tree : SearchedTree) (live some : List Bool) (P : ℕ → ℕ → Type 0) (old new : List ℕ) → HasSome tree live old some → AreCut some P old new → AreCut live P old new
 cut_wide tree live some P old new has is = record {
   count = is.count;

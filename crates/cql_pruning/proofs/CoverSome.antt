@@ -1,4 +1,4 @@
--- Squares of sets that are added where one of several filters may hold.
+-- Squares of sets that are added if one of several filters may hold.
 use Rattle.std.proofs.Common.{◌≡◌, ⊎_elim, ℕ, zero, suc, ◌+◌, ◌<◌, ◌≤◌, ◌||◌, Bool, true, false, List, [], ◌∷◌, length, get_or, refl, sym, ap, ◌∙◌, subst, arith}
 use Rattle.std.specs.Prelude.{slice_set, bit_or}
 use Rattle.std.specs.List.{list_any}
@@ -93,7 +93,7 @@ added_more t x sets old now later had added = record {
     filter_default (y ∷ ys) zero f g h = refl
     filter_default (y ∷ ys) (suc j) f g h = filter_default ys j f g (omega (arith, h))
 
--- where some filter holds one of them does
+-- if the disjunction holds, one of its filters does
 record HoldsIn (tree : SearchedTree) (e : Names) (n : ℕ) (xs : List Filter) : Type 0 where
   i : ℕ
   f : Filter

@@ -1,4 +1,4 @@
--- Filters in which no name of a list stands, and filters that give no square but that of a name.
+-- Filters that have no name of a list, and filters that give no square but that of a name.
 use Rattle.std.proofs.Common.{◌≡◌, ◌⊎◌, ⊎_elim, ℕ, zero, suc, ◌<◌, ◌==◌, ◌&&◌, Bool, true, false, List, [], ◌∷◌, length, get_or, refl, sym, ap, ap₂, ◌∙◌, arith}
 use Rattle.std.specs.Prelude.{if◌then◌else◌, ◌||◌, nat_lt}
 use Rattle.std.specs.List.{list_any, list_all}
@@ -108,7 +108,7 @@ intersection_own given xs k f h is own = own_within given (λ tree e n. intersec
     (λ tree e n t. nat_lt t 64 && list_all (λ x. has x t) (values tree [] e (filter_trees xs) n)) (λ tree e n. refl)
     (λ tree e n t all. all_at tree e n (λ x. has x t) xs k f h is (both_right (nat_lt t 64) (list_all (λ x. has x t) (values tree [] e (filter_trees xs) n)) all)) own
 
--- what is so related to another set
+-- the squares of a set that are so related to another set
 pub related_own : (given : List ℕ) (test : SearchedTree → ℕ → ℕ → ℕ → Bool) (v w : SearchedTree → Names → ℕ → Value) → GivesOnlyName given v → GivesOnlyName given (λ tree e n. related (test tree n) (v tree e n) (w tree e n))
 related_own given test v w own = own_within given (λ tree e n. related (test tree n) (v tree e n) (w tree e n)) v
     (λ tree e n t. nat_lt t 64 && (has (v tree e n) t && list_any (λ u. has (w tree e n) u && test tree n t u) squares)) (λ tree e n. refl)

@@ -1,4 +1,4 @@
--- What is asked of a move, part by part.
+-- The parts of a filter of moves, one by one.
 use Rattle.std.proofs.Common.{◌≡◌, ℕ, ◌+◌, ◌&&◌, ◌||◌, not, Bool, true, false, List, [], Option, Some, None, option_map, refl, sym, ap, ap₂, ◌∙◌, subst}
 use Rattle.std.specs.Prelude.{is_some, if◌then◌else◌}
 use Rattle.std.specs.declared.alloc.Global.{Global}
@@ -62,7 +62,7 @@ move_is tree e p live parts goal are is n l =
     (are.taken n l) (are.promoted n l)
     ∙ sym (move_value tree e p n))
 
--- what isn't a promotion meets nothing that asks for one
+-- a move that isn't a promotion doesn't meet a promotion part
 all_fail : (a b c d : Bool) → d ≡ false → (a && b && c && d) ≡ false
 all_fail a b c true e = cc
 all_fail true true true false e = refl
@@ -86,7 +86,7 @@ unpromoted nodes (Some m) None away a b c x = refl
 unpromoted nodes (Some m) (Some p) away a b c x =
     if_unmet m.null (record { origin = m.from; goal = m.to; taken = taken_square (node_at nodes p).position m; promoted = not (is_none m.promotion) }) away a b c x
 
--- where a promotion is asked for no other move holds
+-- with a promotion part no other move holds
 pub only_promoted : (tree : SearchedTree) (e : Names) (p : Played) (n : ℕ) → is_some (out-Played p).promoted ≡ true → is_promotion (node_at tree.game.nodes n).led_by ≡ false
     → played_value tree [] e (played_tree p) n ≡ false
 unfolding value
@@ -103,7 +103,7 @@ left_out false true false is away = (refl, refl)
 left_out false true true is away = cc
 left_out false false promoted is away = cc
 
--- what holds is found among the nodes that are looked at
+-- a truth that holds is found among the nodes that are looked at
 pub met_is : (tree : SearchedTree) (e : Names) (p : Played) (live some : List Bool) (wanted met : Bool) (n : ℕ) → wanted ≡ is_some (out-Played p).promoted
     → ArePromoting tree wanted live some → is_live live n ≡ true → (is_live some n ≡ true → as_truth met ≡ as_truth (played_value tree [] e (played_tree p) n))
     → as_truth (is_live some n && met) ≡ as_truth (played_value tree [] e (played_tree p) n)

@@ -1,4 +1,4 @@
--- Squares that are tried one by one, where the move is asked whether it went to the square.
+-- The test, square by square, that the move went to the square.
 use Rattle.std.proofs.Common.{◌≡◌, ◌⊎◌, ⊎_elim, ℕ, ◌<◌, ◌^◌, ◌==◌, ◌&&◌, ◌||◌, not, nat_lt, Bool, true, false, List, [], ◌∷◌, Option, Some, None, refl, sym, ap, ap₂, ◌∙◌, subst}
 use Rattle.std.specs.List.{list_any, filter}
 use Rattle.std.specs.Prelude.{is_some}
@@ -107,7 +107,7 @@ name_part : (tree : SearchedTree) (given : List ℕ) (e : Names) (w : WrittenTre
 unfolding value
 name_part tree given e w s n own = ap (λ x. written_value tree [] ((given, s) ∷ e) x n) own.is ∙ ap Some (own.own.each tree e s n)
 
--- whether the move to a node is as it is asked for, with a square bound to the name
+-- true if the move to a node meets the filter, with a square bound to the name
 abbrev pub went : Binding → Played → ℕ → ℕ → Bool
 went b p n s = played_value (tree_in b.scope.now) [] ((b.name.now, s) ∷ b.scope.now.names.now) (played_tree p) n
 
@@ -151,7 +151,7 @@ none_of p (x ∷ xs) away = ap (λ b. b || list_any p xs) (away x) ∙ none_of p
 none_asked : (x : Value) (asked : ℕ → Bool) → ((s : ℕ) → asked s ≡ false) → as_truth false ≡ square_of false x asked
 none_asked x asked away = ap as_truth (sym (none_of asked (filter (has x) squares) away))
 
--- at a node that is asked for, whether or not it is looked at
+-- at a live node, looked at or not
 pub goal_met_is : (b : Binding) (p : Played) (live some : List Bool) (set n : ℕ) (parts : PartColumns) → AsksGoal ((b.name.now, 0) ∷ []) b.name.now p
     → ArePromoting (tree_in b.scope.now) (is_some (out-Played p).promoted) live some → (is_live some n ≡ true → is_in set ≡ has (shown b.squares.now n))
     → ArePartColumns (tree_in b.scope.now) b.scope.now.names.now p some parts → is_live live n ≡ true

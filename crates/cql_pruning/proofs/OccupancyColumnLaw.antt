@@ -1,4 +1,4 @@
--- Filters that are asked by where it is told that the men stand that they name.
+-- Filters that are evaluated from the gathered squares of the men that they name.
 use Rattle.std.proofs.Common.{◌≡◌, ◌⊎◌, ⊎_elim, ℕ, ◌+◌, ◌-◌, ◌^◌, ◌<◌, ◌≤◌, ◌&&◌, Bool, true, false, nat_lt, List, [], ◌∷◌, Some, length, take, get_or, refl, sym, ap, ap₂, ◌∙◌, subst}
 use Rattle.std.specs.Prelude.{bit_and, Option, IfSome}
 use Rattle.std.specs.List.{list_all}
@@ -49,7 +49,7 @@ on_squares men d set is = same_any (is_in (bit_and set d.part.squares)) (λ s. n
         in_both set d.part.squares s ∙ ap (λ b. b && is_in d.part.squares s) stands ∙ and_swaps (is_in d.men (man_number (man_at men s))) (is_in d.part.squares s)
         ∙ sym (ap (λ a. a && (is_in d.part.squares s && is_in d.men (man_number (man_at men s)))) board)
 
--- the sets of one of these, where it is told of just these men
+-- the sets of one of these, gathered for exactly these men
 pub sets_told : (tree : SearchedTree) (live : List Bool) (occupancies : List Occupancy) (k : ℕ) (ever : Occupancy) (men : ℕ) (sets : List ℕ) → k < length occupancies → ever ≡ get_or occupancies k ever
     → ever.men ≡ men → sets ≡ ever.sets.items → AreOccupancies tree live occupancies → AreSets sets live (λ n. standing_of (position_at tree n).men (Some (men_on_any_square men)))
 sets_told tree live occupancies k ever men sets low is same given are = λ n l.
@@ -58,7 +58,7 @@ sets_told tree live occupancies k ever men sets low is same given are = λ n l.
     told : IsOccupancy tree live ever
     told = subst (IsOccupancy tree live) (sym is) (are k ever low)
 
--- tests that agree at the nodes that are asked for
+-- tests that agree at the live nodes
 pub kept_same : (s t : ℕ → Bool) (live left : List Bool) → Where live (λ n. s n ≡ t n) → AreKept s live left → AreKept t live left
 kept_same s t live left same kept = record { count = kept.count; each = λ n. kept.each n ∙ by (is_live live n) (s n) (t n) (same n) }
   where
@@ -110,7 +110,7 @@ pub all_kept : (occupancies : List Occupancy) (xs : List Filter) (k : ℕ) (live
 all_kept occupancies xs k live left end had = λ tree e are.
     subst (λ ys. AreKept (λ n. list_all holds (values tree [] e (filter_trees ys) n)) live left) (take_whole xs k end) (had.kept tree e are)
 
--- what is left of the nodes that are asked for is where they hold
+-- the nodes left are the live nodes at which they hold
 pub kept_there : (test : ℕ → Bool) (live left : List Bool) → AreKept test live left → Where live (λ n. is_live left n ≡ test n)
 kept_there test live left kept = λ n l. kept.each n ∙ ap (λ a. a && test n) l
 
@@ -128,7 +128,7 @@ pub one_holds : (tree : SearchedTree) (e : Names) (n : ℕ) (f : Filter) (xs : L
 unfolding value
 one_holds tree e n f xs is = ap (λ ys. list_all holds (values tree [] e (filter_trees ys) n)) is ∙ sym (and_true (holds (value tree [] e (filter_tree f) n)))
 
--- a column that is told shows where a filter holds that they stand for
+-- a column that is found shows the nodes at which the filter holds
 pub told_there : (tree : SearchedTree) (e : Names) (live : List Bool) (occupancies : List Occupancy) (xs : List Filter) (f : FilterTree) (told : Option FilterColumn) (c : FilterColumn)
     → told ≡ Some c
     → IfSome told (λ k. (t : SearchedTree) (names : Names) → AreOccupancies t live occupancies

@@ -1,4 +1,4 @@
--- Filters that hold at none of a game's nodes that are asked for.
+-- Filters that hold at none of the live nodes of a game.
 use Rattle.std.proofs.Common.{◌≡◌, ◌⊎◌, ⊎_elim, ℕ, ◌+◌, ◌-◌, ◌^◌, ◌<◌, ◌&&◌, ◌||◌, not, nat_lt, Bool, true, false, List, [], ◌∷◌, ◌++◌, Some, zero, suc, get_or, take, drop, length, refl, sym, ap, ◌∙◌, subst, arith}
 use Rattle.std.specs.Prelude.{bit_and}
 use Rattle.std.specs.List.{list_all}
@@ -33,7 +33,7 @@ never : (b : Bool) → (b ≡ true → ⊥) → b ≡ false
 never true f = absurd (f refl)
 never false f = refl
 
--- a man of the designator on a square of it stands on one of the squares on which these men ever stand
+-- a man of the designator on a square of it is on one of the squares gathered for these men
 pub nowhere : (men : List Man) (d : Designator) (squares : ℕ) → ((s : ℕ) → has (standing_of men (Some (men_on_any_square d.men))) s ≡ true → is_in squares s ≡ true)
     → bit_and squares d.part.squares ≡ 0 → holds (standing_of men (Some d)) ≡ false
 nowhere men d squares ever none = never (holds (standing_of men (Some d))) (λ h. let found = square_found (has (standing_of men (Some d))) h in on found.k (omega (arith, found.high)) found.passes)
@@ -103,7 +103,7 @@ pub ever_later : (tree : SearchedTree) (left given later : List Bool) (test : �
 ever_later tree left given later test occupancies len count is asked are = subst (λ l. AreOccupancies tree l occupancies) (sym (written len later left count))
     (ever_fewer tree given later test occupancies asked (subst (λ l. AreOccupancies tree l occupancies) (sym is) are))
 
--- all of some hold nowhere, where one of them does
+-- some filters together hold nowhere if one of them does
 pub one_fails : (tree : SearchedTree) (e : Names) (n : ℕ) (xs : List Filter) (i : ℕ) (f : Filter) → i < length xs → f ≡ get_or xs i f → holds (value tree [] e (filter_tree f) n) ≡ false
     → list_all holds (values tree [] e (filter_trees xs) n) ≡ false
 unfolding value
@@ -117,7 +117,7 @@ one_fails tree e n (x ∷ xs) (suc i) f low is fails =
     and_false true = refl
     and_false false = refl
 
--- what holds nowhere takes no node away
+-- a filter that holds nowhere removes no node
 pub left_unasked : (taken : FilterTree → Bool) (tree : SearchedTree) (e : Names) (f : FilterTree) (live : List Bool) → IsNodeSet tree live → HoldsNowhere tree live e f
     → IsLeft tree live (is_as_wanted_if taken tree e false f) live
 left_unasked taken tree e f live asked nowhere = record {

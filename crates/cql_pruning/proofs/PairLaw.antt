@@ -1,4 +1,4 @@
--- Squares that stand in a relation of attack to the square of another name, of which a set is known that has it.
+-- Squares in a relation of attack to the square of another name, which is in a known set.
 use Rattle.std.proofs.Common.{◌≡◌, ◌⊎◌, ⊎_elim, ℕ, ◌<◌, ◌==◌, ◌&&◌, nat_lt, Bool, true, false, List, [], ◌∷◌, refl, sym, ap, ◌∙◌, subst, arith}
 use Rattle.std.specs.Prelude.{if◌then◌else◌}
 use Rattle.std.specs.List.{list_any, list_all}
@@ -32,7 +32,7 @@ use Rattle.cql_pruning.proofs.Placing.{Placed}
 abbrev pub tree_of : PairTrial → SearchedTree
 tree_of p = tree_in p.scope.now
 
--- where one thing holds another does
+-- if one value holds, another does
 pub pair_as : (p : PairTrial) (v w : Names → ℕ → Value) (old new : List ℕ) → ((e : Names) (n : ℕ) → holds (v e n) ≡ true → holds (w e n) ≡ true)
     → LeavesPaired p w old new → LeavesPaired p v old new
 pair_as p v w old new from = cut_as p.live.now (MayPair p.name.now p.other.now (shown p.column.now) v) (MayPair p.name.now p.other.now (shown p.column.now) w) old new
@@ -99,7 +99,7 @@ paired_third p text b every old new some first second cut v =
       holds_there = second_true (has (v m.inner n) found.0) (holds (value (tree_of p) [] ((text, found.0) ∷ m.inner) b n)) found.1;
     }) cut
 
--- what is so related to a set is so related to a set that has more
+-- a value so related to a set is so related to any larger set
 related_more : (test : ℕ → ℕ → Bool) (x y v : Value) (s : ℕ) → ((u : ℕ) → has y u ≡ true → has v u ≡ true) → has (related test x y) s ≡ true → has (related test x v) s ≡ true
 related_more test x y v s more h =
     let rest = second_true (nat_lt s 64) (has x s && list_any (λ u. has y u && test s u) squares) h in

@@ -1,4 +1,4 @@
--- In what order filters are asked: class by class, by their outermost form, a guess at what they cost.
+-- The order in which filters are evaluated: by classes, which depend on the outermost form as a guess at the cost.
 use Rattle.std.specs.Prelude.{◌≡◌, ℕ, ◌+◌, ◌&&◌, ◌||◌, ◌==◌, nat_lt, not, Bool, true, false, List, [], if◌then◌else◌}
 use Rattle.std.specs.List.{list_any}
 use Rattle.cq_position.specs.Search.{SearchedTree}
@@ -11,7 +11,7 @@ use Rattle.cql_syntax.specs.declared.tree.Filter.{Filter}
 use Rattle.cql_columns.specs.Columns.{is_live, is_as_wanted, IsNodeSet}
 use Rattle.cql_columns.specs.Costs.{filter_cost}
 
--- 0 what is the same at all nodes, 1 words and designators, 2 what has parts, 3 lines, 4 squares that are tried one by one, 5 sort items
+-- 0 is the same at all nodes, 1 words and designators, 2 filters with parts, 3 lines, 4 squares that are tried one by one, 5 sort items
 unfoldable pub form_class : FormTree → ℕ
 form_class (number k) = 0
 form_class (name text) = 0
@@ -37,18 +37,18 @@ form_class (sort least text f) = 5
 abbrev pub filter_class : FilterTree → ℕ
 filter_class (filter_at at f) = form_class f
 
--- it is of a class, or of one before it
+-- the filter is of the class, or of one before it
 abbrev pub is_of : ℕ → FilterTree → Bool
 is_of class f = filter_class f == class
 
 abbrev pub is_before : ℕ → FilterTree → Bool
 is_before class f = nat_lt (filter_class f) class
 
--- bit k of a set is set where one of the filters is of class k
+-- bit k of a set is set if one of the filters is of class k
 abbrev pub CoverClasses : ℕ → List Filter → Type 0
 CoverClasses classes fs = (k : ℕ) → is_in classes k ≡ false → list_any (λ f. is_of k (filter_tree f)) fs ≡ false
 
--- a filter that passes a test holds or, where `want` is false, doesn't; of others nothing is asked
+-- each filter that passes a test holds or, if `want` is false, doesn't; others may do either
 abbrev pub is_as_wanted_if : (FilterTree → Bool) → SearchedTree → Names → Bool → FilterTree → ℕ → Bool
 is_as_wanted_if taken tree e want f n = not (taken f) || is_as_wanted want (holds (value tree [] e f n))
 
@@ -56,7 +56,7 @@ unfoldable pub are_as_wanted : (FilterTree → Bool) → SearchedTree → Names 
 are_as_wanted taken tree e want no_filters n = true
 are_as_wanted taken tree e want (more_filters f fs) n = is_as_wanted_if taken tree e want f n && are_as_wanted taken tree e want fs n
 
--- what the filters cost that are taken
+-- the cost of the filters that pass a test
 abbrev pub cost_if : (FilterTree → Bool) → ℕ → FilterTree → ℕ
 cost_if taken searched f = if taken f then filter_cost searched f else 0
 
@@ -64,7 +64,7 @@ unfoldable pub cost_of : (FilterTree → Bool) → ℕ → FilterTrees → ℕ
 cost_of taken searched no_filters = 0
 cost_of taken searched (more_filters f fs) = cost_if taken searched f + cost_of taken searched fs
 
--- of a game's nodes that are asked for those that pass a test
+-- the live nodes of a game that pass a test
 pub record IsLeft (tree : SearchedTree) (live : List Bool) (test : ℕ → Bool) (left : List Bool) : Type 0 where
   pub asked : IsNodeSet tree left
   pub each : (n : ℕ) → is_live left n ≡ (is_live live n && test n)

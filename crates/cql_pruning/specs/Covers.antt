@@ -1,4 +1,4 @@
--- Squares that are candidates for a name: those at which what is asked may hold.
+-- Candidate squares of a name: those with which a filter may hold.
 use Rattle.std.specs.Prelude.{◌≡◌, ℕ, ◌<◌, ◌==◌, ◌&&◌, not, [], Bool, true, false, List, Option, Some, option_map, length, get_or}
 use Rattle.cq_position.specs.Led.{PlainLed}
 use Rattle.cq_position.specs.Search.{SearchedTree}
@@ -16,11 +16,11 @@ use Rattle.cql_columns.specs.Costs.{filter_cost, filters_cost, played_cost, writ
 abbrev pub is_open : Names → List ℕ → Bool
 is_open opened text = holds (squares_where (is_bound_to opened text))
 
--- two lists bind alike all names that are not opened
+-- two lists have the same bindings of all names that are not opened
 pub record Agree (opened inner outer : Names) : Type 0 where
   pub each : (text : List ℕ) → is_open opened text ≡ false → (t : ℕ) → is_bound_to inner text t ≡ is_bound_to outer text t
 
--- it has the same values whatever is bound to the opened names, and takes no steps
+-- a filter, filters or a part have the same values whatever is bound to the opened names, and take no steps
 pub record IsIndependent (opened : Names) (f : FilterTree) : Type 0 where
   pub each : (tree : SearchedTree) (inner outer : Names) (n : ℕ)
       → Agree opened inner outer → value tree [] inner f n ≡ value tree [] outer f n
@@ -41,29 +41,29 @@ pub record IsIndependentPart (opened : Names) (w : WrittenTree) : Type 0 where
       → Agree opened inner outer → written_value tree [] inner w n ≡ written_value tree [] outer w n
   pub cost : (nodes : ℕ) → written_cost nodes w ≡ 0
 
--- a name is bound to this square
+-- the name is bound to this square
 abbrev pub Binds : Names → List ℕ → ℕ → Type 0
 Binds e name s = (t : ℕ) → is_bound_to e name t ≡ (s == t)
 
--- with a square bound to a name these values have no other square, and hold only where they have it
+-- with a square bound to a name these values have no other square, and hold only if they have it
 pub record GivesOnlyName (name : List ℕ) (v : SearchedTree → Names → ℕ → Value) : Type 0 where
   pub only : (tree : SearchedTree) (e : Names) (n s t : ℕ) → Binds e name s → has (v tree e n) t ≡ true → s ≡ t
   pub some : (tree : SearchedTree) (e : Names) (n s : ℕ)
       → Binds e name s → holds (v tree e n) ≡ true → has (v tree e n) s ≡ true
 
--- a part of a move is written, and with a square bound to a name it has no other, and holds only where it has that one
+-- the part of a move is written; with a square bound to a name it has no other square, and holds only if it has that one
 pub record PartGivesOnlyName (name : List ℕ) (w : WrittenTree) : Type 0 where
   pub part : FilterTree
   pub is : w ≡ written part
   pub own : GivesOnlyName name (λ tree e n. value tree [] e part n)
 
--- of the sets of squares at the nodes some squares are left: at the nodes that are asked for all of which this is true
+-- some squares are removed from the sets at the nodes; at live nodes all squares with P stay
 pub record AreCut (live : List Bool) (P : ℕ → ℕ → Type 0) (old new : List ℕ) : Type 0 where
   pub count : length new ≡ length old
   pub within : (n s : ℕ) → is_in (get_or new n 0) s ≡ true → is_in (get_or old n 0) s ≡ true
   pub keeps : (n s : ℕ) → is_live live n ≡ true → P n s → is_in (get_or old n 0) s ≡ true → is_in (get_or new n 0) s ≡ true
 
--- with a name bound to this square, and with something bound to the other opened names, it holds, or has the square
+-- with the name bound to this square and some binding of the other opened names, the filter holds, or has the square
 pub record MayHold (opened outer : Names) (name : List ℕ) (v : Names → ℕ → Value) (n s : ℕ) : Type 0 where
   pub inner : Names
   pub agree : Agree opened inner outer
@@ -76,7 +76,7 @@ pub record MayHave (opened outer : Names) (name : List ℕ) (v : Names → ℕ �
   pub binds : Binds inner name s
   pub has_there : has (v inner n) s ≡ true
 
--- with a name bound to this square, and another name to one that the values have, it holds
+-- with the name bound to this square, and the other name to a square of the values, the filter holds
 pub record MayPair (name other : List ℕ) (x : ℕ → Value) (v : Names → ℕ → Value) (n s : ℕ) : Type 0 where
   pub inner : Names
   pub binds : Binds inner name s
@@ -85,19 +85,19 @@ pub record MayPair (name other : List ℕ) (x : ℕ → Value) (v : Names → �
   pub has_other : has (x n) t ≡ true
   pub holds_there : holds (v inner n) ≡ true
 
--- to the sets are added those squares of others of which this is true at the nodes that are asked for
+-- the squares with P of other sets are added to the sets at the live nodes
 pub record AreAdded (live : List Bool) (P : ℕ → ℕ → Type 0) (sets old new : List ℕ) : Type 0 where
   pub count : length new ≡ length old
   pub grows : (n s : ℕ) → is_in (get_or old n 0) s ≡ true → is_in (get_or new n 0) s ≡ true
   pub adds : (n s : ℕ) → is_live live n ≡ true → P n s → is_in (get_or sets n 0) s ≡ true → is_in (get_or new n 0) s ≡ true
 
--- to each of the sets are added the squares of another
+-- the squares of other sets are added to the sets
 pub record AreJoined (more old new : List ℕ) : Type 0 where
   pub count : length new ≡ length old
   pub grows : (n s : ℕ) → is_in (get_or old n 0) s ≡ true → is_in (get_or new n 0) s ≡ true
   pub adds : (n s : ℕ) → n < length old → is_in (get_or more n 0) s ≡ true → is_in (get_or new n 0) s ≡ true
 
--- one set, of which some squares are left
+-- one set, from which some squares are removed
 pub record IsCut (asked : Bool) (Q : ℕ → Type 0) (old new : ℕ) : Type 0 where
   pub within : (s : ℕ) → is_in new s ≡ true → is_in old s ≡ true
   pub keeps : (s : ℕ) → asked ≡ true → Q s → is_in old s ≡ true → is_in new s ≡ true
@@ -107,7 +107,7 @@ pub record AreSetsOf (v : ℕ → Value) (live : List Bool) (sets : List ℕ) : 
   pub count : length sets ≡ length live
   pub each : (n : ℕ) → is_live live n ≡ true → is_in (get_or sets n 0) ≡ has (v n)
 
--- squares among which are those at the nodes of a set
+-- a set that has all squares of the sets at the live nodes
 pub record AreAmong (live : List Bool) (sets : List ℕ) (among : ℕ) : Type 0 where
   pub each : (n s : ℕ) → is_live live n ≡ true → is_in (get_or sets n 0) s ≡ true → is_in among s ≡ true
 
@@ -116,7 +116,7 @@ pub record AreUniform (live : List Bool) (set : ℕ) (sets : List ℕ) : Type 0 
   pub count : length sets ≡ length live
   pub each : (n : ℕ) → is_live live n ≡ true → get_or sets n 0 ≡ set
 
--- a square is the one that a move came from, the one that it went to, and the one on which it took a man, as far as each is asked for
+-- the square is the origin of a move, its goal, and the square on which it took a man, as far as each flag is set
 pub record IsOfMove (l : Option PlainLed) (origin goal taken : Bool) (s : ℕ) : Type 0 where
   pub led : PlainLed
   pub is : l ≡ Some led
@@ -124,7 +124,7 @@ pub record IsOfMove (l : Option PlainLed) (origin goal taken : Bool) (s : ℕ) :
   pub at_goal : goal ≡ true → led.goal ≡ s
   pub at_taken : taken ≡ true → led.taken ≡ Some s
 
--- where a part of a move is met, with whatever is bound to the opened names, the column meets it too
+-- at each live node at which the part of a move is met, under some binding of the opened names, the column is met too
 pub record IsNecessaryPart (tree : SearchedTree) (opened outer : Names) (w : WrittenTree) (live : List Bool)
     (c : Option FilterColumn) : Type 0 where
   pub each : (n : ℕ) (inner : Names) → is_live live n ≡ true → Agree opened inner outer
@@ -135,12 +135,12 @@ pub record HasSome (tree : SearchedTree) (live : List Bool) (sets : List ℕ) (s
   pub asked : IsNodeSet tree some
   pub each : (n : ℕ) → is_live some n ≡ (is_live live n && not (get_or sets n 0 == 0))
 
--- what the pair gives of some first value and of this one has the square
+-- the pair of some first value and of this one has the square
 pub record IsRelatedSquare (men : List Man) (pair : Pair) (y : Value) (s : ℕ) : Type 0 where
   pub first : Value
   pub has_there : has (pair_of men pair first y) s ≡ true
 
--- of the squares of values at the nodes those with which something may hold
+-- some squares of values at the nodes, among them all with which the filter may hold
 pub record AreWorthTrying (v : ℕ → Value) (live : List Bool) (asked : ℕ → ℕ → Bool) (sets : List ℕ) : Type 0 where
   pub within : (n s : ℕ) → is_live live n ≡ true → is_in (get_or sets n 0) s ≡ true → has (v n) s ≡ true
   pub keeps : (n s : ℕ) → is_live live n ≡ true → s < 64 → asked n s ≡ true → has (v n) s ≡ true

@@ -1,4 +1,4 @@
--- Filters that ask whether a man on the square of a name attacks a man of a designator.
+-- Filters that test if a man on the square of a name attacks a man of a designator.
 use Rattle.std.specs.Prelude.{◌≡◌, ℕ, ◌<◌, ◌∷◌, [], ◌&&◌, ◌==◌, List, Some}
 use Rattle.std.specs.List.{list_any}
 use Rattle.cq_geometry.specs.Squares.{squares}
@@ -9,21 +9,21 @@ use Rattle.cql_syntax.specs.Trees.{FilterTree, FilterTrees, more_filters, no_fil
 use Rattle.cql_syntax.specs.Values.{holds, has, squares_where}
 use Rattle.cql_syntax.specs.declared.leaves.Designator.{Designator}
 
--- with a square bound to the name the filter holds where a man on that square attacks one of the designator's
+-- with a square bound to the name the filter holds exactly if a man on that square attacks one of the designator's
 pub record AsksAttack (name : List ℕ) (d : Designator) (f : FilterTree) : Type 0 where
   pub each : (tree : SearchedTree) (e : Names) (s n : ℕ) → s < 64 → holds (value tree [] ((name, s) ∷ e) f n)
       ≡ list_any (λ t. has (standing_of (position_at tree n).men (Some d)) t && attacks (position_at tree n).men s t) squares
 
--- there is one filter alone, and it is so of it
+-- the list has one filter alone, with the property P
 pub record IsOnly (P : FilterTree → Type 0) (fs : FilterTrees) : Type 0 where
   pub only : FilterTree
   pub are : fs ≡ more_filters only no_filters
   pub is : P only
 
--- it gives the square that is bound to the name
+-- the filter gives the square that is bound to the name
 pub record IsName (name : List ℕ) (f : FilterTree) : Type 0 where
   pub each : (tree : SearchedTree) (e : Names) (s n : ℕ) → value tree [] ((name, s) ∷ e) f n ≡ squares_where (λ t. s == t)
 
--- it gives the squares on which a man of the designator stands
+-- the filter gives the squares on which men of the designator are
 pub record IsDesignated (d : Designator) (f : FilterTree) : Type 0 where
   pub each : (tree : SearchedTree) (e : Names) (n : ℕ) → value tree [] e f n ≡ standing_of (position_at tree n).men (Some d)

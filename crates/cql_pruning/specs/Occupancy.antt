@@ -1,4 +1,4 @@
--- Filters that hold at none of a game's nodes that are asked for, since men that they ask for never stand on a square that they name.
+-- Filters that hold at none of the live nodes of a game, since their men are never on their squares.
 use Rattle.std.specs.Prelude.{◌≡◌, ℕ, ◌-◌, ◌^◌, Bool, false, List, [], Some, All}
 use Rattle.cq_position.specs.Search.{SearchedTree}
 use Rattle.cql_syntax.specs.Meaning.{Names, value, position_at, standing_of}
@@ -13,7 +13,7 @@ use Rattle.cql_pruning.specs.declared.ever_standing.Occupancy.{Occupancy}
 abbrev pub men_on_any_square : ℕ → Designator
 men_on_any_square men = record { men = men; part = record { squares = 2 ^ 64 - 1; whole_ranks = false; whole_files = false } }
 
--- squares among which are all on which these men stand at the nodes that are asked for, and those on which they stand at each
+-- a set with all squares of these men at the live nodes, and the sets of their squares at each
 pub record IsOccupancy (tree : SearchedTree) (live : List Bool) (e : Occupancy) : Type 0 where
   pub among : CoverSquares (λ n. standing_of (position_at tree n).men (Some (men_on_any_square e.men))) live e.squares
   pub sets : AreSets e.sets.items live (λ n. standing_of (position_at tree n).men (Some (men_on_any_square e.men)))
@@ -21,10 +21,10 @@ pub record IsOccupancy (tree : SearchedTree) (live : List Bool) (e : Occupancy) 
 abbrev pub AreOccupancies : SearchedTree → List Bool → List Occupancy → Type 0
 AreOccupancies tree live occupancies = All (IsOccupancy tree live) occupancies
 
--- none of a designator's men, its empty square among them, stands on its squares at the nodes that are asked for
+-- none of a designator's men, nor its empty square, is on its squares at the live nodes
 abbrev pub StandsNowhere : SearchedTree → List Bool → Designator → Type 0
 StandsNowhere tree live d = Where live (λ n. holds (standing_of (position_at tree n).men (Some d)) ≡ false)
 
--- a filter holds at none of them
+-- a filter holds at none of the live nodes
 abbrev pub HoldsNowhere : SearchedTree → List Bool → Names → FilterTree → Type 0
 HoldsNowhere tree live e f = Where live (λ n. holds (value tree [] e f n) ≡ false)

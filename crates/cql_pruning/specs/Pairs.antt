@@ -6,6 +6,6 @@ use Rattle.cql_columns.specs.Columns.{shown}
 use Rattle.cql_pruning.specs.Covers.{AreCut, MayPair}
 use Rattle.cql_pruning.specs.declared.pairs.PairTrial.{PairTrial}
 
--- of the sets of squares some are left, among them all squares of the one name with which values may hold
+-- some squares are removed from the sets, none of the one name's with which values may hold
 abbrev pub LeavesPaired : PairTrial → (Names → ℕ → Value) → List ℕ → List ℕ → Type 0
 LeavesPaired p v old new = AreCut p.live.now (MayPair p.name.now p.other.now (shown p.column.now) v) old new

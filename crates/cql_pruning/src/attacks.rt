@@ -1,16 +1,16 @@
-//! Filters that ask of some square whether a man on it attacks one of a designator.
+//! Filters that test if a man on some square attacks one of a designator.
 ghost use Rattle.std.specs.Prelude.{◌≡◌, true, false, IfSome};
 ghost use Rattle.cql_syntax.specs.TreeOf.{filter_tree, filter_trees};
 ghost use Rattle.cql_pruning.specs.NameAttacks.{AsksAttack, IsOnly, IsName, IsDesignated};
 
 use cql_syntax::{Chain, Designator, Filter, Form, Pair};
 
-/// Whether nothing else is asked than that a man on the square that is bound to a name attacks one of a designator's squares.
+/// Returns true only if a filter tests nothing but an attack: a man on the square bound to the name attacks one of a designator's squares.
 pub fn is_attack_alone(name: &[u8], asked: &Filter) -> bool {
     attacked_part(false, name, asked).is_some()
 }
 
-/// The designator, where it is asked of some square whether a man on it attacks one of the designator's squares.
+/// Returns the designator if the filter tests, for some square, an attack of a man on it on one of the designator's squares.
 pub fn attacked_part<'a>(every: bool, name: &[u8], asked: &'a Filter) -> Option<&'a Designator>
     ensures some { IfSome result (λ d. every ≡ false) }
     ensures each { IfSome result (λ d. AsksAttack name.now d.now (filter_tree asked.now)) }
@@ -43,7 +43,7 @@ fn attacked_by_pair<'a>(name: &[u8], asked: &'a Filter) -> Option<&'a Designator
     }
 }
 
-/// Whether a filter is a name.
+/// Returns true if a filter is the name.
 pub fn is_name(name: &[u8], filter: &Filter) -> bool
     ensures { result ≡ true → IsName name.now (filter_tree filter.now) }
 {

@@ -1,4 +1,4 @@
-//! Designators that are answered from lists of the squares on which their men stand, without a look at a position.
+//! Designators that are evaluated from lists of the squares of their men, without a look at a position.
 ghost use Rattle.std.specs.Prelude.{◌≡◌, ◌&&◌, ℕ, Bool, List, [], length, true, get_or, bit_and, Some, IfOk, IfSome};
 ghost use Rattle.std.specs.List.{list_all};
 ghost use Rattle.cq_position.specs.Search.{SearchedTree};
@@ -21,7 +21,7 @@ use cql_values::value::Value;
 use std::alloc::Global;
 use std::slice::from_ref;
 
-/// Filters that all hold just where this one does.
+/// Filters that all hold exactly if this one does.
 #[tactic(auto, using(crate::proofs::OccupancyColumnLaw::one_holds))]
 pub fn conjuncts(filter: &Filter) -> &[Filter]
     ensures { (tree : SearchedTree) (e : Names) (n : ℕ) → list_all holds (values tree [] e (filter_trees result.now) n)
@@ -33,7 +33,11 @@ pub fn conjuncts(filter: &Filter) -> &[Filter]
     }
 }
 
-/// Where filters all hold, if each is a designator of men whose squares were gathered; else `None`.
+/// Returns the nodes at which all filters hold, if each is a designator of men whose squares were gathered; else `None`.
+///
+/// # Errors
+///
+/// `NoMemory` if out of memory.
 pub fn occupancy_column(
     alloc: Global,
     image_scope: &ImageScope,
@@ -55,7 +59,8 @@ pub fn occupancy_column(
     }
 }
 
-// Leaves the nodes of a set at which filters all hold; false where that isn't told, and the set is of no use.
+// Keeps the nodes of a set at which all filters hold. If it returns false, the squares of some men were not gathered, and the set has no
+// use.
 fn keep_all(held: &mut [bool], occupancies: &[Occupancy], parts: &[Filter]) -> bool
     ensures len { length held.new ≡ length held.old }
     ensures kept { result ≡ true → (tree : SearchedTree) (e : Names) → AreOccupancies tree held.old occupancies.now
@@ -94,7 +99,7 @@ fn keep_men(held: &mut [bool], occupancies: &[Occupancy], d: &Designator) -> boo
     }
 }
 
-// The squares of these men at each node, if it is told where just these stand.
+// The squares of exactly these men at each node, if they were gathered.
 fn sets_of(occupancies: &[Occupancy], men: u16) -> Option<&[u64]>
     ensures { IfSome result (λ sets. (tree : SearchedTree) (live : List Bool) → AreOccupancies tree live occupancies.now
         → AreSets sets.now live (λ n. standing_of (position_at tree n).men (Some (men_on_any_square men)))) }
@@ -107,7 +112,7 @@ fn sets_of(occupancies: &[Occupancy], men: u16) -> Option<&[u64]>
     None
 }
 
-// Leaves the nodes at which one of the squares is in a set.
+// Keeps the nodes at which one of the squares is in a set.
 fn keep_meeting(held: &mut [bool], sets: &[u64], squares: u64)
     ensures { AreKept (λ n. holds (as_value (Set (bit_and (get_or sets.now n 0) squares)))) held.old held.new }
 {

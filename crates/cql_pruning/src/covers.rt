@@ -1,4 +1,4 @@
-//! Sets of squares, one at each node, of which some squares are left.
+//! Sets of squares, one a node, from which squares are removed.
 ghost use Rattle.std.specs.Prelude.{◌≡◌, ◌⊎◌, ◌&&◌, ◌==◌, ◌<◌, ℕ, not, true, Some, bit_or, get_or, length, IfOk};
 ghost use Rattle.std.specs.List.{list_any};
 ghost use Rattle.cq_position.specs.Games.{IsTree, node_at};
@@ -23,7 +23,11 @@ use cql_values::value::Value;
 use pgn_tree::Game;
 use std::alloc::Global;
 
-/// The sets of a column at the nodes of a set.
+/// The sets of a column at the live nodes.
+///
+/// # Errors
+///
+/// `NoMemory` if out of memory.
 pub fn sets_of(alloc: Global, live: &[bool], squares: &FilterColumn) -> Result<Vec<u64>, NoMemory>
     ensures { IfOk result (λ sets. AreSetsOf (shown squares.now) live.now sets.items) }
 {
@@ -40,14 +44,18 @@ fn set_if(asked: bool, squares: &FilterColumn, n: usize) -> u64
     if asked { squares.at(n).squares() } else { 0 }
 }
 
-/// Whether there are squares in some set.
+/// Returns true if some set has a square.
 pub fn any_left(sets: &[u64]) -> bool
     ensures { result ≡ list_any (λ set. not (set == 0)) sets.now }
 {
     sets.iter().any(|set| *set != 0)
 }
 
-/// The same sets.
+/// A copy of sets.
+///
+/// # Errors
+///
+/// `NoMemory` if out of memory.
 pub fn same_sets(alloc: Global, sets: &[u64]) -> Result<Vec<u64>, NoMemory>
     ensures { IfOk result (λ copy. copy.items ≡ sets.now) }
 {
@@ -71,7 +79,7 @@ fn joined(set: u64, more: &[u64], n: usize) -> u64
     set | set_at(more, n)
 }
 
-/// Squares among which are those at the nodes of a set.
+/// A set that has all squares of the sets at the live nodes.
 pub fn any_squares(live: &[bool], sets: &[u64]) -> u64
     ensures { AreAmong live.now sets.now result }
 {
@@ -88,7 +96,11 @@ fn set_where(asked: bool, sets: &[u64], n: usize) -> u64
     if asked { set_at(sets, n) } else { 0 }
 }
 
-/// The same squares at each node of a set.
+/// The same squares at each live node.
+///
+/// # Errors
+///
+/// `NoMemory` if out of memory.
 pub fn uniform_sets(alloc: Global, live: &[bool], set: u64) -> Result<Vec<u64>, NoMemory>
     ensures { IfOk result (λ sets. AreUniform live.now set sets.items) }
 {
@@ -105,7 +117,11 @@ fn given_if(asked: bool, set: u64) -> u64
     if asked { set } else { 0 }
 }
 
-/// The nodes of a set at which there are squares.
+/// The live nodes at which there are squares.
+///
+/// # Errors
+///
+/// `NoMemory` if out of memory.
 pub fn with_squares(
     alloc: Global,
     scope: &Scope,
@@ -128,7 +144,7 @@ fn keep_some(left: &mut [bool], sets: &[u64])
     }
 }
 
-/// Leaves the squares that a column has.
+/// Keeps the squares that a column has.
 pub fn cut(sets: &mut [u64], live: &[bool], column: &FilterColumn)
     requires { length sets.old ≡ length live.now }
     ensures { AreCut live.now (λ n s. spec.has (shown column.now n) s ≡ true) sets.old sets.new }
@@ -148,7 +164,7 @@ fn cut_one(set: u64, asked: bool, column: &FilterColumn, n: usize) -> u64
     }
 }
 
-/// Leaves no squares where a column doesn't hold.
+/// Removes all squares at the nodes at which a column doesn't hold.
 pub fn cut_where_fails(sets: &mut [u64], live: &[bool], column: &FilterColumn)
     requires { length sets.old ≡ length live.now }
     ensures { AreCut live.now (λ n s. spec.holds (shown column.now n) ≡ true) sets.old sets.new }
@@ -168,7 +184,7 @@ fn kept_where_holds(set: u64, asked: bool, column: &FilterColumn, n: usize) -> u
     }
 }
 
-/// Leaves the squares that stand in a relation of attack to a column.
+/// Keeps the squares that are in a relation of attack to a column.
 pub fn cut_related(
     sets: &mut [u64],
     live: &[bool],
@@ -211,7 +227,7 @@ fn related_one(set: u64, asked: bool, game: &Game, pair: Pair, column: &FilterCo
     }
 }
 
-/// Leaves the squares of the moves to the nodes.
+/// Keeps the squares of the moves to the nodes.
 pub fn cut_moves(
     sets: &mut [u64],
     live: &[bool],

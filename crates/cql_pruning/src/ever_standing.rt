@@ -1,4 +1,4 @@
-//! Filters that hold nowhere in a game, since men that they ask for never stand on a square that they name.
+//! Filters that hold nowhere in a game, since their men are never on their squares.
 ghost use Rattle.std.specs.Prelude.{◌≡◌, Bool, List, [], false, true, get_or, IfOk, OnOk};
 ghost use Rattle.cq_position.specs.Search.{SearchedTree};
 ghost use Rattle.cql_syntax.specs.Meaning.{Names, values};
@@ -20,25 +20,25 @@ use cql_columns::standing_squares::standing_sets;
 use cql_syntax::{Designator, Filter, Filters, Form};
 use std::alloc::Global;
 
-/// Where some men stand at the nodes that are asked for.
+/// The squares of some men at the live nodes.
 #[derive(Drop)]
 pub struct Occupancy {
     /// Bit k is man k.
     pub men: u16,
-    /// Squares among which are all on which they stand at one of the nodes.
+    /// All squares on which they are at one of the nodes, and perhaps more.
     squares: u64,
     /// Their squares at each node.
     pub sets: Vec<u64>,
 }
 
-/// How filters are asked.
+/// The conditions under which filters are evaluated.
 #[derive(Clone, Copy)]
 pub struct ImageScope<'a> {
-    /// Whether each must hold, or each must not.
+    /// True if each filter must hold, false if each must not.
     pub want: bool,
-    /// Where men stand that they ask for, as far as that is known.
+    /// The squares of men of the filters, as far as they were gathered.
     pub occupancies: &'a [Occupancy],
-    /// Of which classes there are filters: bit k is class k.
+    /// The classes of the filters: bit k is class k.
     pub classes: u32,
 }
 
@@ -48,11 +48,15 @@ const MOST_SETS_OF_MEN: usize = 8;
 // The least number of filters for which gathering pays.
 const MANY_FILTERS: usize = 8;
 
-// The most filters whose men are gathered: further ones mostly name the same men.
+// The most filters whose men are gathered. Further ones mostly name the same men.
 const SAMPLED_FILTERS: usize = 16;
 
-/// Gathers the squares of men that some filters or their parts name, at each of the nodes and at any. Nothing is gathered for few filters,
-/// or where all must hold.
+/// Gathers the squares of men that some filters or their parts name, at each live node and over all of them. Nothing is gathered for few
+/// filters, or if all must hold.
+///
+/// # Errors
+///
+/// `NoMemory` if out of memory.
 pub fn occupancies_of(
     alloc: Global,
     want: bool,
@@ -71,7 +75,7 @@ pub fn occupancies_of(
     Ok(occupancies)
 }
 
-// Of some of the filters, evenly from the first to the last.
+// Adds the squares for some of the filters, evenly from the first to the last.
 fn add_some(
     alloc: Global,
     filters: &[Filter],
@@ -97,7 +101,7 @@ fn add_some(
     Ok(())
 }
 
-// Of the filter with a number, if there is one.
+// Adds the squares for the filter with a number, if there is one.
 fn add_at(
     alloc: Global,
     filters: &[Filter],
@@ -178,13 +182,8 @@ fn is_known(occupancies: &[Occupancy], men: u16) -> bool {
     occupancies.iter().any(|ever| ever.men == men)
 }
 
-// Where these men stand.
-fn occupancy_of(
-    alloc: Global,
-    men: u16,
-    scope: &Scope,
-    live: &[bool],
-) -> Result<Occupancy, NoMemory>
+// The squares of these men at the live nodes.
+fn occupancy_of(alloc: Global, men: u16, scope: &Scope, live: &[bool]) -> Result<Occupancy, NoMemory>
     requires asked { IsNodeSet (tree_in scope.now) live.now }
     ensures { IfOk result (IsOccupancy (tree_in scope.now) live.now) }
 {
@@ -194,7 +193,7 @@ fn occupancy_of(
     Ok(Occupancy { men, squares, sets })
 }
 
-// Squares among which are those of the sets at the nodes that are asked for.
+// All squares of the sets at the live nodes, and perhaps more.
 fn squares_in(live: &[bool], sets: &[u64]) -> u64
     ensures { CoverSquares (λ n. as_value (Set (get_or sets.now n 0))) live.now result }
 {
@@ -218,7 +217,7 @@ fn on_any_square(men: u16) -> Designator
     }
 }
 
-/// Whether filters must not hold, and this one holds nowhere.
+/// Returns true only if filters must not hold, and this one holds nowhere.
 pub fn fails_everywhere(image_scope: &ImageScope, filter: &Filter) -> bool
     ensures want { result ≡ true → image_scope.now.want ≡ false }
     ensures nowhere { result ≡ true → (tree : SearchedTree) (live : List Bool) (e : Names) → AreOccupancies tree live image_scope.now.occupancies.now
@@ -227,8 +226,8 @@ pub fn fails_everywhere(image_scope: &ImageScope, filter: &Filter) -> bool
     !image_scope.want && holds_nowhere(image_scope.occupancies, filter)
 }
 
-// True only where a filter holds at none of the nodes that are asked for. Designators are looked at, and braces and `and` with one that
-// stands nowhere; other forms give false.
+// Returns true only if a filter holds at none of the live nodes. It looks into designators, braces, and `and` with a part that holds
+// nowhere. Other forms give false.
 #[cycle(holds_nowhere)]
 #[tactic(auto, unfolding(cql_syntax::specs::Meaning::value, cql_syntax::specs::Contexts::designator_image))]
 fn holds_nowhere(occupancies: &[Occupancy], filter: &Filter) -> bool
@@ -242,7 +241,7 @@ fn holds_nowhere(occupancies: &[Occupancy], filter: &Filter) -> bool
     }
 }
 
-// Whether one of some filters holds nowhere, so that they hold nowhere together.
+// Returns true only if one of some filters holds nowhere, so that they hold nowhere together.
 #[cycle(holds_nowhere)]
 fn one_nowhere(occupancies: &[Occupancy], parts: &Filters) -> bool
     ensures { result ≡ true → (tree : SearchedTree) (live : List Bool) (e : Names) → AreOccupancies tree live occupancies.now
@@ -267,7 +266,7 @@ fn stands_nowhere(occupancies: &[Occupancy], d: &Designator) -> bool
     false
 }
 
-// Whether the squares of just these men were gathered, and the designator names none of them.
+// Returns true if the squares of exactly these men were gathered, and the designator names none of them.
 fn is_without(ever: &Occupancy, d: &Designator) -> bool
     ensures { result ≡ true → (tree : SearchedTree) (live : List Bool) → IsOccupancy tree live ever.now → StandsNowhere tree live d.now }
 {

@@ -1,4 +1,4 @@
-//! Filters in which names don't stand, and filters that give no square but that of a name.
+//! Filters that are independent of names, and filters that give no square but that of a name.
 ghost use Rattle.std.specs.Prelude.{◌≡◌, ◌⊎◌, ◌∷◌, [], true, false, IfOk};
 ghost use Rattle.std.specs.Str.{bytes_eq};
 ghost use Rattle.cql_syntax.specs.Meaning as meaning;
@@ -14,8 +14,8 @@ use cql_syntax::{Chain, Filter, Filters, Form, Pair, Played};
 use cql_values::names::Names;
 use std::alloc::Global;
 
-/// True only where no line, and none of these names, stands in a filter so that it could change its value or its steps. Forms that aren't
-/// looked into give false.
+/// Returns true only if the filter has no line, and none of these names in a place that could change its value or its steps. Forms that it
+/// doesn't look into give false.
 #[cycle(is_independent)]
 #[tactic(auto, unfolding(cql_syntax::specs::Meaning::value, cql_syntax::specs::Contexts::designator_image, cql_columns::specs::Costs::filter_cost))]
 pub fn is_independent(opened: &Names, f: &Filter) -> bool
@@ -61,7 +61,7 @@ fn is_independent_move(opened: &Names, played: &Played) -> bool
         && is_independent_part(opened, &played.promoted)
 }
 
-/// Whether no name of these stands in a part, if it is written.
+/// Returns true only if a part is not written, or is independent of these names.
 #[cycle(is_independent)]
 #[tactic(auto, unfolding(cql_syntax::specs::Meaning::value, cql_columns::specs::Costs::filter_cost))]
 pub fn is_independent_part(opened: &Names, part: &Option<Box<Filter>>) -> bool
@@ -73,14 +73,14 @@ pub fn is_independent_part(opened: &Names, part: &Option<Box<Filter>>) -> bool
     }
 }
 
-/// Whether a part is written, and no name of these stands in it.
+/// Returns true only if a part is written and independent of these names.
 pub fn is_independent_and_written(opened: &Names, part: &Option<Box<Filter>>) -> bool
     ensures { result ≡ true → IsIndependentPart opened.now (written_tree part.now) }
 {
     part.is_some() && is_independent_part(opened, part)
 }
 
-/// Whether a filter gives no square but the one that is bound to a name.
+/// Returns true only if a filter gives no square but the one that is bound to a name.
 #[cycle(gives_only_name)]
 #[tactic(auto, unfolding(cql_syntax::specs::Meaning::value))]
 pub fn gives_only_name(name: &[u8], f: &Filter) -> bool
@@ -106,7 +106,7 @@ fn some_gives_only_name(name: &[u8], parts: &Filters) -> bool
     false
 }
 
-/// Whether a chain is of the squares that sets have in common.
+/// Returns true only if a chain is the intersection of sets.
 pub fn is_intersection(chain: Chain) -> bool
     ensures { result ≡ true → chain ≡ Intersect }
 {
@@ -116,7 +116,7 @@ pub fn is_intersection(chain: Chain) -> bool
     }
 }
 
-/// Whether a pair asks which squares of the first set attack the second, or are attacked by it.
+/// Returns true only if a pair gives the squares of one set that attack the other set or are attacked by it.
 pub fn is_attack(pair: Pair) -> bool
     ensures { result ≡ true → (pair ≡ Attacks) ⊎ (pair ≡ AttackedBy) }
 {
@@ -126,7 +126,7 @@ pub fn is_attack(pair: Pair) -> bool
     }
 }
 
-/// Whether all filters of a chain must hold.
+/// Returns true only for a conjunction: all filters of the chain must hold.
 pub fn is_all(chain: Chain) -> bool
     ensures { result ≡ true → (chain ≡ And) ⊎ (chain ≡ All) }
 {
@@ -136,7 +136,7 @@ pub fn is_all(chain: Chain) -> bool
     }
 }
 
-/// Whether one filter of a chain must hold.
+/// Returns true only for a disjunction: one filter of the chain must hold.
 pub fn is_or(chain: Chain) -> bool
     ensures { result ≡ true → chain ≡ Or }
 {
@@ -146,7 +146,7 @@ pub fn is_or(chain: Chain) -> bool
     }
 }
 
-/// Whether a part is written, and gives no square but the one that is bound to a name.
+/// Returns true only if a part is written, and gives no square but the one that is bound to a name.
 pub fn part_gives_only_name(name: &[u8], part: &Option<Box<Filter>>) -> bool
     ensures { result ≡ true → PartGivesOnlyName name.now (written_tree part.now) }
 {
@@ -156,7 +156,7 @@ pub fn part_gives_only_name(name: &[u8], part: &Option<Box<Filter>>) -> bool
     }
 }
 
-/// Whether some square is asked for, under a name that differs from another.
+/// Returns true only if a `square` filter is about some square, not every one, and its name differs from another.
 pub fn is_other(every: bool, inner: &[u8], name: &[u8]) -> bool
     ensures some { result ≡ true → every ≡ false }
     ensures other { result ≡ true → bytes_eq inner.now name.now ≡ false }
@@ -164,7 +164,11 @@ pub fn is_other(every: bool, inner: &[u8], name: &[u8]) -> bool
     !every && inner != name
 }
 
-/// A name alone, bound to some square.
+/// A list of a name alone, bound to some square.
+///
+/// # Errors
+///
+/// `NoMemory` if out of memory.
 pub fn only_name(alloc: Global, name: &[u8]) -> Result<Names, NoMemory>
     ensures { IfOk result (λ opened. opened ≡ (name.now, 0) ∷ []) }
 {
@@ -173,7 +177,7 @@ pub fn only_name(alloc: Global, name: &[u8]) -> Result<Names, NoMemory>
     Ok(opened)
 }
 
-/// How the second of two sets stands to the first.
+/// The relation of the second of two sets to the first.
 pub fn converse(pair: Pair) -> Pair
     ensures attack { (result ≡ Attacks) ⊎ (result ≡ AttackedBy) }
     ensures attacks { pair ≡ Attacks → result ≡ AttackedBy }

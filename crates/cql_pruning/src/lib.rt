@@ -1,7 +1,8 @@
-//! What is read off a filter before its parts are asked, so that they are asked of less: which squares a name can stand for, which filters
-//! hold nowhere, in what order filters are asked, which moves are looked at.
+//! Analysis of a filter before its parts are evaluated, so that they are evaluated at fewer nodes and squares. It finds the squares that a
+//! name can have, the filters that hold nowhere, the order of evaluation, and the moves to look at.
 //!
-//! `cql_columns/specs/Columns` has what a column promises. `cql_eval` stands on this.
+//! The live nodes are those at which a filter is evaluated. `cql_columns/specs/Columns` has the promise of a column. `cql_eval` builds on
+//! this crate.
 #![tactic(auto)]
 
 pub mod attacks;

@@ -1,4 +1,4 @@
-//! Squares that are tried one by one, where the move is asked whether it went to the square: all at once.
+//! Squares of a name as the goal of a move: all squares are tried at once, not one by one.
 ghost use Rattle.std.specs.Prelude.{◌≡◌, ◌&&◌, ℕ, ◌<◌, length, get_or, true, false, IfOk};
 ghost use Rattle.cq_position.specs.Games.{IsTree};
 ghost use Rattle.cql_syntax.specs.TreeOf.{written_tree};
@@ -17,7 +17,7 @@ use cql_values::names::Names;
 use cql_values::value::Value;
 use std::alloc::Global;
 
-/// Whether of the move it is asked that it went to the square of a name, and nothing else in which an open name stands.
+/// Returns true only if the goal of the move is the square of a name, and no other part has an open name.
 pub fn asks_goal(opened: &Names, name: &[u8], played: &Played) -> bool
     ensures { result ≡ true → AsksGoal opened.now name.now played.now }
 {
@@ -36,7 +36,11 @@ fn is_name_part(name: &[u8], part: &Option<Box<Filter>>) -> bool
     }
 }
 
-/// Whether a node is of a set, and the move to it is as columns ask and went to a square of the node's set.
+/// Returns the nodes of a set whose move meets the columns and went to a square of the node's set.
+///
+/// # Errors
+///
+/// `NoMemory` if out of memory.
 pub fn moves_to(
     alloc: Global,
     scope: &Scope,

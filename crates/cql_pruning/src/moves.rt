@@ -1,4 +1,4 @@
-//! Whether the moves to nodes are as columns ask.
+//! Moves to nodes, compared with the columns of their parts.
 ghost use Rattle.std.specs.Prelude.{◌≡◌, ℕ, ◌<◌, ◌&&◌, length, get_or, false, option_map, Option, IfOk};
 ghost use Rattle.cq_position.specs.Games.{IsTree, node_at};
 ghost use Rattle.cql_values.specs.ValueModel.{as_value};
@@ -18,7 +18,11 @@ use cql_values::value::Value;
 use pgn_tree::Game;
 use std::alloc::Global;
 
-/// The nodes of a set; where only promotions are wanted, those to which a promotion led.
+/// Returns the nodes of a set or, if `wanted`, those of them to which a promotion led.
+///
+/// # Errors
+///
+/// `NoMemory` if out of memory.
 pub fn promoting(
     alloc: Global,
     scope: &Scope,
@@ -35,7 +39,7 @@ pub fn promoting(
     Ok(some)
 }
 
-// Leaves those nodes of a set to which a promotion led.
+// Keeps those nodes of a set to which a promotion led.
 fn keep_promotions(left: &mut [bool], game: &Game)
     requires { length left.old ≡ length game.now.nodes }
     ensures { AreKept (λ n. is_promotion (node_at game.now.nodes n).led_by) left.old left.new }
@@ -58,7 +62,7 @@ fn is_promoted(asked: bool, game: &Game, n: u32) -> bool
     }
 }
 
-/// The columns of the parts of a move, its goal aside: None of a part of which nothing is asked.
+/// The columns of the parts of a move, without its goal: `None` for a part that is not written.
 #[derive(Drop)]
 pub struct PartColumns {
     pub origin: Option<FilterColumn>,
@@ -66,7 +70,11 @@ pub struct PartColumns {
     pub promoted: Option<FilterColumn>,
 }
 
-/// Whether a node is of a set, and the move to it is as columns ask in each part that is written.
+/// Returns the nodes of a set whose move meets the columns of each part that is written.
+///
+/// # Errors
+///
+/// `NoMemory` if out of memory.
 pub fn moves_met(
     alloc: Global,
     scope: &Scope,
@@ -104,8 +112,8 @@ fn is_met(
     meets_parts(scope, parts, goal, n)
 }
 
-/// Whether the move to a node is as the columns of its parts ask, and its goal is met. Where it came from and what it took is asked at the
-/// node before.
+/// Returns true if the move to a node meets the columns of its parts, and its goal is met. Its origin and the man it took are evaluated at
+/// the node before.
 pub fn meets_parts(scope: &Scope, parts: &PartColumns, goal: Option<Value>, n: u32) -> bool
     requires tree { IsTree scope.now.game.now.nodes }
     requires node { n < length scope.now.game.now.nodes }

@@ -1,4 +1,4 @@
-//! In what order filters are asked.
+//! The order in which filters are evaluated.
 ghost use Rattle.std.specs.Prelude.{◌≡◌, false};
 ghost use Rattle.cq_symmetry.specs.Images.{is_in};
 ghost use Rattle.cql_syntax.specs.TreeOf.{filter_tree};
@@ -6,14 +6,14 @@ ghost use Rattle.cql_pruning.specs.Classes.{filter_class, is_of, CoverClasses};
 
 use cql_syntax::{Filter, Form};
 
-/// How many classes of filters there are.
+/// The number of classes of filters.
 pub const CLASSES: u32 = 6;
 
 /// The class of the sort items, the last.
 pub const SORTS: u32 = 5;
 
-/// The class of a filter, by its outermost form, a guess at what it costs: what is the same at all nodes, words and designators, what
-/// has parts, lines, squares that are tried one by one, sort items.
+/// The class of a filter by its outermost form, as a guess at its cost. The classes are, in this order: the same at all nodes, words and
+/// designators, filters with parts, lines, squares that are tried one by one, sort items.
 #[tactic(auto, unfolding(crate::specs::Classes::form_class))]
 pub fn class_of(filter: &Filter) -> u32
     ensures { result ≡ filter_class (filter_tree filter.now) }
@@ -30,14 +30,14 @@ pub fn class_of(filter: &Filter) -> u32
     }
 }
 
-/// Whether a filter is of a class.
+/// Returns true if a filter is of a class.
 pub fn is_of_class(filter: &Filter, class: u32) -> bool
     ensures { result ≡ is_of class (filter_tree filter.now) }
 {
     class_of(filter) == class
 }
 
-/// The classes of some filters: bit k is set where one of them is of class k.
+/// The classes of some filters: bit k is set if one of them is of class k.
 pub fn classes_of(filters: &[Filter]) -> u32
     ensures { CoverClasses result filters.now }
 {
@@ -48,7 +48,7 @@ pub fn classes_of(filters: &[Filter]) -> u32
     classes
 }
 
-/// False only where none of the classes is this one.
+/// Returns false only if none of the classes is this one.
 pub fn may_have(classes: u32, class: u32) -> bool
     ensures { result ≡ false → is_in classes class ≡ false }
 {

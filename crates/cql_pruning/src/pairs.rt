@@ -1,4 +1,4 @@
-//! Two names of which one attacks the other: squares of the one are left out that attack no square the other may have.
+//! Two names of which one attacks the other: removes squares of the one that attack no square of the other.
 ghost use Rattle.std.specs.Prelude.{◌≡◌, ◌⊎◌, ℕ, ◌∷◌, [], length, true, false};
 ghost use Rattle.std.specs.Str.{bytes_eq};
 ghost use Rattle.cql_syntax.specs.Meaning as meaning;
@@ -16,18 +16,19 @@ use cql_columns::filter_column::FilterColumn;
 use cql_columns::scope::Scope;
 use cql_syntax::{Chain, Filter, Filters, Form, Pair};
 
-/// Where squares of a name are tried beside those of another, which are among a column's.
+/// Squares of a name, tried beside those of another name, which are among a column's.
 #[derive(Clone, Copy)]
 pub struct PairTrial<'a> {
     pub scope: &'a Scope<'a>,
-    /// The nodes at which it is asked.
+    /// The nodes at which the filter is evaluated.
     pub live: &'a [bool],
     pub name: &'a [u8],
     pub other: &'a [u8],
     pub column: &'a FilterColumn,
 }
 
-/// Whether a filter can hold only where one of two names attacks the other, as far as is looked at: a wrong answer costs time alone.
+/// Returns true if a filter can hold only when one of two names attacks the other. Not all forms are looked into, and a wrong result costs
+/// time alone.
 #[cycle(asks_pair)]
 pub fn asks_pair(name: &[u8], other: &[u8], asked: &Filter) -> bool {
     match &asked.form {
@@ -52,7 +53,7 @@ fn some_pair(name: &[u8], other: &[u8], parts: &Filters) -> bool {
     false
 }
 
-/// Leaves those squares of a name with which what is asked may hold, where the square of another name is among a column's.
+/// Keeps those squares of a name with which a filter may hold, while the square of another name is among a column's.
 #[cycle(cut_paired)]
 #[tactic(auto, unfolding(cql_syntax::specs::Meaning::value))]
 pub fn cut_paired(sets: &mut [u64], paired: &PairTrial, asked: &Filter)
@@ -77,7 +78,7 @@ pub fn cut_paired(sets: &mut [u64], paired: &PairTrial, asked: &Filter)
     }
 }
 
-// Of the filters of a chain: of those that must all hold.
+// Keeps the squares for a chain whose filters must all hold; keeps all for another chain.
 #[cycle(cut_paired)]
 fn cut_chain(sets: &mut [u64], paired: &PairTrial, chain: Chain, parts: &Filters)
     requires asked { IsNodeSet (tree_in paired.now.scope.now) paired.now.live.now }
@@ -92,7 +93,7 @@ fn cut_chain(sets: &mut [u64], paired: &PairTrial, chain: Chain, parts: &Filters
     cut_each(sets, paired, parts);
 }
 
-// Of filters that must all hold.
+// Keeps the squares for filters that must all hold.
 #[cycle(cut_paired)]
 fn cut_each(sets: &mut [u64], paired: &PairTrial, parts: &Filters)
     requires asked { IsNodeSet (tree_in paired.now.scope.now) paired.now.live.now }
@@ -106,7 +107,7 @@ fn cut_each(sets: &mut [u64], paired: &PairTrial, parts: &Filters)
     }
 }
 
-// Of what is asked of some square under a third name, whatever that square is.
+// Keeps the squares for a filter on some square under a third name, with any value of that name.
 #[cycle(cut_paired)]
 fn cut_third(sets: &mut [u64], paired: &PairTrial, every: bool, third: &[u8], part: &Filter)
     requires asked { IsNodeSet (tree_in paired.now.scope.now) paired.now.live.now }
@@ -122,7 +123,7 @@ fn cut_third(sets: &mut [u64], paired: &PairTrial, every: bool, third: &[u8], pa
     cut_paired(sets, paired, part);
 }
 
-// Of two sets, one of which has no square but that of the one name, and the other none but that of the other name.
+// Keeps the squares for two sets: one has no square but that of the one name, the other none but that of the other name.
 fn cut_pair(sets: &mut [u64], paired: &PairTrial, pair: Pair, first: &Filter, second: &Filter)
     requires asked { IsNodeSet (tree_in paired.now.scope.now) paired.now.live.now }
     requires count { length sets.old ≡ length paired.now.live.now }
@@ -150,7 +151,7 @@ fn cut_pair(sets: &mut [u64], paired: &PairTrial, pair: Pair, first: &Filter, se
     }
 }
 
-// Whether a filter gives no square but that of a name, and another none but that of another name.
+// Returns true only if a filter gives no square but that of a name, and another none but that of another name.
 fn each_gives_only_name(name: &[u8], first: &Filter, other: &[u8], second: &Filter) -> bool
     ensures first { result ≡ true → GivesOnlyName name.now (λ tree e n. meaning.value tree [] e (filter_tree first.now) n) }
     ensures second { result ≡ true → GivesOnlyName other.now (λ tree e n. meaning.value tree [] e (filter_tree second.now) n) }
@@ -158,7 +159,7 @@ fn each_gives_only_name(name: &[u8], first: &Filter, other: &[u8], second: &Filt
     gives_only_name(name, first) && gives_only_name(other, second)
 }
 
-// Whether some square is asked for, under a name that differs from two others.
+// Returns true only if a `square` filter is about some square, not every one, and its name differs from two others.
 fn is_third(every: bool, third: &[u8], name: &[u8], other: &[u8]) -> bool
     ensures some { result ≡ true → every ≡ false }
     ensures first { result ≡ true → bytes_eq third.now name.now ≡ false }

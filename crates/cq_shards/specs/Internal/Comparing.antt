@@ -1,4 +1,4 @@
--- Comparisons of any two answers, which need not have a key for each sort item, as the private functions give them.
+-- Comparisons of any two answers for the private functions. The answers need not have a key for each sort item.
 use Rattle.std.specs.Prelude.{ℕ, ◌+◌, ℤ, Bool, true, false, List, [], ◌∷◌, Option, slice_get}
 use Rattle.std.specs.Option.{option_cmp}
 use Rattle.std.specs.declared.cmp.Ordering.{Ordering}

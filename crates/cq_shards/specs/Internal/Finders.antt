@@ -37,19 +37,19 @@ skipped s = at_first.skipped s
 abbrev pub IsAnswerIn : QueryTree → Batch → GameAnswer → Type 0
 IsAnswerIn query b a = IsAnswerAmong query (number_of b) (games_of b) a
 
--- how many of some answers are matches of the game with this number in the archive
+-- the number of answers that are matches of the game with this number in the archive
 abbrev pub matches_at : ℕ → List GameAnswer → ℕ
 matches_at index answers = count_by (λ a. (a.index == index) && is_match a) answers
 
 -- ---- workers
 
--- what was drawn was answered or skipped, as far as that is a game of the batch, and the matches among the answers are what was found
+-- each game of the batch among the numbers drawn has an answer or was skipped; the numbers found are the matches among the answers
 pub record HasFound (query : QueryTree) (batch : Batch) (numbers founds skips : List ℕ) (answers : List GameAnswer) : Type 0 where
   pub each : All (IsAnswerIn query batch) answers
   pub drawn_ : (x : ℕ) → x < size batch → answers_at (number_of batch + x) answers + times x skips ≡ times x numbers
   pub found_ : (x : ℕ) → x < size batch → matches_at (number_of batch + x) answers ≡ times x founds
 
--- a worker with this seat at the board of matches, which is of the batch's games, answered or skipped each of these
+-- each game drawn by a worker with this seat has an answer or was skipped; the board of matches is of the batch's games
 pub record HasSearched (first : FirstBoard) (query : QueryTree) (batch : Batch) (seat : FirstSeat) (numbers : List ℕ)
     (answers : List GameAnswer) : Type 0 where
   pub board : board_games first ≡ size batch
@@ -60,26 +60,27 @@ pub record HasSearched (first : FirstBoard) (query : QueryTree) (batch : Batch) 
 abbrev pub adding : Bool → List ℕ → ℕ → List ℕ
 adding b xs k = if b then xs ++ k ∷ [] else xs
 
--- a match is told to the board
+-- a match is reported to the board
 pub record HasReported (first : FirstBoard) (number : ℕ) (matched : Bool) (was now : FirstSeat) : Type 0 where
   pub seat : IsSeatAt first now
   pub founds : found now ≡ adding matched (found was) number
   pub skips : skipped now ≡ skipped was
 
--- a game is skipped, or answered
+-- a game is skipped, or has an answer
 abbrev pub IsAnsweredOrSkipped : QueryTree → Batch → ℕ → (was now : FirstSeat) → Option GameAnswer → Type 0
 IsAnsweredOrSkipped query batch number was now None = (found now ≡ found was) × (skipped now ≡ skipped was ++ number ∷ [])
 IsAnsweredOrSkipped query batch number was now (Some answer) =
     IsAnswerAt query (number_of batch) (games_of batch) number answer
     × (found now ≡ adding (is_match answer) (found was) number) × (skipped now ≡ skipped was)
 
--- a worker took a game
+-- a worker has processed a game
 pub record HasProcessedGame (first : FirstBoard) (query : QueryTree) (batch : Batch) (number : ℕ) (was now : FirstSeat)
     (one : Option GameAnswer) : Type 0 where
   pub seat : IsSeatAt first now
   pub took : IsAnsweredOrSkipped query batch number was now one
 
--- All workers' answers: those of the games before the first match, which has this number, and its own are there
+-- All workers' answers: one for each game up to the first match, which has the number `word`. With no match `word` is the size of the
+-- batch.
 pub record AreFound (query : QueryTree) (batch : Batch) (word : ℕ) (answers : List GameAnswer) : Type 0 where
   pub high : word ≤ size batch
   pub each : All (IsAnswerIn query batch) answers

@@ -16,7 +16,7 @@ abbrev pub answers_back : List QueryTree → (index : ℕ) → ReadResult → Li
 answers_back [] index outcome = []
 answers_back (q ∷ qs) index outcome = answers_back qs index outcome ++ answer_of q index outcome ∷ []
 
--- the row of the game that has this number among some games, of which the first has the number `n` in the archive
+-- the row of the game with this number among some games, of which the first has the number `n` in the archive
 pub record IsRowAt (queries : List QueryTree) (n : ℕ) (games : KeptGames) (number : ℕ) (r : GameRow) : Type 0 where
   pub outcome : ReadResult
   pub read : IsReadAt games number outcome
@@ -30,7 +30,7 @@ IsRowFor queries batch number r = IsRowAt queries (number_of batch) (games_of ba
 abbrev pub IsRowIn : List QueryTree → Batch → GameRow → Type 0
 IsRowIn queries batch r = (number : ℕ) × IsRowFor queries batch number r
 
--- how many of some rows are of the game with this number in the archive
+-- the number of rows that are of the game with this number in the archive
 abbrev pub rows_at : ℕ → List GameRow → ℕ
 rows_at index rows = count_by (λ r. r.index == index) rows
 

@@ -1,4 +1,4 @@
--- What one worker makes of games of a batch, as the private functions give it.
+-- The answers of one worker for games of a batch, in the form that the private functions use.
 use Rattle.std.specs.Prelude.{ℕ, List, length}
 use Rattle.pgn_batches.specs.Games.{games_of, number_of}
 use Rattle.pgn_batches.specs.declared.batch.Batch.{Batch}
@@ -7,7 +7,7 @@ use Rattle.cql_syntax.specs.Trees.{QueryTree}
 use Rattle.cq_shards.specs.Answers.{IsAnswerAt}
 use Rattle.cq_shards.specs.declared.answers.GameAnswer.{GameAnswer}
 
--- how many games a batch has
+-- the number of games of a batch
 abbrev pub size : Batch → ℕ
 size batch = length (games_of batch)
 

@@ -1,4 +1,4 @@
--- The nodes at which a query is asked at first: the searched nodes of a game that has what the query needs.
+-- The nodes at which the evaluation of a query starts: the searched nodes of a game that passes its needs.
 use Rattle.std.specs.Prelude.{◌≡◌, ℕ, ◌<◌, ◌&&◌, nat_lt, Bool, List, get_or, length}
 use Rattle.cq_position.specs.Games.{Game, is_searched}
 use Rattle.cql_plan.specs.Needs.{query_passes}

@@ -1,4 +1,4 @@
--- What is read of the nodes that are left to a query, and of the rows of its sort items.
+-- The hits and keys of a query, from the nodes that are left to it and the rows of its sort items.
 use Rattle.std.specs.Prelude.{◌≡◌, ℕ, zero, suc, ◌<◌, ◌&&◌, Bool, true, false, List, [], ◌∷◌, Option, None, ℤ, is_some, get_or, length, map, All}
 use Rattle.std.specs.List.{filter}
 use Rattle.cq_position.specs.Games.{Game, numbers}
@@ -23,11 +23,11 @@ use Rattle.cq_shared.specs.declared.part.Part.{Part}
 abbrev pub nodes_there : Game → List Bool → List ℕ
 nodes_there game there = filter (is_live there) (numbers game.nodes)
 
--- a query is asked at the node at first, and all its flat items hold there
+-- the node is a start node of the query, and all its flat items hold there
 abbrev pub is_found : Game → QueryTree → ℕ → Bool
 is_found game q n = is_start_node game q n && is_hit (tree_of q game) (flat_query q).items n
 
--- to each query the nodes are left at which it is found
+-- the nodes left to each query are its hits
 pub record AreFound (game : Game) (owners : List PartOwner) (left : List NodeSet) : Type 0 where
   pub count : length left ≡ length owners
   pub each :
@@ -42,7 +42,7 @@ form_least f = false
 unfoldable pub is_least : FilterTree → Bool
 is_least (filter_at at f) = form_least f
 
--- the key of the part of a number over some nodes, by its row
+-- the key of the part with a number over some nodes, by its row
 unfoldable pub row_key : List Part → List SortRow → List ℕ → ℕ → Option ℤ
 row_key [] rows nodes k = None
 row_key (p ∷ ps) [] nodes k = None
@@ -52,13 +52,13 @@ row_key (p ∷ ps) (r ∷ rs) nodes (suc k) = row_key ps rs nodes k
 abbrev pub row_keys : List Part → List SortRow → List ℕ → List ℕ → List (Option ℤ)
 row_keys parts rows nodes ks = map (row_key parts rows nodes) ks
 
--- the part of a number has a row with a number at each of some nodes
+-- the part with a number has a row with an entry at each of some nodes
 pub record HasNumbers (parts : List Part) (rows : List SortRow) (nodes : List ℕ) (k : ℕ) : Type 0 where
   pub part : k < length parts
   pub row : k < length rows
   pub some : (r : SortRow) → r ≡ get_or rows k r → All (λ n. is_some (get_or r.numbers.items n None) ≡ true) nodes
 
--- so have the parts of all these numbers
+-- the parts with all these numbers have such rows
 abbrev pub HaveNumbers : List Part → List SortRow → List ℕ → List ℕ → Type 0
 HaveNumbers parts rows nodes ks = (k : ℕ) → is_among k ks ≡ true → HasNumbers parts rows nodes k
 

@@ -1,4 +1,4 @@
-//! How a plan of several queries is made, and what it has.
+//! The making of a plan of several queries, and its contents.
 ghost use Rattle.std.specs.Prelude.{◌≡◌, ℕ, ◌+◌, ◌<◌, ◌≤◌, ◌==◌, ◌&&◌, ◌||◌, false, true, length, map, get_or, IfOk, OnOk};
 ghost use Rattle.std.specs.List.{list_all};
 ghost use Rattle.cql_plan.specs.Plans.{query_of};
@@ -26,8 +26,12 @@ use std::alloc::Global;
 impl SharedPlan {
     /// The plan of 1 to 16 queries.
     ///
-    /// Each part has a place in a table by its text, and is compared with the parts alone that have the same place: few, in texts that
-    /// were not chosen for it.
+    /// Each part has a place in a table by its text, and is compared with the parts at this place alone. These are few, unless the texts
+    /// were chosen to share a place.
+    ///
+    /// # Errors
+    ///
+    /// `NoMemory` if out of memory.
     pub fn make(alloc: Global, queries: &[TypedQuery]) -> Result<SharedPlan, NoMemory>
         requires some { 0 < length queries.now }
         requires few { length queries.now ≤ 16 }
@@ -47,14 +51,14 @@ impl SharedPlan {
         Ok(plan)
     }
 
-    /// How many queries it was made from.
+    /// The number of queries that it was made from.
     pub fn len(&self) -> u32
         ensures { result ≡ length (queries_of self.now) }
     {
         self.owners.len() as u32
     }
 
-    /// The query of a number, of those that it was made from.
+    /// The query with a number, of those that it was made from.
     pub fn query(&self, query: u32) -> &TypedQuery
         requires { query < length (queries_of self.now) }
         ensures { result.now ≡ get_or (queries_of self.now) query result.now }
@@ -62,7 +66,7 @@ impl SharedPlan {
         self.owners[query as usize].plan.query()
     }
 
-    /// How many different parts the queries have.
+    /// The number of different parts of the queries.
     pub fn parts(&self) -> u32
         ensures { result ≡ length (plan_parts (queries_of self.now)) }
     {
@@ -87,7 +91,7 @@ impl SharedPlan {
     }
 }
 
-// How many parts the queries have, and one more.
+// The number of parts of the queries, and one more.
 fn count_all(queries: &[TypedQuery]) -> usize
     ensures { 0 < result }
 {

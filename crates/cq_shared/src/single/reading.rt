@@ -1,4 +1,4 @@
-//! How a filter is put by itself, and what is read of it.
+//! Single filters: their making, their contents, their equality.
 ghost use Rattle.std.specs.Prelude.{◌≡◌, ◌<◌, true, IfOk};
 ghost use Rattle.cql_syntax.specs.Leaves as leaves;
 ghost use Rattle.cql_syntax.specs.TreeOf.{filter_tree, filters_tree};
@@ -40,7 +40,7 @@ pub(crate) fn filter_of(single: &Single) -> &Filter
     &items[0]
 }
 
-/// Whether two filters by themselves are the same part.
+/// Returns true if two single filters are the same part.
 pub(crate) fn same_single(a: &Single, b: &Single) -> bool
     ensures { result ≡ same_part (shown a.now) (shown b.now) }
 {
@@ -53,7 +53,7 @@ fn same_flag(a: bool, b: bool) -> bool
     if a { b } else { !b }
 }
 
-/// The place of a filter in a table of so many places.
+/// The place of a filter in a table of `many` places.
 #[tactic(auto, unfolding(crate::specs::PartTables::bucket_of))]
 pub(crate) fn place(alloc: Global, single: &Single, many: usize) -> Result<usize, NoMemory>
     requires { 0 < many }

@@ -1,16 +1,16 @@
--- What a function makes of elements that are numbered from i on, as the private functions give it.
+-- Calls of a function at elements that are numbered from i on, in the form that the private functions use.
 use Rattle.std.specs.Prelude.{◌≡◌, ℕ, ◌+◌, List, [], ◌∷◌, ⊤}
 use denote.Ref.{MutBor}
 use denote.Param.Members.{Shared}
 use Rattle.std.specs.Fork.{AcceptsAt, ChangesAt}
 
 module _ {F T : Type 0} (g : Shared F (ℕ × (MutBor T × Unit {0})) ((Unit {0}) × (MutBor T × Unit {0}))) (f : F) where
-  -- it may be called at each
+  -- the function may be called at each
   abbrev pub AcceptsFrom : ℕ → List T → Type 0
   AcceptsFrom i [] = ⊤
   AcceptsFrom i (x ∷ xs) = AcceptsAt g f i x × AcceptsFrom (i + 1) xs
 
-  -- a call with i and a `&mut` to x may leave y there; a name that proofs keep folded
+  -- A call with i and a `&mut` to x may leave y there. Proofs keep this name folded.
   unfoldable pub MayLeave : ℕ → T → T → Type 0
   MayLeave i x y = ChangesAt g f i x y
 

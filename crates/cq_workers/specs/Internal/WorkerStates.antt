@@ -1,4 +1,4 @@
--- Workers of a crew, before their first draw and after their last, as the private functions give it.
+-- Workers before their first draw and after their last, in the form that the private functions use.
 use Rattle.std.specs.Prelude.{◌≡◌, ℕ, ◌<◌, ◌≤◌, List, [], ◌∷◌, ◌++◌, false}
 use Rattle.cq_board.specs.declared.seat.Board.{Board}
 use Rattle.cq_board.specs.Seats.{numbers_of, IsSeatOf, drawn, HasEnded}
@@ -21,6 +21,6 @@ pub record IsThrough {K X : Type 0} (HasMade : K → List ℕ → List X → Typ
   pub past : numbers_of board ≤ last
   pub made : HasMade w.kept numbers w.made.items
 
--- the same, unless it found no memory
+-- a worker that drew until no game was left, unless it is out of memory
 abbrev pub HasWorked : {K X : Type 0} → (K → List ℕ → List X → Type 0) → Board → Worker K X → Type 0
 HasWorked HasMade board w = w.is_out_of_memory ≡ false → IsThrough HasMade board w

@@ -1,4 +1,4 @@
--- Squares that are tried under a name, as the private functions give it.
+-- Squares that are tried under a name, in the form that the private functions use.
 use Rattle.std.specs.Prelude.{ℕ, Bool, List}
 use Rattle.cq_position.specs.Search.{SearchedTree}
 use Rattle.cql_syntax.specs.Meaning.{Names}
@@ -10,16 +10,16 @@ use Rattle.cql_pruning.specs.Covers.{AreCut, IsNecessaryPart, MayHold, MayHave}
 use Rattle.cql_pruning.specs.declared.moves.PartColumns.{PartColumns}
 use Rattle.cql_eval.specs.declared.evaluate.trial.Trial.{Trial}
 
--- of the sets of squares some are left, among them all with which values may hold
+-- some squares are removed from the sets, none with which the values may hold
 abbrev pub LeavesHolding : Trial → (Names → ℕ → Value) → List ℕ → List ℕ → Type 0
 LeavesHolding t v old new = AreCut t.live.now (MayHold t.opened.now t.scope.now.names.now t.name.now v) old new
 
--- some are left, among them all that values may have
+-- some squares are removed from the sets, none that the values may have
 abbrev pub LeavesHaving : Trial → (Names → ℕ → Value) → List ℕ → List ℕ → Type 0
 LeavesHaving t v old new = AreCut t.live.now (MayHave t.opened.now t.scope.now.names.now t.name.now v) old new
 
--- The columns of the parts of a move, its goal aside, ask no more than these at the nodes of a set to which moves led: where a move came from
--- and what it took is asked at the node before.
+-- The columns of the parts of a move, without its goal, are necessary conditions at the nodes of a set to which moves led. The origin and
+-- the man taken are evaluated at the node before.
 pub record AreNecessaryParts (tree : SearchedTree) (opened outer : Names) (p : Played) (live : List Bool) (parts : PartColumns) : Type 0 where
   pub wide : List Bool
   pub before_live : AreBeforeLive tree live wide

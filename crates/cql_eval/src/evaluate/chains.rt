@@ -25,7 +25,7 @@ use cql_syntax::{Filter, Filters, Terms};
 use std::alloc::Global;
 use std::sync::ledger::Ledger;
 
-/// Whether some of several filters holds.
+/// The truth that some of several filters holds, at each node.
 #[cycle(evaluate)]
 pub(super) fn some_column<L: Ledger>(
     alloc: Global,
@@ -46,8 +46,8 @@ pub(super) fn some_column<L: Ledger>(
     negated_column(alloc, FilterColumn::Truths(fails), live)
 }
 
-/// Of the nodes of a set those at which each filter of a class before `past` holds, or each doesn't: class by class, each filter where
-/// those before it leave something open.
+/// The nodes of a set at which each filter of a class before `past` holds or, if not `want`, doesn't. The filters are evaluated class by
+/// class, each at the nodes that those before it leave open.
 #[cycle(evaluate)]
 pub(crate) fn left_by<L: Ledger>(
     alloc: Global,
@@ -83,7 +83,7 @@ pub(crate) fn left_by<L: Ledger>(
     Ok(left)
 }
 
-// Takes the nodes out of a set at which a filter of a class isn't as it is wanted.
+// Removes the nodes of a set at which a filter of a class is not as wanted.
 #[cycle(evaluate)]
 fn narrow_by_class<L: Ledger>(
     alloc: Global,
@@ -115,7 +115,7 @@ fn narrow_by_class<L: Ledger>(
     Ok(())
 }
 
-// The same for one filter, if it is of the class.
+// Removes such nodes for one filter, if it is of the class.
 #[cycle(evaluate)]
 fn narrow_if_of_class<L: Ledger>(
     alloc: Global,
@@ -182,7 +182,7 @@ pub(super) fn columns_of<L: Ledger>(
     Ok(columns)
 }
 
-/// The column of each term of a sum, with whether it is subtracted.
+/// The column of each term of a sum, and a flag that is true if it is subtracted.
 #[cycle(evaluate)]
 #[tactic(auto, unfolding(cql_syntax::specs::Meaning::value))]
 pub(super) fn terms_of<L: Ledger>(

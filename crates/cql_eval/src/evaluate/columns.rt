@@ -1,4 +1,4 @@
-//! The columns of forms of filters, as they are made of what stands in them and of the columns of their parts.
+//! The columns of forms of filters, from their own contents and the columns of their parts.
 ghost use Rattle.std.specs.Prelude.{◌≡◌, ℕ, ◌&&◌, Bool, List, not, true, Some, is_some, option_map, IfOk};
 ghost use Rattle.cq_position.specs.Games.{IsTree, node_at};
 ghost use Rattle.cql_syntax.specs.Meaning as meaning;
@@ -25,7 +25,7 @@ use cql_pruning::moves::{PartColumns, moves_met};
 use cql_syntax::{Chain, Designator, Kind, Pair, Plain, Unary};
 use std::alloc::Global;
 
-/// The squares of a designator on which its men stand.
+/// The squares of a designator on which its men are.
 pub(super) fn standing_column(
     alloc: Global,
     d: &Designator,
@@ -40,7 +40,7 @@ pub(super) fn standing_column(
     Ok(FilterColumn::Sets(sets))
 }
 
-/// What a word gives.
+/// The values of a word.
 pub(super) fn word_column(
     alloc: Global,
     word: Plain,
@@ -55,7 +55,7 @@ pub(super) fn word_column(
     Ok(FilterColumn::Values(values))
 }
 
-/// What a word gives that asks its part at the node itself.
+/// The values of a word that evaluates its part at the node itself.
 pub(super) fn here_column(
     alloc: Global,
     word: Unary,
@@ -89,7 +89,7 @@ fn unary_values_column(
     Ok(FilterColumn::Values(values?))
 }
 
-/// What a word gives that asks its part at other nodes, of the column of its part at the nodes that it looks at.
+/// The values of a word that evaluates its part at other nodes, from the column of the part at these nodes.
 pub(super) fn found_column(
     alloc: Global,
     word: Unary,
@@ -110,7 +110,7 @@ pub(super) fn found_column(
     Ok(FilterColumn::Truths(found))
 }
 
-/// Whether the moves to the nodes of a set are as the columns of their parts ask.
+/// The truth that the move to a node meets the columns of its parts.
 pub(super) fn met_column(
     alloc: Global,
     scope: &Scope,
@@ -129,7 +129,7 @@ pub(super) fn met_column(
     Ok(FilterColumn::Truths(truths?))
 }
 
-/// Whether a column doesn't hold.
+/// The truth that a column doesn't hold.
 pub(super) fn negated_column(
     alloc: Global,
     column: FilterColumn,
@@ -142,7 +142,7 @@ pub(super) fn negated_column(
     Ok(FilterColumn::Truths(truths?))
 }
 
-/// Whether a column has a number.
+/// The truth that a column has a number.
 pub(super) fn numbered_column(
     alloc: Global,
     column: FilterColumn,
@@ -155,7 +155,7 @@ pub(super) fn numbered_column(
     Ok(FilterColumn::Truths(truths?))
 }
 
-/// Whether the second column holds where the first does, and the third elsewhere.
+/// The truth that the second column holds if the first does, and the third if not.
 pub(super) fn chosen_column(
     alloc: Global,
     first: FilterColumn,
@@ -173,7 +173,7 @@ pub(super) fn chosen_column(
     Ok(FilterColumn::Truths(truths?))
 }
 
-/// What a filter of two parts makes of their columns.
+/// The values of a filter of two parts, from their columns.
 pub(super) fn paired_column(
     alloc: Global,
     pair: Pair,
@@ -192,7 +192,7 @@ pub(super) fn paired_column(
     paired
 }
 
-/// The squares that lie in some directions of those of a column.
+/// The squares in some directions from those of a column.
 pub(super) fn reached_column(
     alloc: Global,
     directions: &[Compass],
@@ -209,7 +209,7 @@ pub(super) fn reached_column(
     Ok(FilterColumn::Values(values?))
 }
 
-/// What a filter of any number of parts gives.
+/// The values of a filter of any number of parts, from their columns.
 pub(super) fn chain_values_column(
     alloc: Global,
     chain: Chain,
@@ -223,7 +223,7 @@ pub(super) fn chain_values_column(
     Ok(FilterColumn::Values(values?))
 }
 
-/// What any of some filters of a kind gives.
+/// The values of a family of filters of a kind, from their columns.
 pub(super) fn any_values_column(
     alloc: Global,
     kind: Kind,

@@ -1,4 +1,4 @@
-//! Squares that are worth trying for what is asked of the move that led to a node.
+//! Candidate squares of a name for a filter of the move that led to a node.
 ghost use Rattle.std.specs.Prelude.{◌≡◌, ℕ, [], length, option_map, true, IfOk, OnOk};
 ghost use Rattle.cq_position.specs.Games.{IsTree};
 ghost use Rattle.cql_syntax.specs.Meaning as meaning;
@@ -25,8 +25,8 @@ use cql_values::names::Names;
 use std::alloc::Global;
 use std::sync::ledger::Ledger;
 
-/// Leaves those squares of sets with which the moves may be as they are asked for: those of the moves where a part is the name's own square,
-/// and all where the parts in which no open name stands are met.
+/// Keeps those squares of sets with which the moves may meet a filter. If a part is the name's own square, these are the squares of the
+/// moves. If the parts without open names are met, they are all squares.
 #[cycle(evaluate)]
 #[tactic(auto, unfolding(cql_syntax::specs::Meaning::value, cql_columns::specs::FlatTrees::unflat))]
 pub(super) fn cover_played<L: Ledger>(
@@ -59,7 +59,7 @@ pub(super) fn cover_played<L: Ledger>(
     cut_unmet(alloc, trial.scope, parts, goal, some, sets)
 }
 
-// Leaves squares at those nodes of a set alone to which a move led that is as columns ask.
+// Removes all squares at the nodes of a set to which no move that meets the columns led.
 fn cut_unmet(
     alloc: Global,
     scope: &Scope,
@@ -84,7 +84,7 @@ fn cut_unmet(
     Ok(())
 }
 
-// The columns of the parts of a move, its goal aside, for the moves that led to the nodes of a set: of those in which no open name stands.
+// The columns of those parts of a move that have no open name, without its goal, for the moves that led to the nodes of a set.
 #[cycle(evaluate)]
 #[tactic(auto, unfolding(cql_columns::specs::FlatTrees::unflat))]
 fn independent_columns<L: Ledger>(
@@ -113,7 +113,7 @@ fn independent_columns<L: Ledger>(
     })
 }
 
-// Whether in some part that is written no open name stands; where there is none nothing need be asked.
+// Returns true if some part that is written has no open name. If there is none, no part need be evaluated.
 fn asks_without(opened: &Names, played: &Played) -> bool {
     is_independent_and_written(opened, &played.origin)
         || is_independent_and_written(opened, &played.goal)
@@ -121,7 +121,7 @@ fn asks_without(opened: &Names, played: &Played) -> bool {
         || is_independent_and_written(opened, &played.promoted)
 }
 
-// The column at these nodes of a part in which no open name stands; of another part nothing is asked.
+// The column at these nodes of a part without open names, and `None` for another part.
 #[cycle(evaluate)]
 fn independent_column<L: Ledger>(
     alloc: Global,

@@ -1,4 +1,4 @@
-//! Squares that are worth trying where some of several filters must hold: those that are so for one of them.
+//! Candidate squares for a disjunction: those that are candidates for one of its filters.
 ghost use Rattle.std.specs.Prelude.{◌≡◌, ℕ, length, OnOk};
 ghost use Rattle.cq_position.specs.Games.{IsTree};
 ghost use Rattle.cql_syntax.specs.TreeOf.{filter_tree, filters_tree};
@@ -18,7 +18,7 @@ use cql_syntax::{Filter, Filters};
 use std::alloc::Global;
 use std::sync::ledger::Ledger;
 
-/// Leaves those squares of sets with which one of the filters may hold.
+/// Keeps those squares of sets with which one of the filters may hold.
 #[cycle(evaluate)]
 pub(super) fn cover_some<L: Ledger>(
     alloc: Global,

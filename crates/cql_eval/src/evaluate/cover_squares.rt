@@ -1,4 +1,4 @@
-//! Squares that are worth trying for what is asked of some square of a set under another name.
+//! Candidate squares of a name for a filter on the squares of a set under another name.
 ghost use Rattle.std.specs.Prelude.{◌≡◌, ℕ, ◌∷◌, length, false, OnOk};
 ghost use Rattle.std.specs.Str.{bytes_eq};
 ghost use Rattle.cq_position.specs.Games.{IsTree};
@@ -22,7 +22,7 @@ use cql_syntax::{Filter, Form};
 use std::alloc::Global;
 use std::sync::ledger::Ledger;
 
-/// Leaves those squares of sets with which what is asked of some square of a set under another name may hold.
+/// Keeps those squares of sets with which a filter on some square of a set under another name may hold.
 #[cycle(evaluate)]
 #[tactic(auto, unfolding(cql_syntax::specs::Meaning::value, cql_columns::specs::FlatTrees::unflat))]
 pub(super) fn cover_square<L: Ledger>(
@@ -54,7 +54,7 @@ pub(super) fn cover_square<L: Ledger>(
     }
 }
 
-// Of what is asked of the other square, whichever that is.
+// Keeps the squares for the inner filter, with any square under the other name.
 #[cycle(evaluate)]
 fn cover_inner<L: Ledger>(
     alloc: Global,
@@ -84,7 +84,7 @@ fn cover_inner<L: Ledger>(
     Ok(())
 }
 
-// Of what is asked of that square and the other together: the other is of the set, whichever it is.
+// Keeps the squares for the inner filter if it relates the two names: the other square is any of the set.
 #[cycle(evaluate)]
 fn cover_pair<L: Ledger>(
     alloc: Global,

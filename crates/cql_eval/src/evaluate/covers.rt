@@ -1,4 +1,4 @@
-//! Squares that are worth trying: of the squares of sets those with which what is asked may hold.
+//! Candidate squares: of the squares of sets, those with which a filter may hold.
 ghost use Rattle.std.specs.Prelude.{◌≡◌, ◌⊎◌, ℕ, length, true, OnOk};
 ghost use Rattle.cq_position.specs.Games.{IsTree, node_at};
 ghost use Rattle.cql_syntax.specs.Meaning as meaning;
@@ -30,7 +30,7 @@ use cql_syntax::{Filter, Filters, Form, Pair, Unary};
 use std::alloc::Global;
 use std::sync::ledger::Ledger;
 
-/// Leaves those squares of sets with which what is asked may hold.
+/// Keeps those squares of sets with which a filter may hold.
 #[cycle(evaluate)]
 #[tactic(auto, unfolding(cql_syntax::specs::Meaning::value, cql_columns::specs::FlatTrees::unflat))]
 pub(super) fn cover<L: Ledger>(
@@ -71,7 +71,7 @@ pub(super) fn cover<L: Ledger>(
         Form::Square(..) => cover_square(alloc, trial, asked, sets, steps),
         Form::Unary(word, part) => cover_other_nodes(alloc, trial, *word, part, sets, steps),
         Form::Played(played) => cover_played(alloc, trial, played, sets, steps),
-        // Of a set whose men attack the square, or are attacked from it.
+        // A set whose men attack the square, or are attacked from it.
         Form::Pair(pair, first, second) => {
             if !is_attack(*pair) {
                 return Ok(());
@@ -85,7 +85,7 @@ pub(super) fn cover<L: Ledger>(
     }
 }
 
-// Of a filter in which no name that is open stands.
+// Keeps the squares for a filter without open names.
 #[cycle(evaluate)]
 fn cover_independent<L: Ledger>(
     alloc: Global,
@@ -111,7 +111,7 @@ fn cover_independent<L: Ledger>(
     Ok(())
 }
 
-// Of filters that must all hold, class by class.
+// Keeps the squares for filters that must all hold, class by class.
 #[cycle(evaluate)]
 fn cover_all<L: Ledger>(
     alloc: Global,
@@ -135,7 +135,7 @@ fn cover_all<L: Ledger>(
     Ok(())
 }
 
-// Of the filters of a class.
+// Keeps the squares for the filters of a class.
 #[cycle(evaluate)]
 fn cover_class<L: Ledger>(
     alloc: Global,
@@ -160,7 +160,7 @@ fn cover_class<L: Ledger>(
     Ok(())
 }
 
-// Of one filter, if it is of the class.
+// Keeps the squares for one filter, if it is of the class.
 #[cycle(evaluate)]
 fn cover_if<L: Ledger>(
     alloc: Global,
@@ -185,7 +185,7 @@ fn cover_if<L: Ledger>(
     cover(alloc, trial, part, sets, steps)
 }
 
-// Of what a word asks at other nodes: what may hold at one of these.
+// Keeps the squares for a word that evaluates its part at other nodes: those with which the part may hold at one of these.
 #[cycle(evaluate)]
 fn cover_other_nodes<L: Ledger>(
     alloc: Global,
@@ -223,7 +223,7 @@ fn cover_other_nodes<L: Ledger>(
     Ok(())
 }
 
-// Leaves those squares of sets that what is asked may have among its squares.
+// Keeps those squares of sets that the value of a filter may have.
 #[cycle(evaluate)]
 #[tactic(auto, unfolding(cql_syntax::specs::Meaning::value, cql_columns::specs::FlatTrees::unflat))]
 fn cover_set<L: Ledger>(
@@ -263,7 +263,7 @@ fn cover_set<L: Ledger>(
     }
 }
 
-// Of a set in which no name that is open stands.
+// Keeps the squares of a set filter without open names.
 #[cycle(evaluate)]
 fn cover_independent_set<L: Ledger>(
     alloc: Global,
@@ -289,7 +289,7 @@ fn cover_independent_set<L: Ledger>(
     Ok(())
 }
 
-// Of sets, each of which has the squares.
+// Keeps the squares for an intersection: each of its sets must have them.
 #[cycle(evaluate)]
 fn cover_each<L: Ledger>(
     alloc: Global,
@@ -313,7 +313,7 @@ fn cover_each<L: Ledger>(
     Ok(())
 }
 
-// Of the squares whose men attack a set in which no name that is open stands, or are attacked from it.
+// Keeps the squares whose men attack a set filter without open names, or are attacked from it.
 #[cycle(evaluate)]
 fn cover_related<L: Ledger>(
     alloc: Global,

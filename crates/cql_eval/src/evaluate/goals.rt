@@ -1,4 +1,4 @@
-//! Squares that are tried all at once: where it is asked of some square whether the move went there.
+//! Squares that are tried all at once, for a filter that tests if the move went to some square.
 ghost use Rattle.std.specs.Prelude.{◌≡◌, ℕ, ◌&&◌, ◌∷◌, [], get_or, length, true, false, IfOk, IfSome};
 ghost use Rattle.cq_position.specs.Games.{IsTree};
 ghost use Rattle.cq_symmetry.specs.Images.{is_in};
@@ -23,7 +23,7 @@ use cql_values::names::Names;
 use std::alloc::Global;
 use std::sync::ledger::Ledger;
 
-/// Whether what is asked holds of some square of a column, where it is asked whether the move went there; of another filter nothing.
+/// The truth that a filter holds with some square of a column, if it tests that the move went there; `None` for another filter.
 #[cycle(evaluate)]
 #[tactic(auto, unfolding(cql_syntax::specs::Meaning::value, cql_columns::specs::FlatTrees::unflat))]
 pub(super) fn goal_truths<L: Ledger>(
@@ -44,7 +44,7 @@ pub(super) fn goal_truths<L: Ledger>(
     ensures cost { steps.new ≡ steps.old }
 {
     match &asked.form {
-        // Of a chain of one filter.
+        // A chain of one filter.
         Form::Chain(chain, parts) => {
             if !is_all(*chain) {
                 return Ok(None);
@@ -62,7 +62,7 @@ pub(super) fn goal_truths<L: Ledger>(
     }
 }
 
-// Of the move: whether it went to a square of the node's set. Where a promotion is asked for, no other move is looked at.
+// The truth that the move went to a square of the node's set. If the filter has a promotion, no other move is looked at.
 #[cycle(evaluate)]
 #[tactic(auto, unfolding(cql_syntax::specs::Meaning::value, cql_columns::specs::FlatTrees::unflat))]
 fn goal_met<L: Ledger>(
@@ -96,7 +96,7 @@ fn goal_met<L: Ledger>(
     there
 }
 
-// Whether the moves to the nodes of a set went to squares of the column, and are as the columns of their other parts ask.
+// The truth that the move to a node of a set went to a square of the column, and meets the columns of its other parts.
 fn moves_to_square(
     alloc: Global,
     binding: &Binding,

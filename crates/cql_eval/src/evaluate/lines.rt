@@ -31,24 +31,25 @@ use cql_syntax::{Body, Constituent, Constituents, Filter, Line, Mark};
 use std::alloc::Global;
 use std::sync::ledger::Ledger;
 
-/// Where a line is asked, and which way it goes.
+/// The scope of a line and its direction.
 #[derive(Clone, Copy)]
 struct LineWay<'a> {
     scope: &'a Scope<'a>,
-    /// From each node up.
+    /// True if the line goes from each node up.
     back: bool,
 }
 
-/// Parts in a row, as far as their atoms are asked.
+/// Parts in a row, as far as their atoms are evaluated.
 #[derive(Drop)]
 struct FilledParts<L: Ledger> {
     table: AtomTable<L>,
-    /// Whether each atom that must stand holds somewhere.
+    /// True if each needed atom holds at some node.
     met: bool,
 }
 
-/// The greatest length of a path from each node that a line's pattern spells. Its atoms are asked for where they may begin on a path, one
-/// after the other, and the automaton of its pattern then answers all nodes at once. Where the row isn't met at the end, no path is spelled.
+/// The greatest length of a path from each node that a line's pattern spells. Its atoms are evaluated one after the other, each at the
+/// nodes at which it may begin. The automaton of the pattern then gives the lengths for all nodes at once. If the row isn't met at the end,
+/// no path is spelled.
 #[cycle(evaluate)]
 #[tactic(auto, using(cql_operators::proofs::SpelledAlike::all_tabled, cql_operators::proofs::SpelledAlike::all_never))]
 pub(super) fn line_column<L: Ledger>(
@@ -85,7 +86,7 @@ pub(super) fn line_column<L: Ledger>(
     spelled_column(alloc, line, scope, &row.table, steps)
 }
 
-// The numbers of a line whose atoms are in a table. What is added to the cost of its atoms is within what the line may cost.
+// The numbers of a line whose atoms are in a table. Its own cost and that of its atoms are within the bound for the line.
 fn spelled_column<L: Ledger>(
     alloc: Global,
     line: &Line,
@@ -118,7 +119,7 @@ fn spelled_column<L: Ledger>(
     Ok(FilterColumn::Numbers(numbers))
 }
 
-// Whether a flat line has flat parts with few atoms: it always does.
+// Returns true: a flat line has flat parts with few atoms.
 #[tactic(auto, using(cql_operators::proofs::LinesLaw::line_parts_flat, cql_operators::proofs::LinesLaw::line_few))]
 fn has_flat_parts(line: &Line) -> bool
     requires { IsFlatLine (line_tree line.now) }
@@ -129,8 +130,8 @@ fn has_flat_parts(line: &Line) -> bool
     true
 }
 
-// Puts the atoms of parts in a row that begins at the nodes of a set into the table, with the numbers from the first on, and answers the
-// number after them. Where an atom of the row itself holds nowhere, the row isn't met.
+// Puts the atoms of parts in a row into the table, with the numbers from the first on, and returns the number after them. The row begins at
+// the nodes of a set. If an atom of the row itself holds nowhere, the row isn't met.
 #[cycle(evaluate)]
 #[tactic(auto, unfolding(cql_columns::specs::Costs::filter_cost))]
 fn put_row<L: Ledger>(
@@ -165,8 +166,8 @@ fn put_row<L: Ledger>(
     Ok(at)
 }
 
-// Puts the atoms of a part that may begin at the nodes of a set, which becomes that of the nodes at which the next part may begin. Those of a
-// part with a mark are asked for at all nodes on ways from where it may begin.
+// Puts the atoms of a part that may begin at the nodes of a set, which becomes the set of nodes at which the next part may begin. The atoms
+// of a part with a mark are evaluated at all nodes on paths from its starts.
 #[cycle(evaluate)]
 fn put_part<L: Ledger>(
     alloc: Global,
@@ -219,7 +220,7 @@ fn is_needed(mark: Mark) -> bool
     }
 }
 
-// Whether a row is still met after a part, which is met or needn't stand.
+// Returns true if a row is still met after a part, which is met or not needed.
 fn goes_on(met: bool, inner: bool, needed: bool) -> bool
     ensures { result ≡ (met && (inner || not needed)) }
 {
@@ -232,7 +233,7 @@ fn both(met: bool, some: bool) -> bool
     met && some
 }
 
-// Puts the atoms of a part that stands once.
+// Puts the atoms of a part that occurs once.
 #[cycle(evaluate)]
 #[tactic(auto, unfolding(cql_syntax::specs::Meaning::value, cql_columns::specs::Costs::filter_cost, cql_columns::specs::FlatTrees::unflat))]
 fn put_once<L: Ledger>(
@@ -272,7 +273,7 @@ fn put_once<L: Ledger>(
     }
 }
 
-// Puts an atom that stands once, and answers where the next part may begin; where it holds nowhere, the row isn't met.
+// Puts an atom that occurs once, and returns the nodes at which the next part may begin. If it holds nowhere, the row isn't met.
 #[cycle(evaluate)]
 fn put_atom_once<L: Ledger>(
     alloc: Global,
@@ -311,7 +312,7 @@ fn put_atom_once<L: Ledger>(
     Ok(behind)
 }
 
-// Puts the atoms of what may begin at any node of a set, again and again.
+// Puts the atoms of a body that may begin at any node of a set, repeatedly.
 #[cycle(evaluate)]
 #[tactic(auto, unfolding(cql_syntax::specs::Meaning::value, cql_columns::specs::Costs::filter_cost, cql_columns::specs::FlatTrees::unflat))]
 fn put_wherever<L: Ledger>(

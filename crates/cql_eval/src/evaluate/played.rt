@@ -1,4 +1,4 @@
-//! Whether the moves to nodes are as they are asked for.
+//! Moves to nodes, and the filters that they meet.
 ghost use Rattle.std.specs.Prelude.{◌≡◌, ℕ, ◌≤◌, ◌+◌, [], length, true, get_or, option_map, IfOk};
 ghost use Rattle.cq_position.specs.Games.{IsTree};
 ghost use Rattle.cql_syntax.specs.Meaning as meaning;
@@ -21,8 +21,8 @@ use cql_syntax::{Filter, Played};
 use std::alloc::Global;
 use std::sync::ledger::Ledger;
 
-/// Whether the move that led to a node is as it is asked for: where it came from and what it took is asked at the node before, its goal and
-/// what it became at the node itself. Where a promotion is asked for, no other move is looked at.
+/// The truth that the move to a node meets a filter. Its origin and the man it took are evaluated at the node before, its goal and
+/// promotion at the node itself. If the filter has a promotion, no other move is looked at.
 #[cycle(evaluate)]
 #[tactic(auto, unfolding(cql_syntax::specs::Meaning::value, cql_columns::specs::Costs::filter_cost, cql_columns::specs::FlatTrees::unflat))]
 pub(super) fn played_column<L: Ledger>(
@@ -48,7 +48,7 @@ pub(super) fn played_column<L: Ledger>(
     met_column(alloc, scope, parts, goal, some)
 }
 
-/// The columns of the parts of a move, its goal aside, for the moves that led to the nodes of a set.
+/// The columns of the parts of a move, without its goal, for the moves that led to the nodes of a set.
 #[cycle(evaluate)]
 #[tactic(auto, unfolding(cql_syntax::specs::Meaning::value, cql_columns::specs::Costs::filter_cost, cql_columns::specs::FlatTrees::unflat))]
 pub(super) fn part_columns<L: Ledger>(
@@ -77,7 +77,7 @@ pub(super) fn part_columns<L: Ledger>(
     })
 }
 
-/// The column of a part that is written.
+/// The column of a part, if it is written.
 #[cycle(evaluate)]
 #[tactic(auto, unfolding(cql_syntax::specs::Meaning::value, cql_columns::specs::Costs::filter_cost, cql_columns::specs::FlatTrees::unflat))]
 pub(super) fn written_column<L: Ledger>(

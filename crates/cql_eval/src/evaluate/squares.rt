@@ -1,4 +1,4 @@
-//! What is asked of the squares of a set, one by one.
+//! Filters on the squares of a set, one by one.
 ghost use Rattle.std.specs.Prelude.{◌≡◌, ℕ, ◌≤◌, ◌+◌, ◌*◌, ◌∷◌, [], length, true, false, get_or, IfOk};
 ghost use Rattle.cq_position.specs.Games.{IsTree};
 ghost use Rattle.cql_syntax.specs.TreeOf.{filter_tree};
@@ -33,8 +33,8 @@ use cql_values::sets::has_square;
 use std::alloc::Global;
 use std::sync::ledger::Ledger;
 
-/// Whether what is asked of a square holds of every square of a set, or of some: of some all at once where it is asked whether the move
-/// went there, and else of those alone with which it may hold.
+/// The truth that a filter holds with every square of a set, or with some. A test that the move went to some square is evaluated for all
+/// squares at once. Otherwise only candidate squares are tried.
 #[cycle(evaluate)]
 pub(super) fn square_filter_truths<L: Ledger>(
     alloc: Global,
@@ -55,7 +55,7 @@ pub(super) fn square_filter_truths<L: Ledger>(
     if every {
         return square_truths(alloc, binding, asked, live, steps);
     }
-    // All squares are asked at once there, so it would gain nothing to leave some out.
+    // This filter is evaluated for all squares at once, so nothing is gained if some are left out.
     if is_attack_alone(binding.name, asked) {
         return square_truths(alloc, binding, asked, live, steps);
     }
@@ -75,7 +75,7 @@ pub(super) fn square_filter_truths<L: Ledger>(
     truths
 }
 
-// Of the squares of a column those with which what is asked may hold.
+// The squares of a column with which a filter may hold.
 #[cycle(evaluate)]
 fn covered_sets<L: Ledger>(
     alloc: Global,
@@ -104,8 +104,8 @@ fn covered_sets<L: Ledger>(
     Ok(sets)
 }
 
-/// Whether what is asked of a square holds of every square of a set, or of some: at all nodes at once or node by node, where it is answered
-/// so, and else square by square.
+/// The truth that a filter holds with every square of a set, or with some. It is evaluated at all nodes at once or node by node if its form
+/// allows it, and square by square if not.
 #[cycle(evaluate)]
 fn square_truths<L: Ledger>(
     alloc: Global,
@@ -139,7 +139,7 @@ fn square_truths<L: Ledger>(
     decided(alloc, binding.every, left)
 }
 
-/// The nodes that no square up to this one settles, of those that none before it does.
+/// The nodes that this square doesn't settle, of those that no square before it does.
 #[cycle(evaluate)]
 fn square_turn<L: Ledger>(
     alloc: Global,

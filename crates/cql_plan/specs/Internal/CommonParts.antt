@@ -1,4 +1,4 @@
--- What stands in each member of a family alike, and the rest of each.
+-- The parts that all members of a family have, and the rest of each.
 use Rattle.std.specs.Prelude.{◌≡◌, ℕ, ◌+◌, ◌≤◌, Bool, true, ◌&&◌, []}
 use Rattle.std.specs.List.{list_all, list_any}
 use Rattle.cq_position.specs.Search.{SearchedTree}
@@ -16,16 +16,16 @@ each_holds tree names n fs = list_all holds (values tree [] names fs n)
 abbrev pub one_holds : SearchedTree → Names → ℕ → FilterTrees → Bool
 one_holds tree names n fs = list_any holds (values tree [] names fs n)
 
--- filters may stand in a filter as parts of which positions are wanted
+-- filters may be parts, of kind position, of a filter in this context
 abbrev pub may_stand : TypingContext → FilterTrees → Bool
 may_stand s fs = list_all is_sound (all_of (part_of s Position) fs)
 
--- where one of the members holds, so do all of these
+-- if one of the members holds, all of the common filters do
 pub record AreCommon (members common : FilterTrees) : Type 0 where
   pub told : (tree : SearchedTree) (names : Names) (n : ℕ)
       → (one_holds tree names n members && each_holds tree names n common) ≡ one_holds tree names n members
 
--- Parts all of which hold where all of the common ones and of the rest hold, and nowhere else; the parts cost no less than both.
+-- The parts all hold exactly if all of the common ones and of the rest hold. They cost no less than both.
 pub record AreDivided (parts common rest : FilterTrees) : Type 0 where
   pub told : (tree : SearchedTree) (names : Names) (n : ℕ)
       → each_holds tree names n parts ≡ (each_holds tree names n common && each_holds tree names n rest)
@@ -33,21 +33,21 @@ pub record AreDivided (parts common rest : FilterTrees) : Type 0 where
   pub rest_sound : (s : TypingContext) → may_stand s parts ≡ true → may_stand s rest ≡ true
   pub cost : (searched : ℕ) → filters_cost searched common + filters_cost searched rest ≤ filters_cost searched parts
 
--- where the common ones hold, all of the rest hold where all of the parts do, and nowhere else, at the cost of the parts at most
+-- if the common ones hold, all of the rest hold exactly if all of the parts do, at no more cost
 pub record AreLeft (common parts rest : FilterTrees) : Type 0 where
   pub told : (tree : SearchedTree) (names : Names) (n : ℕ) → (each_holds tree names n common && each_holds tree names n parts)
       ≡ (each_holds tree names n common && each_holds tree names n rest)
   pub sound : (s : TypingContext) → may_stand s parts ≡ true → may_stand s rest ≡ true
   pub cost : (searched : ℕ) → filters_cost searched rest ≤ filters_cost searched parts
 
--- where the common ones hold, the rest of a member holds where the member does, and nowhere else, at the cost of the member at most
+-- if the common ones hold, the rest of a member holds exactly if the member does, at no more cost
 pub record IsRest (common : FilterTrees) (f g : FilterTree) : Type 0 where
   pub told : (tree : SearchedTree) (names : Names) (n : ℕ) → (each_holds tree names n common && holds (value tree [] names f n))
       ≡ (each_holds tree names n common && holds (value tree [] names g n))
   pub member : (s : TypingContext) → is_member Position s f ≡ true → is_member Position s g ≡ true
   pub cost : (searched : ℕ) → filter_cost searched g ≤ filter_cost searched f
 
--- where the common ones hold, some rest holds where some member does, and nowhere else; the members cost no less than both
+-- if the common ones hold, some rest holds exactly if some member does; the members cost no less than both
 pub record AreRests (common members rests : FilterTrees) : Type 0 where
   pub told : (tree : SearchedTree) (names : Names) (n : ℕ) → (each_holds tree names n common && one_holds tree names n members)
       ≡ (each_holds tree names n common && one_holds tree names n rests)

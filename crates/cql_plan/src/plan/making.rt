@@ -1,4 +1,4 @@
-//! How a plan is made, what it has, and whether a game has what its query needs.
+//! The making of a plan, its parts, and the test of a game by the needs of its query.
 ghost use Rattle.std.specs.Prelude.{◌≡◌, ◌≢◌, [], true, IfOk};
 ghost use Rattle.cql_syntax.specs.Hits.{hits};
 ghost use Rattle.cql_syntax.specs.TreeOf.{filters_tree, query_tree};
@@ -16,6 +16,10 @@ use std::alloc::Global;
 
 impl Plan {
     /// The plan of a query.
+    ///
+    /// # Errors
+    ///
+    /// `NoMemory` if out of memory.
     pub fn make(alloc: Global, query: &TypedQuery) -> Result<Plan, NoMemory>
         ensures { IfOk result (λ plan. query_tree (query_of plan).query ≡ query_tree query.now.query) }
     {
@@ -38,7 +42,7 @@ impl Plan {
         &self.query
     }
 
-    /// The form of the query that is asked.
+    /// The form of the query that is evaluated.
     pub fn joined(&self) -> &FlatQuery
         ensures value { result.now ≡ joined_of self.now }
         ensures asked { IsJoinedFormOf (query_tree (query_of self.now).query) result.now.variations (filters_tree result.now.items) }
@@ -47,8 +51,8 @@ impl Plan {
     }
 }
 
-/// Whether a game has what the query needs; where it hasn't, there is no hit. Its positions are looked at only where men are needed, for
-/// each man up to the first in which it stands, and no memory is taken.
+/// Returns true if a game has the needs of the query; else there is no hit. Its positions are looked at only if men are needed, for each
+/// man up to the first that has it. It allocates no memory.
 pub fn may_hold(plan: &Plan, game: &Game) -> bool
     ensures value { result ≡ query_passes (query_tree (query_of plan.now).query) game.now }
     ensures hit { hits (query_tree (query_of plan.now).query) game.now ≢ [] → result ≡ true }

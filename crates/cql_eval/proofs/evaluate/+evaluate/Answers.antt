@@ -16,7 +16,7 @@ use Rattle.cql_eval.proofs.evaluate.+evaluate.Answers.Goals as goals
 use Rattle.cql_eval.proofs.evaluate.+evaluate.Answers.Covers as covers
 use Rattle.cql_eval.proofs.evaluate.+evaluate.Goals as goal
 
--- what forms of filters give and cost
+-- the values and costs of forms of filters
 pub unary_column-returns-then-reads_other_nodes-clause-value : goal.unary_column-returns-then-reads_other_nodes-clause-value
 unary_column-returns-then-reads_other_nodes-clause-value = forms.unary_column-returns-then-reads_other_nodes-clause-value
 
@@ -122,7 +122,7 @@ evaluate-returns-in_err-second-in-If = forms.evaluate-returns-in_err-second-in-I
 pub evaluate-returns-in_err-third-in-If : goal.evaluate-returns-in_err-third-in-If
 evaluate-returns-in_err-third-in-If = forms.evaluate-returns-in_err-third-in-If
 
--- what the parts of filters are asked under
+-- the conditions under which the parts of filters are evaluated
 pub evaluate-unary_column-requires : goal.evaluate-unary_column-requires
 evaluate-unary_column-requires = flats.evaluate-unary_column-requires
 

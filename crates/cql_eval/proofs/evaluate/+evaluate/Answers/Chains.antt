@@ -1,4 +1,4 @@
--- What is answered of chains, in the recursion over filters.
+-- The goals of chains, in the recursion over filters.
 use Rattle.std.proofs.Common.{◌+◌, ◌∙◌, sym, subst, arith, rules, refl, true}
 use Rattle.cql_syntax.specs.TreeOf.{filter_tree, filters_tree, filters_in, terms_tree}
 use Rattle.cql_syntax.proofs.Lists.{filters_tree_in}

@@ -1,4 +1,4 @@
--- What is answered of squares that are worth trying, in the recursion over filters.
+-- The goals of candidate squares, in the recursion over filters.
 use Rattle.std.proofs.Common.{[], ◌∷◌, ◌+◌, ◌∙◌, ap, ap₂, sym, subst, arith, refl, length, false}
 use Rattle.std.specs.Prelude.{OnOk}
 use Rattle.std.proofs.Math.Path.{fun_ext}

@@ -1,4 +1,4 @@
--- What the parts of filters are asked under, in the recursion over filters: they are flat where the whole is, and smaller.
+-- The conditions of the parts of filters, in the recursion over filters: they are flat if the whole is, and smaller.
 use Rattle.std.proofs.Common.{◌∙◌, ap, rules}
 use Rattle.cql_syntax.specs.TreeOf.{form_tree}
 use Rattle.cql_syntax.specs.declared.tree.Body.TheFolds.{the_lemmas}

@@ -1,4 +1,4 @@
--- What forms of filters give and cost, in the recursion over filters.
+-- The values and costs of forms of filters, in the recursion over filters.
 use Rattle.std.proofs.Common.{rules, [], ◌∷◌, ◌&&◌, ◌∙◌, ap, ap₂, sym, subst, refl, arith}
 use Rattle.std.specs.Prelude.{IfOk, is_some}
 use Rattle.cq_position.specs.Games.{node_at}

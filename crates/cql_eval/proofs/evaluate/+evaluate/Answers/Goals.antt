@@ -1,4 +1,4 @@
--- What is answered of squares that are tried all at once, in the recursion over filters.
+-- The goals of squares that are tried all at once, in the recursion over filters.
 use Rattle.std.proofs.Common.{◌≡◌, ◌∙◌, ap, refl, sym, subst, arith, length}
 use Rattle.std.specs.Prelude.{get_or}
 use Rattle.std.proofs.lemmas.Option.{IfSome_then}

@@ -1,4 +1,4 @@
--- What is answered of lines, in the recursion over filters.
+-- The goals of lines, in the recursion over filters.
 use Rattle.std.proofs.Common.{◌+◌, ◌≡◌, ◌∙◌, ap, sym, subst, arith, refl, length, true, false}
 use Rattle.std.specs.Prelude.{OnOk}
 use Rattle.std.specs.List.{list_any}

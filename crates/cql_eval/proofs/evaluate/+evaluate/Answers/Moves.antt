@@ -1,4 +1,4 @@
--- What is answered of the move filter, in the recursion over filters.
+-- The goals of the move filter, in the recursion over filters.
 use Rattle.std.proofs.Common.{◌∙◌, arith, option_map, sym, subst}
 use Rattle.cql_syntax.specs.Meaning.{before}
 use Rattle.cql_columns.specs.Scopes.{tree_in}

@@ -1,4 +1,4 @@
--- What is answered of squares that are tried, in the recursion over filters.
+-- The goals of squares that are tried, in the recursion over filters.
 use Rattle.std.proofs.Common.{[], ◌∷◌, ◌∙◌, sym, subst, arith, refl}
 use Rattle.std.specs.Prelude.{IfOk}
 use Rattle.cql_syntax.specs.Meaning.{value}
