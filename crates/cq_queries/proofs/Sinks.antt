@@ -1,4 +1,4 @@
--- What sinks have taken.
+-- The texts that sinks have taken.
 use Rattle.std.proofs.Common.{◌≡◌, ℕ, inl, inr, List, [], ◌++◌, length, take, drop, append-nil, append_assoc, Option, Some, None, refl, sym, ap, ◌∙◌, subst}
 use Rattle.std.proofs.Math.Seq.{take-append_seam}
 use Rattle.std.proofs.lemmas.List.{take-append-drop}
@@ -99,7 +99,7 @@ then_err sinks err = record {
   new_err = err;
 }
 
--- where no write had failed, the one that failed after that is the only one
+-- if no write had failed, the one that failed after that is the only one
 pub fails_after : (at : Moments) → NoWriteFailed (until_now at) → OneSinkFailed (from_now at) → OneSinkFailed (in_all at)
 fails_after at none (inl (rose, same)) = inl (subst (λ n. Rose n at.new_out.faults) none.out rose, same ∙ none.err)
 fails_after at none (inr (rose, same)) = inr (subst (λ n. Rose n at.new_err.faults) none.err rose, same ∙ none.out)
