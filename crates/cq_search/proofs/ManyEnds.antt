@@ -1,4 +1,4 @@
--- Writing what several queries find in an archive, once it was read to its end.
+-- Writing the texts of several queries over an archive, once it was read to its end.
 use Rattle.std.proofs.Common.{◌≡◌, ℕ, zero, suc, ◌+◌, ◌<◌, ◌≤◌, List, [], ◌∷◌, ◌++◌, ◌⊎◌, length, length-append, map, replicate, take, drop, get_or, append-nil, append_assoc, arith, refl, ap, ap₂, sym, ◌∙◌, subst, inl, inr, Ok, Err, Option}
 use Rattle.std.specs.Prelude.{All, AllPairs, Result, count_by, filter}
 use Rattle.std.specs.List.{flat_map}
@@ -231,7 +231,7 @@ outputs_starved queries outcomes sinks out tally ordered ends writes = (
   none_after (then_out sinks out) ends.found.unfailed (record { out = writes.1; err = refl }),
 )
 
--- no memory to put the matches in order
+-- out of memory to put the matches in order
 pub unordered_all : (queries : List QueryTree) (outcomes : List ReadResult) (sinks : Sinks) (tally : Tally) (kept : List (List GameAnswer))
     → FoundByAll queries outcomes sinks tally kept → WritesAnswer (texts_of_all queries) outcomes sinks NoMemory
 unordered_all queries outcomes sinks tally kept found =

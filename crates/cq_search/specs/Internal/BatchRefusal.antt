@@ -1,4 +1,4 @@
--- How a refusal of the next batch ends a call.
+-- The status of a call whose next batch is refused.
 use Rattle.pgn_batches.specs.declared.state.BatchFault.{BatchFault}
 use Rattle.pgn_batches.specs.declared.state.BatchFault.TheVariants.{ReadFault as TheReadFault, ArchiveTooLong as TheArchiveTooLong}
 use Rattle.cq_common.specs.declared.faults.Refusal.{Refusal}
