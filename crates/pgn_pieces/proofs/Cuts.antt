@@ -1,4 +1,4 @@
--- One read more, and what it comes to.
+-- One read more, and its result.
 use Rattle.std.proofs.Common.{◌≡◌, ℕ, ◌+◌, ◌<◌, ◌≤◌, ◌^◌, List, [], ◌++◌, length, take, drop, Option, None, Some, refl, sym, subst, ap, ◌∙◌, arith, append_assoc, inl, inr}
 use Rattle.std.proofs.Math.Seq.{take-add, drop-append_seam}
 use Rattle.std.proofs.lemmas.List.{append-nil, length-append, take_all, take_at}
@@ -87,7 +87,7 @@ read_failed least count was mid now p cut keeps rose same writes =
       writes ∙ cut.writes,
     )
 
--- no memory for what was read
+-- out of memory for the bytes read
 pub read_lost : (least count : ℕ) (was mid now : Pipe) (p : Pieces) (bytes : List ℕ) → length bytes ≤ 65536 → HasCut least count was mid p → Consumes mid.left now.left bytes
     → now.read_faults ≡ mid.read_faults → now.taken ≡ mid.taken → now.write_faults ≡ mid.write_faults → Says NoMemory least was now
 read_lost least count was mid now p bytes few cut takes reads same writes = (
