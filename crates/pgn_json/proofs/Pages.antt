@@ -16,7 +16,7 @@ use Rattle.pgn_json.specs.Writing.{SinkView}
 use Rattle.pgn_json.specs.declared.texts.Texts.{Texts}
 use Rattle.pgn_json.proofs.Grown.{grew_none, grew_on, rose_on}
 
--- ---- what waits
+-- ---- the waiting bytes
 
 pub nothing_waits : (s : SinkView) → WaitsOf [] s s []
 nothing_waits s = record { written = []; all = refl; grew = grew_none s.taken; same = refl }
