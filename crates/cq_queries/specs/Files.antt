@@ -53,7 +53,7 @@ pub data LacksMemory (most : ℕ) (name : List ℕ) (desk after : DeskView) : Ty
   no_memory_to_read : (file : SourceView) → Opened name desk after file → TakesAtMost (most + 1) file.left after.file.left
       → after.file.faults ≡ file.faults → LacksMemory most name desk after
 
--- A kind of file, with one query or several: how many bytes of it count, the queries or faults that a text has, and the line of a fault.
+-- A kind of file, with one query or several: the most bytes that count, the queries or the fault of a text, and the line of a fault.
 pub record FileKind (Accepted Fault : Type 0) : Type 1 where
   pub most : ℕ
   pub Is : List ℕ → Accepted → Type 0

@@ -13,8 +13,7 @@ use std::alloc::Global;
 use std::thread::Threads;
 
 /// Ends the program: does the job of the words after its name, as `run` does, over the desk and the two sinks. `out` takes exports, and
-/// `err` the report. Returns the exit status, from 0 to 8. If the words were out of memory, it is 7, and nothing is opened, read or
-/// written.
+/// `err` the report. Returns the exit status, from 0 to 8. Out of memory for the words, it is 7, and nothing is opened, read or written.
 pub fn answer_command<R: Threads + Sync, D: Desk, O: Sink, E: Sink>(
     rt: &R,
     alloc: Global,

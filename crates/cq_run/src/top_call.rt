@@ -41,8 +41,8 @@ const USAGE: &[u8] =
 /// - `check QUERY` writes `ok` to `out` if the query in the file QUERY is accepted.
 /// - `explain QUERY` writes its flat form to `out`, an item on each line, if the query in the file QUERY is accepted.
 /// - `selfrun TEXT` searches a made archive for the query that the word TEXT spells. The archive has `--games G` games, from 0 to 100,000
-///   and by default 100, from `--seed S`, from 0 to 2^32 - 1 and by default 1. `out` takes one line, `bytes B games G matched M refused R
-///   written W`. B is the length of the archive and W that of the exports. No file is opened.
+///   and by default 100, from `--seed S`, from 0 to 2^32 - 1 and by default 1. No file is opened, and `out` takes one line,
+///   `bytes B games G matched M refused R written W`. B is the length of the archive and W that of the exports.
 /// - `many QUERIES [ARCHIVE]` searches the archive, in one reading, for the queries in the file QUERIES, from 1 to 16 with a line `%%`
 ///   between two of them. For each in order `out` takes the line `query I bytes W` and then its W bytes of exports. `err` takes the lines
 ///   of the faulty games and then, for each in order, its counts.
@@ -53,8 +53,8 @@ const USAGE: &[u8] =
 /// `run` and `eval` also take `--first`: the first game that matches is written alone, whatever the query's sort items. The report ends
 /// with that game. Nothing is read after the read that completes its batch.
 ///
-/// Of a query's file at most 65,537 bytes are taken, and of a file of queries 1,048,577. A query with a fault has a line on `err`, `query
-/// byte B: REASON`, before the archive is opened. So has a file of queries, the first of these lines that applies:
+/// Of a query's file at most 65,537 bytes are taken, and of a file of queries 1,048,577. A query with a fault has a line on `err`,
+/// `query byte B: REASON`, before the archive is opened. So has a file of queries, the first of these lines that applies:
 /// - `queries too long`: it has more than 1,048,576 bytes.
 /// - `queries too many`: it has more than 16 pieces.
 /// - `query I byte B: REASON`: a piece has a fault. I is the number of the first such piece, from 1, and B its byte in the piece.
@@ -72,8 +72,8 @@ const USAGE: &[u8] =
 /// - `NoMemory`: out of memory, and no count rose; each sink has taken a prefix of its text.
 /// - `ArchiveTooLong`: more bytes of the archive than the limit were taken; as much is written as for `ReadFault`.
 ///
-/// In all the others no count rose. The clause `Promise` says each of these exactly, and which status always comes. The table of statuses
-/// in README says the same for the program's user.
+/// In all the others no count rose. The clause `Promise` defines each of these exactly, and the statuses that always come. README has a
+/// table of statuses for the program's user.
 pub fn run<R: Threads + Sync, D: Desk, O: Sink, E: Sink, G: Gate + Sync>(
     rt: &R,
     alloc: Global,

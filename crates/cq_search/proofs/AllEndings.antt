@@ -53,7 +53,7 @@ all_starves laws asked call games gives counts at =
       holds = (as_prefix call.sinks (asked.so_far at.outcomes) at.holds.0, at.holds.1);
     })
 
--- ---- the next batch was refused
+-- ---- the refusal of the next batch
 
 -- games that are taken are read, and their texts are written
 abbrev pub AreWritten : FullOutput → Sinks → (KeptGames → Type 0) → Type 0

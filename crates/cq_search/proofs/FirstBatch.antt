@@ -115,7 +115,7 @@ all_read next = kept_read_on next.games (games_of next.batch) next.at.outcomes n
 same_read : (next : NextBatch) → read_in next ≡ up_to_first next.query (all_in next)
 same_read next = sym (up_on next.query next.at.outcomes next.answered.outcomes next.at.holds.none)
 
--- a write failed, or memory was out
+-- a write failed, or the call was out of memory
 pub first_halts : (status : Status) (next : NextBatch) (new : Sinks) → StopsIn (texts_so_far false next.query (read_in next)) new status
     → FirstStopped next.query new status next.games (games_of next.batch)
 first_halts status next new stops = record {

@@ -56,7 +56,7 @@ pub same_tally : (games games' matched matched' refused refused' : ℕ) → game
     → tally_with games matched refused ≡ tally_with games' matched' refused'
 same_tally games games' matched matched' refused refused' g m r = cc
 
--- the same texts and games kept, by cases on whether the query has a sort item
+-- the same texts and games kept, by the cases that the query has a sort item or none
 
 pub same_stand : (t u : Tally) (ks ls : List GameAnswer) → t ≡ u → ks ≡ ls → search_state t ks ≡ search_state u ls
 same_stand t u ks ls e f = cc

@@ -115,7 +115,7 @@ Stops expected_output call =
     Finds call closed (λ front outcomes. WritesPart (expected_output.reading outcomes) call.sinks)
     ⊎ FindsAll call (λ outcomes. WritesPart (Unfinished expected_output outcomes) call.sinks)
 
--- after a fault of reading: what the games of the whole batches give was written
+-- after a fault of reading: the texts of the games of the whole batches were written
 abbrev pub Breaks : ExpectedOutput → SearchCall → (ℕ → Type 0) → Type 0
 Breaks expected_output call AreTaken =
     Finds call whole_spans (λ front outcomes. AreTaken (length front) × WritesSome (expected_output.faulted outcomes) call.sinks)

@@ -26,9 +26,9 @@ use pgn_batches::{Batch, BatchVisitor, VisitEnd, visit_batches};
 use std::alloc::Global;
 use std::thread::Threads;
 
-/// A visitor that searches one batch after the other for the query of `plan`, and writes all that is due before the last game. The answers
-/// of a batch come from the closure `answer`. The function that makes it says what its workers may share. A method of a trait can't use the
-/// bounds of its block for a value that it sends to a thread.
+/// A visitor that searches one batch after the other for the query of `plan`, and writes all that is due before all games were searched.
+/// The answers of a batch come from the closure `answer`. The function that makes it states what its workers may share. A method of a trait
+/// can't use the bounds of its block for a value that it sends to a thread.
 #[derive(Drop)]
 struct AllGames<'a, F> {
     alloc: Global,
@@ -120,6 +120,10 @@ pub fn search_all_games<R: Threads + Sync, S: Source, O: Sink, E: Sink, G: Gate 
 }
 
 /// Returns the answers of the games of a batch, in the order of the games.
+///
+/// # Errors
+///
+/// `NoMemory`: out of memory.
 pub fn batch_answers<R: Threads + Sync, G: Gate + Sync>(
     context: &RunContext<'_, R, G>,
     plan: &Plan,

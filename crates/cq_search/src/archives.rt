@@ -36,7 +36,7 @@ use std::thread::Threads;
 /// - `WriteFault`: a write to one sink failed, and no other count rose. Each sink has taken a prefix of its text.
 /// - `NoMemory`: out of memory, and no count rose. Each sink has taken a prefix of its text.
 ///
-/// The clause `AnswerPromise` says each of these exactly; no other status is returned.
+/// The clause `AnswerPromise` defines each of these exactly; no other status is returned.
 pub fn answer<R: Threads + Sync, S: Source, O: Sink, E: Sink, G: Gate + Sync>(
     rt: &R,
     alloc: Global,

@@ -13,7 +13,7 @@ pub(crate) const SEED_LIMIT: u64 = 4_294_967_295;
 /// The seed where none is given.
 pub(crate) const DEFAULT_SEED: u64 = 1;
 
-/// The most games that an archive is made of.
+/// The most games of a made archive.
 pub(crate) const GAMES_LIMIT: u64 = 100_000;
 
 /// The number of games of a made archive where none is given.

@@ -64,7 +64,7 @@ page_starved text more waiting was now waits =
       waits.same,
     )
 
--- ---- a front of a front
+-- ---- a prefix of a prefix
 
 front_of : (k : ℕ) (xs ys : List ℕ) → take (min k (length xs)) (xs ++ ys) ≡ take k xs
 front_of k xs ys = take-append-le (min k (length xs)) xs ys (min-le_right k (length xs)) ∙ take_min k xs

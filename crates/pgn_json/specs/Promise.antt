@@ -84,7 +84,7 @@ abbrev pub comment_of : List ℕ → List ℕ
 comment_of text = join_with_byte space (words (without_braces text))
 
 -- The promise of `run` on its status: the words name a job, and the archive is opened and read, or can't be opened. Or the words are no
--- command. Or memory was out, and nothing changed.
+-- command. Or the call was out of memory, and nothing changed.
 pub data Promise (given : List (List ℕ)) (status : Status) (was now : Lent) : Type 0 where
   games_written : (job : Job) → job_of_words given ≡ Some job → (file : Pipe) → Opened job.archive was now file
       → Says status job.limit (comment_of job.mark) file now.pipe_ → Promise given status was now

@@ -1,4 +1,4 @@
-//! Laws of the text of a game as JSON, for all texts, or for all games that have what every `Game` has; a call changes nothing.
+//! Laws of the text of a game as JSON, for all texts, or for all games that fulfil the invariant of `Game`; a call changes nothing.
 ghost use Rattle.std.specs.Prelude.{◌≡◌, ◌<◌, ◌^◌, ℕ, true, List, All, length};
 ghost use Rattle.std.specs.Str.{encode_utf8_all, IsUtf8};
 ghost use Rattle.cq_position.specs.Games.{Game as PlainGame, node_at};

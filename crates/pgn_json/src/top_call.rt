@@ -37,7 +37,7 @@ const USAGE: &[u8] = b"usage: pgnjson [--mark TEXT] [--workers N] [--limit B] [A
 /// - `NoMemory`: out of memory, and no count rose; each sink has taken a prefix of its text.
 /// - `ArchiveTooLong`: one byte more than the limit was read; as much is written as after a failed read.
 ///
-/// The clause `Promise` says for each the bytes that were read and written, and the count that rose.
+/// The clause `Promise` defines for each the bytes that were read and written, and the count that rose.
 pub fn run<R: Threads + Sync, D: Desk, O: Sink, E: Sink>(
     rt: &R,
     alloc: Global,
@@ -84,8 +84,8 @@ fn refuse_words<E: Sink>(err: &mut E) -> Status
     }
 }
 
-/// Ends the program: does the job of the words after its name as `run` does, and returns the exit status. If the words were out of memory,
-/// it is 7, and nothing is opened, read or written.
+/// Ends the program: does the job of the words after its name as `run` does, and returns the exit status. Out of memory for the words, it
+/// is 7, and nothing is opened, read or written.
 pub fn answer_command<R: Threads + Sync, D: Desk, O: Sink, E: Sink>(
     rt: &R,
     alloc: Global,

@@ -87,7 +87,7 @@ fn job_in(alloc: Global, matches: &ArgMatches<'_>) -> Result<Job, Refusal<WordsR
     })
 }
 
-/// Returns the job that the words after the program's name name.
+/// Returns the job of the words after the program's name.
 ///
 /// # Errors
 ///

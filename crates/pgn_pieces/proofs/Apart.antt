@@ -54,13 +54,13 @@ last_of n here there (g ∷ games) (m ∷ fewer) last moved =
     let rest = last_of n here there games fewer last moved.1 in
     record { fewer = g ∷ rest.fewer; game = rest.game; are = ap (λ l. g ∷ l) rest.are; ends = rest.ends }
 
--- a part of a text's front is one of the text
+-- a part of a prefix of a text is one of the text
 part_of_front : (front more : List ℕ) (from to : ℕ) → from ≤ to → to ≤ length front → slice_range (front ++ more) from to ≡ slice_range front from to
 part_of_front front more from to low high =
     ap (take (to - from)) (drop-append-le from front more (omega (arith, low, high)))
     ∙ take-append-le (to - from) (drop from front) more (let len = length-drop from front in omega (arith, len, low, high))
 
--- games of a text's front are moved alike
+-- games of a prefix of a text are moved alike
 moved_in_front : (n : ℕ) (front more there : List ℕ) (from to : ℕ) (games others : List Span) → to ≤ length front → AreSpansInOrder from to games
     → AreMovedGames n (front ++ more) there games others → AreMovedGames n front there games others
 moved_in_front n front more there from to [] [] high order moved = tt

@@ -41,7 +41,7 @@ kept None b keeps = tt
 kept (Some xs) None keeps = absurd keeps
 kept (Some xs) (Some ys) keeps = sym keeps
 
--- a text, and a front of another after it
+-- a text, and a prefix of another after it
 take_on : (xs ys : List ℕ) (k : ℕ) → take (length xs + k) (xs ++ ys) ≡ xs ++ take k ys
 take_on xs ys k =
     take-add (length xs) k (xs ++ ys) ∙ ap (λ (l : List ℕ). l ++ take k (drop (length xs) (xs ++ ys))) (take_at xs ys (length xs) refl)
@@ -128,7 +128,7 @@ read_more least count n was mid now p q bytes text cut takes reads fed least_ lo
   writes = faults ∙ cut.writes;
 }
 
--- a front of the lines that were due was written
+-- a prefix of the lines that were due was written
 front_written : (was mid now : Option (List ℕ)) (pieces more : List Piece) (text : List ℕ) (k : ℕ) → Grew was mid (table pieces) → text ≡ table more → Grew mid now (take k text)
     → Grew was now (take (length (table pieces) + k) (table (pieces ++ more)))
 front_written was mid now pieces more text k before is after =

@@ -67,7 +67,7 @@ RefusesWords WriteFault was now = ((k : ℕ) × WritesUsage was now (take k usag
 RefusesWords _ was now = ⊥
 
 -- The promise of `run` on its status: the words name a job, and the archive is opened and cut, or can't be opened. Or the words are no
--- command. Or memory was out, and nothing changed.
+-- command. Or the call was out of memory, and nothing changed.
 pub data Promise (words : List (List ℕ)) (status : Status) (was now : Lent) : Type 0 where
   archive_cut : (job : Job) → job_of_words words ≡ Some job → (file : Pipe) → Opened job.archive was now file
       → Says status job.least file now.pipe_ → IsErrUnwritten was now → Promise words status was now

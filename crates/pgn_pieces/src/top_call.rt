@@ -33,7 +33,7 @@ const USAGE: &[u8] = b"usage: pgnpieces ARCHIVE BYTES\n";
 /// - `NoMemory`: out of memory, and no count rose; `out` has taken a prefix of the table.
 /// - `ArchiveTooLong`: more than 2^40 bytes were read, and at most 65,536 more; as much is written as after a failed read.
 ///
-/// The clause `Promise` says for each the bytes that were read and written, and the count that rose.
+/// The clause `Promise` defines for each the bytes that were read and written, and the count that rose.
 pub fn run<D: Desk, O: Sink, E: Sink>(
     alloc: Global,
     words: &[String],
@@ -69,8 +69,8 @@ fn refuse_words<E: Sink>(err: &mut E) -> Status
     }
 }
 
-/// Ends the program: does the job of the words after its name as `run` does, and returns the exit status. If the words were out of memory,
-/// it is 7, and nothing is opened, read or written.
+/// Ends the program: does the job of the words after its name as `run` does, and returns the exit status. Out of memory for the words, it
+/// is 7, and nothing is opened, read or written.
 pub fn answer_command<D: Desk, O: Sink, E: Sink>(
     alloc: Global,
     words: Result<Vec<String>, NoMemory>,

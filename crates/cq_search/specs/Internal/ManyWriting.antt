@@ -64,7 +64,7 @@ pub record AreInOrder (queries : List QueryTree) (kept ordered : List (List Game
   pub count : length ordered ≡ length kept
   pub each : (i : ℕ) (q : QueryTree) → i < length kept → InOrder (get_or queries i q) (get_or kept i []) (get_or ordered i [])
 
--- a text is written, or a part of it if a write fails or memory is out
+-- a text is written, or a part of it if a write fails or the call is out of memory
 abbrev pub WritesOut : List ℕ → SinkView → SinkView → Result (Unit {0}) (Refusal Failed) → Type 0
 WritesOut text before after (Ok _) = Grew before.taken after.taken text × (after.faults ≡ before.faults)
 WritesOut text before after (Err (Fault _)) =

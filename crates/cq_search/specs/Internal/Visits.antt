@@ -22,7 +22,7 @@ pub record HasVisited {T : Type 0} (was now : T) (games : KeptGames) (Found : Li
   pub same : now ≡ was
   pub reading : HaveReadResults games Found
 
--- each sink has taken a prefix of its text, since a write failed or memory was out
+-- each sink has taken a prefix of its text, since a write failed or the call was out of memory
 abbrev pub StopsIn : Texts → Sinks → Status → Type 0
 StopsIn texts sinks WriteFault = WritesPrefix sinks texts × OneSinkFailed sinks
 StopsIn texts sinks NoMemory = WritesPrefix sinks texts × NoWriteFailed sinks

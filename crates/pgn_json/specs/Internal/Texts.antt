@@ -52,7 +52,7 @@ pub record IsCutShort (mark : List ℕ) (was now : Sinks) (games batch : KeptGam
   pub writes : Writes was now (lines mark entries ++ take out_count (lines mark next))
       (fault_lines entries ++ take err_count (fault_lines next))
 
--- the visit was stopped at the games of the next batch: a write failed, or memory was out
+-- the visit was stopped at the games of the next batch: a write failed, or the call was out of memory
 abbrev pub HasStopped : List ℕ → Sinks → Sinks → KeptGames → KeptGames → Status → Type 0
 HasStopped mark was now games batch WriteFault = IsCutShort mark was now games batch × OneWriteFailed was now
 HasStopped mark was now games batch NoMemory = IsCutShort mark was now games batch × NoWriteFailed was now
