@@ -105,7 +105,7 @@ pub fn text_in_file<D: Desk, F>(
     }
 }
 
-/// Frees a query. Every caller frees its query by this call, so that the drop of its tree is proved once.
+/// Frees a query. If a caller frees queries by this call alone, the freeing of their trees is proved here and not again.
 pub fn drop_query(query: TypedQuery) {
     drop(query);
 }

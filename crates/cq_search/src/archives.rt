@@ -22,7 +22,6 @@ use std::thread::Threads;
 /// conditions. A batch has 1,024 games, or fewer of which 2^24 bytes are kept, or those that are left at the end.
 ///
 /// The source is read in pieces of at most 65,536 bytes, none while a full batch waits, and at most one byte over the limit in all. Without
-/// The source is read in pieces of at most 65,536 bytes, none while a full batch waits, and at most one byte over the limit in all. Without
 /// a sort item the exports and fault lines of a batch are written before the next batch is read. With one the fault lines are. The matching
 /// games are then kept until all games were searched.
 ///

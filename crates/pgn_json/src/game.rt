@@ -20,9 +20,9 @@ use std::alloc::Global;
 /// Returns a game as a line of JSON (RFC 8259), in UTF-8 and with LF at its end. The line has the number of the game and the place of its
 /// first byte in its archive, its tags, its start, its result, and the notes at the start. Its other nodes follow in preorder.
 ///
-/// A node with the comment `mark` has its position, and the start then has a member that says so. If `mark` has no bytes, all nodes are
-/// marked. `specs/Json` defines the text. Texts of tags and comments that are UTF-8 stay as they are. Of others each byte is a letter of
-/// Latin-1.
+/// A node with the comment `mark` has its position. The start, if it has that comment, has a member that says so. If `mark` has no bytes,
+/// all nodes are marked. `specs/Json` defines the text. Texts of tags and comments that are UTF-8 stay as they are. Of others each byte is
+/// a letter of Latin-1.
 ///
 /// # Errors
 ///

@@ -4,7 +4,6 @@
 //! `specs/Data` has JSON values, and `specs/Grammar` the texts that spell them. Laws say that a line is read as the value of its game
 //! (`specs/GameValue`). They also say that lines tell games apart but for the bytes of their texts (`specs/GameReading`). `specs/Promise`
 //! is the promise of the top call.
-//! promise of the top call.
 #![tactic(auto)]
 
 mod game;

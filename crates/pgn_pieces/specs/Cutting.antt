@@ -61,8 +61,8 @@ pub record WritesFirst (least : ℕ) (was now : Pipe) (front : List ℕ) : Type 
   pub are : ArePrefixPieces least front pieces
   pub moves : Moves was now front (table pieces)
 
--- Some first bytes were read, and then these. A prefix was written of the lines of the pieces that are full with the first ones. If the
--- archive was read to its end, it is a prefix of all lines.
+-- Some first bytes were read, and then these. A prefix was written of the lines of the pieces that are full with the first ones. Or the
+-- archive was read to its end, and a prefix of all its lines was written.
 pub record WritesPart (least : ℕ) (was now : Pipe) (later : List ℕ) : Type 0 where
   pub front : List ℕ
   pub pieces : List Piece

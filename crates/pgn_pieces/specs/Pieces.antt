@@ -25,11 +25,11 @@ piece_to begin to games = record { number = begin.number; offset = begin.from; l
 abbrev pub piece_bytes : List ℕ → Piece → List ℕ
 piece_bytes archive p = take p.length (drop p.offset archive)
 
--- the begin of the piece after a piece
+-- the start of the piece after a piece
 abbrev pub after : Piece → PieceStart
 after p = record { number = p.number + 1; from = p.offset + p.length; first = p.first + p.games }
 
--- the begin of the first piece
+-- the start of the first piece
 abbrev pub start : PieceStart
 start = record { number = 1; from = 0; first = 1 }
 

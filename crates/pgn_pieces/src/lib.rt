@@ -3,7 +3,6 @@
 //! A piece begins at the end of the one before. It ends with the first game with which it has the required bytes; the last piece has the
 //! rest. The laws say that the pieces, one after the other, are the archive. Each of them, cut by itself, has exactly its games: the first
 //! piece as it is, any other after one space.
-//! has exactly its games: the first as it is, any other after one space.
 #![tactic(auto)]
 
 mod cutting;

@@ -17,7 +17,7 @@ pub struct Piece {
     pub games: u64,
 }
 
-/// The begin of a piece: its number, the place of its first byte, and the number of its first game.
+/// The start of a piece: its number, the place of its first byte, and the number of its first game.
 #[derive(Clone, Copy)]
 pub(crate) struct PieceStart {
     pub(crate) number: u64,
@@ -26,7 +26,7 @@ pub(crate) struct PieceStart {
 }
 
 impl PieceStart {
-    /// Returns the begin of the first piece.
+    /// Returns the start of the first piece.
     pub(crate) fn start() -> PieceStart
         ensures { result ≡ start }
     {
@@ -53,7 +53,7 @@ impl PieceStart {
 }
 
 impl Piece {
-    /// Returns the begin of the piece after this one.
+    /// Returns the start of the piece after this one.
     pub(crate) fn after(self) -> PieceStart
         requires numbers { (self.number < 2 ^ 62) × (self.first < 2 ^ 62) × (self.games < 2 ^ 62) }
         requires bytes { (self.offset < 2 ^ 62) × (self.length < 2 ^ 62) }

@@ -5,7 +5,7 @@ use crate::piece::PieceStart;
 use pgn_cut::Cutter;
 use std::alloc::Global;
 
-/// The piece that is not long enough yet: its begin, the number of its closed games, and the end of the last of them.
+/// The piece that is not long enough yet: its start, the number of its closed games, and the end of the last of them.
 #[derive(Clone, Copy)]
 pub(crate) struct OpenPiece {
     pub(crate) begin: PieceStart,
