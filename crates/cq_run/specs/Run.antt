@@ -60,8 +60,8 @@ WritesUsage _ sinks = ⊥
 
 -- ---- jobs
 
--- An accepted query, or several, over the archive in a file, of which so many bytes are the limit. The texts are those of the expected
--- output.
+-- The search of the archive in a file for an accepted query, or for several. So many bytes of it are the limit, and the texts are those of
+-- the expected output.
 pub data AnswersFile (archive : List ℕ) (limit : ℕ) (asks : ExpectedOutput) (status : Status) (call : Call) : Type 0 where
   archive_answered : (file : SourceView) → Opened archive call.desk call.desk_after file
       → AnswerPromise asks status (record { limit = limit; source = file; source_after = call.desk_after.file; sinks = call.sinks })
@@ -112,7 +112,7 @@ DoesJob (Explain query) = OverFile query_file_kind query Explains
 DoesJob (SelfRun text settings) = OverText text (RunsMade settings.seed settings.games)
 DoesJob (Many queries archive settings) = OverFile queries_file_kind queries (λ asks. AnswersFile archive settings.limit (texts_of_all asks))
 
--- The work for words: the job that they name, or the usage line; then no file is opened.
+-- The work for words: the job that they name, or the usage line. For the usage line no file is opened.
 pub data AnswersWords (words : List (List ℕ)) (status : Status) (call : Call) : Type 0 where
   job_done : (job : Job) → job_of_words words ≡ Some job → DoesJob job status call → AnswersWords words status call
   words_refused : job_of_words words ≡ None → WritesUsage status call.sinks → call.desk_after ≡ call.desk → AnswersWords words status call

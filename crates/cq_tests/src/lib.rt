@@ -1,4 +1,4 @@
-//! Tests of the crates of chess and of PGN, and of those below both: vectors from outside, calls that no program makes, and laws.
+//! Tests of the crates of chess and of PGN, and of those that know neither: vectors from outside, calls that no program makes, and laws.
 #![tactic(auto)]
 
 #[cfg(test)]

@@ -111,7 +111,7 @@ AnswersSome sorted query outcomes sinks stand (Err (Fault _)) =
 AnswersSome sorted query outcomes sinks stand (Err IsNoMemory) =
     WritesPrefix sinks (texts_so_far sorted query outcomes) × NoWriteFailed sinks
 
--- the matches that were kept, in the order of a query
+-- the matches that were kept, in the order of a query, and their exports, as far as they are taken
 pub record InOrder (query : QueryTree) (answers ordered : List GameAnswer) : Type 0 where
   pub same : IsPermutation (filter is_match_kept answers) ordered
   pub order : AreApart answers → All (HasKeys (directions query.items)) answers
