@@ -90,7 +90,7 @@ file_outcome each text = not_other (not_both each) text (of_file each text (nat_
 
 -- ---- and one
 
--- behind so many queries a text has this fault
+-- after so many queries a text has this fault
 abbrev FaultAt : List (List ℕ) → ℕ → QueryFault → Type 0
 FaultAt [] n f = ⊥
 FaultAt (t ∷ ts) zero f = IsQueryFault t f

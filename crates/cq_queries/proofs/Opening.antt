@@ -1,4 +1,4 @@
--- What opening a file did, and taking its text.
+-- Opening a file, and taking its text.
 use Rattle.std.proofs.Common.{◌≡◌, ℕ, List, Option, Some, None, Err, ap, ◌∙◌}
 use Rattle.std.specs.Option.{option_map}
 use Rattle.cq_outside.specs.Faults.{Rose}
@@ -45,12 +45,12 @@ unmoved_of desk after opens told left reads =
     same_desk after.told desk.told after.file desk.file after.open_faults desk.open_faults told
     (same_source after.file.left desk.file.left after.file.faults desk.file.faults left reads) opens
 
--- no memory for what was taken of a file
+-- out of memory for the bytes of a file
 pub no_memory_after : (most : ℕ) (name : List ℕ) (desk after : DeskView) (text : List ℕ) → TakesQuery most name desk after text → LacksMemory most name desk after
 no_memory_after most name desk after text taken =
     no_memory_to_read taken.file taken.opened (record { bytes = text; takes = taken.takes; few = taken.few }) taken.faults
 
--- a file of which nothing is taken is refused
+-- a file of which nothing is taken
 pub untaken : {Q F : Type 0} (reading : FileKind Q F) (name : List ℕ) (desk after : DeskView) (why : FileRefusal F) → TakesText reading.most name desk after (Err why)
     → RefusesFile reading name desk after why
 untaken reading name desk after (Faulty fault) taken = absurd taken

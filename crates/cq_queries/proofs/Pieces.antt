@@ -107,7 +107,7 @@ onto_nothing (p ∷ ps) some = refl
 abbrev pub between : List ℕ → ℕ → ℕ → List ℕ
 between text begin end = take (end - begin) (drop begin text)
 
--- the pieces that are done, and the begin of the open one, as the lines up to a place were looked at
+-- the pieces that are done, and the start of the open one, after the lines up to a place
 pub record CutSoFar (text : List ℕ) (done : List (List ℕ)) (begin at : ℕ) : Type 0 where
   pub low : begin ≤ at
   pub high : at ≤ length text

@@ -1,4 +1,4 @@
--- What sinks have taken.
+-- The texts that sinks have taken.
 use Rattle.std.proofs.Common.{◌≡◌, ℕ, inl, inr, List, [], ◌++◌, length, take, drop, append-nil, append_assoc, Option, Some, None, refl, sym, ap, ◌∙◌, subst}
 use Rattle.std.proofs.Math.Seq.{take-append_seam}
 use Rattle.std.proofs.lemmas.List.{take-append-drop}
@@ -24,7 +24,7 @@ grew_on a None (Some c) xs ys f g = absurd g
 grew_on None (Some b) (Some c) xs ys f g = absurd f
 grew_on (Some a) (Some b) (Some c) xs ys f g = g ∙ ap (λ l. l ++ ys) f ∙ append_assoc a xs ys
 
--- the text that is written begins with what was taken
+-- the text that is written begins with the text that was taken
 pub grew_part : (a b : Option (List ℕ)) (part rest : List ℕ) → Grew a b part → Grew a b (take (length part) (part ++ rest))
 grew_part a b part rest f = subst (Grew a b) (sym (take-append_seam part rest)) f
 
@@ -54,7 +54,7 @@ took_front a b xs more f = record { part = xs; rest = more; is = refl; grew = f 
 pub prefix_of : (a b : Option (List ℕ)) (text : List ℕ) → (t : Took a b text) → Grew a b (take (length t.part) text)
 prefix_of a b text t = subst (λ l. Grew a b (take (length t.part) l)) (sym t.is) (grew_part a b t.part t.rest t.grew)
 
--- the two sinks at three moments: as a call began, now, and once more is written
+-- the two sinks at three moments: as a call began, at this one, and after one write more
 pub record Moments : Type 0 where
   pub out : SinkView
   pub now_out : SinkView
@@ -99,7 +99,7 @@ then_err sinks err = record {
   new_err = err;
 }
 
--- where no write had failed, the one that failed after that is the only one
+-- if no write had failed, the one that failed after that is the only one
 pub fails_after : (at : Moments) → NoWriteFailed (until_now at) → OneSinkFailed (from_now at) → OneSinkFailed (in_all at)
 fails_after at none (inl (rose, same)) = inl (subst (λ n. Rose n at.new_out.faults) none.out rose, same ∙ none.err)
 fails_after at none (inr (rose, same)) = inr (subst (λ n. Rose n at.new_err.faults) none.err rose, same ∙ none.out)

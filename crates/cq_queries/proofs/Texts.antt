@@ -1,4 +1,4 @@
--- What reading a query answers, from what its steps answer.
+-- The result of reading a query, from the results of its steps.
 use Rattle.std.proofs.Common.{◌≡◌, List, ℕ, Option, Some, None, Ok, Err, subst, inl, inr}
 use Rattle.std.specs.Prelude.{Result}
 use Rattle.cql_syntax.specs.Limits.{most_open}

@@ -1,4 +1,4 @@
--- Opening and taking the files of queries, and what a file is asked for.
+-- Opening and taking the files of queries, and the kinds of files.
 use Rattle.std.specs.Prelude.{◌≡◌, ℕ, ◌+◌, ◌≤◌, List, [], ◌∷◌, ◌++◌, length, Some}
 use Rattle.std.specs.Option.{option_map}
 use Rattle.std.specs.Io.KnownBytes.{Consumes, IsAtEnd}
@@ -18,7 +18,7 @@ use Rattle.cq_queries.specs.Views.{SourceView, DeskView}
 abbrev pub with_open : List ℕ → DeskFiles → DeskFiles
 with_open name told = record { files = told.files; opened = told.opened ++ name ∷ [] }
 
--- As far as the desk tells, this name was opened, once, and no other was. The file that was opened, before it was read.
+-- As far as the desk tells, this name was opened, once, and no other was. The file is that which was opened, before it was read.
 pub record Opened (name : List ℕ) (desk after : DeskView) (file : SourceView) : Type 0 where
   pub told : after.told ≡ option_map (with_open name) desk.told
   pub bytes : (told : DeskFiles) → desk.told ≡ Some told → file.left ≡ Some (bytes_of told.files name)
@@ -47,14 +47,13 @@ pub record FailsToRead (most : ℕ) (name : List ℕ) (desk after : DeskView) : 
   pub few : TakesAtMost most file.left after.file.left
   pub rose : Rose file.faults after.file.faults
 
--- no memory to open such a file, or to read it
+-- out of memory to open such a file, or to read it
 pub data LacksMemory (most : ℕ) (name : List ℕ) (desk after : DeskView) : Type 0 where
   no_memory_to_open : after ≡ desk → LacksMemory most name desk after
   no_memory_to_read : (file : SourceView) → Opened name desk after file → TakesAtMost (most + 1) file.left after.file.left
       → after.file.faults ≡ file.faults → LacksMemory most name desk after
 
--- What a file is asked for, one query or several: how many bytes of it count, what its text is where it is accepted, with which faults it
--- is refused, and the line that tells of one.
+-- A kind of file, with one query or several: the most bytes that count, the queries or the fault of a text, and the line of a fault.
 pub record FileKind (Accepted Fault : Type 0) : Type 1 where
   pub most : ℕ
   pub Is : List ℕ → Accepted → Type 0

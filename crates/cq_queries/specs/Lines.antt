@@ -1,4 +1,4 @@
--- The lines that answer a query which is refused, accepted or explained.
+-- The lines of a query that is faulty, accepted or explained.
 use Rattle.std.specs.Prelude.{ℕ, List, [], ◌++◌, codes}
 use Rattle.cql_rewrite.specs.FlatText.{items_text}
 use Rattle.cql_syntax.specs.Flat.{flat_query}
@@ -14,7 +14,7 @@ text_for_err text = record { out = []; err = text }
 abbrev pub text_for_out : List ℕ → Texts
 text_for_out text = record { out = text; err = [] }
 
--- a query, or a file of queries, is refused: this line is written
+-- a query, or a file of queries, has a fault: this line is written
 abbrev pub RefusesQuery : List ℕ → Status → Sinks → Type 0
 RefusesQuery text QueryRefused sinks = Writes sinks (text_for_err text) × NoWriteFailed sinks
 RefusesQuery text WriteFault sinks = WritesPrefix sinks (text_for_err text) × ErrFailed sinks

@@ -1,4 +1,4 @@
--- The query that a text is, or its fault.
+-- The query that a text spells, or its fault.
 use Rattle.std.specs.Prelude.{◌≡◌, ◌⊎◌, ℕ, List, None, Some, Ok, Err}
 use Rattle.cql_syntax.specs.Limits.{most_open}
 use Rattle.cql_syntax.specs.Trees.{QueryTree}
@@ -30,7 +30,7 @@ pub record HasTreeFault (text : List ℕ) (fault : QueryFault) : Type 0 where
   pub spells : Spells most_open tokens query
   pub broken : tree_fault query ≡ Some fault
 
--- The fault of a text that is no query: the first of its characters, else the first of its tokens, else the first of the query
--- that they spell.
+-- The fault of a text that is no query: the first of its characters, else the first of its tokens, else the first of the query that they
+-- spell.
 abbrev pub IsQueryFault : List ℕ → QueryFault → Type 0
 IsQueryFault text fault = (tokens_of text ≡ Err fault) ⊎ HasParseFault text fault ⊎ HasTreeFault text fault

@@ -1,4 +1,4 @@
--- A file of queries: the pieces that it is cut into, the queries that they are, and why it is refused.
+-- A file of queries: its pieces, the queries that they spell, and its faults.
 use Rattle.std.specs.Prelude.{◌≡◌, ℕ, ◌+◌, ◌≤◌, ◌<◌, ◌==◌, ◌||◌, Bool, List, [], ◌∷◌, ◌++◌, length, map, codes, if◌then◌else◌}
 use Rattle.std.specs.List.{AllZip, concat, onto_first, slice_split}
 use Rattle.std.specs.Str.{bytes_eq}
@@ -22,11 +22,11 @@ unfoldable pub lines : List ℕ → List (List ℕ)
 lines [] = []
 lines (b ∷ text) = if b == 10 then (b ∷ []) ∷ lines text else onto_first b (lines text)
 
--- a line that stands between two queries: `%%` alone
+-- a line between two queries: `%%` alone
 abbrev pub is_divider : List ℕ → Bool
 is_divider line = bytes_eq line (codes "%%\n") || bytes_eq line (codes "%%")
 
--- the pieces of a file of queries: the lines before, between and behind its dividers
+-- the pieces of a file of queries: the lines before, between and after its dividers
 unfoldable pub pieces : List ℕ → List (List ℕ)
 pieces text = map concat (slice_split is_divider (lines text))
 
@@ -36,7 +36,7 @@ pub record HoldsQueries (text : List ℕ) (queries : List QueryTree) : Type 0 wh
   pub few : length (pieces text) ≤ most_queries
   pub are : AllZip IsQuery (pieces text) queries
 
--- of some texts the first with a fault, by its number from 1: all before it are queries
+-- this fault is the first of some texts, by its number from 1: all texts before it are queries
 pub record IsFirstFault (texts : List (List ℕ)) (number : ℕ) (fault : QueryFault) : Type 0 where
   pub before : List (List ℕ)
   pub queries : List QueryTree
@@ -47,14 +47,14 @@ pub record IsFirstFault (texts : List (List ℕ)) (number : ℕ) (fault : QueryF
   pub among : texts ≡ before ++ text ∷ after
   pub number_is : number ≡ length before + 1
 
--- Why a file of queries is refused: too many bytes, else too many pieces, else the first piece with a fault.
+-- The fault of a file of queries: too many bytes, else too many pieces, else the first piece with a fault.
 abbrev pub IsManyFault : List ℕ → ManyFault → Type 0
 IsManyFault text TooLong = most_in_file < length text
 IsManyFault text TooMany = (length text ≤ most_in_file) × (most_queries < length (pieces text))
 IsManyFault text (Faulty number fault) =
     (length text ≤ most_in_file) × (length (pieces text) ≤ most_queries) × IsFirstFault (pieces text) number fault
 
--- the line that tells of it
+-- the line of a fault
 abbrev pub many_line : ManyFault → List ℕ
 many_line TooLong = codes "queries too long\n"
 many_line TooMany = codes "queries too many\n"

@@ -1,4 +1,4 @@
--- What a source, a desk and the sinks tell at one moment, and what a call leaves the sinks with.
+-- The state of a source, a desk and the sinks at one moment, and of the sinks after a call.
 use Rattle.std.specs.Prelude.{◌≡◌, ◌⊎◌, ℕ, List, take, Option}
 use Rattle.cq_outside.specs.Faults.{Rose}
 use Rattle.cq_outside.specs.Flow.{Grew}
@@ -9,7 +9,7 @@ pub record SourceView : Type 0 where
   pub left : Option (List ℕ)
   pub faults : ℕ
 
--- a desk at one moment: what it tells, its open file, and its count of files that could not be opened
+-- a desk at one moment: its telling, its open file, and its count of files that could not be opened
 pub record DeskView : Type 0 where
   pub told : Option DeskFiles
   pub file : SourceView
@@ -71,7 +71,7 @@ ErrFailed sinks = Rose sinks.err.faults sinks.err_after.faults × (sinks.out_aft
 abbrev pub SinkFailed : Sinks → Type 0
 SinkFailed sinks = Rose sinks.out.faults sinks.out_after.faults ⊎ Rose sinks.err.faults sinks.err_after.faults
 
--- the views of a source, a desk and the sinks, by what their types tell
+-- the views of a source, a desk and the sinks, from the values of their types
 abbrev pub source_view : {S : Type 0} → (S → Option (List ℕ)) → (S → ℕ) → S → SourceView
 source_view left faults source = record { left = left source; faults = faults source }
 

@@ -13,10 +13,10 @@ use std::alloc::Global;
 
 /// Writes the flat form of a query, each of its items on a line.
 ///
-/// Answers:
+/// Returns:
 /// - `Done`: the lines were taken.
 /// - `WriteFault`: a write failed, and the count of `out` rose. A prefix of the lines was taken.
-/// - `NoMemory`: no memory was found for the lines; nothing is written.
+/// - `NoMemory`: out of memory for the lines; nothing is written.
 pub fn explain<O: Sink>(alloc: Global, query: &TypedQuery, out: &mut O) -> Status
     ensures { (err : SinkView) → WritesFlat (query_tree query.now.query) result
         (sinks_of (sink_view O.taken O.faults out.old) (sink_view O.taken O.faults out.new) err err) }
@@ -30,7 +30,7 @@ pub fn explain<O: Sink>(alloc: Global, query: &TypedQuery, out: &mut O) -> Statu
     }
 }
 
-// The lines of the flat form of a query, each with its end.
+// Returns the lines of the flat form of a query, each with its end.
 #[tactic(auto, unfolding(crate::specs::Lines::flat_lines))]
 fn flat_form_of(alloc: Global, query: &TypedQuery) -> Result<Bytes, NoMemory>
     ensures { IfOk result (λ lines. lines ≡ flat_lines (query_tree query.now.query)) }

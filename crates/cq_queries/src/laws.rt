@@ -1,4 +1,4 @@
-//! Laws of the queries that texts and files of queries are, and of their faults.
+//! Laws of queries in texts and in files of queries, and of their faults.
 ghost use Rattle.std.specs.Prelude.{◌≡◌, ◌⊎◌, ℕ, List};
 ghost use Rattle.cql_syntax.specs.Trees.{QueryTree};
 ghost use Rattle.cql_syntax.specs.declared.fault.QueryFault.{QueryFault};
@@ -21,7 +21,7 @@ pub fn every_text_is_a_query_or_has_a_fault()
     faulty_tokens_spell_no_query();
 }
 
-/// A law: a text is at most one query, and has at most one fault.
+/// A law: a text spells at most one query, and has at most one fault.
 pub fn texts_have_one_outcome()
     ensures query { (text : List ℕ) (q r : QueryTree) → IsQuery text q → IsQuery text r → q ≡ r }
     ensures fault { (text : List ℕ) (f g : QueryFault) → IsQueryFault text f → IsQueryFault text g → f ≡ g }

@@ -1,4 +1,4 @@
-//! Reading and checking queries, from texts and from files, and saying what is wrong with them.
+//! The reader of queries, from texts and from files, and the lines of their faults.
 #![tactic(auto)]
 
 mod flat_form;

@@ -1,4 +1,4 @@
-//! Reading a file and the query in it, and saying what is wrong with one.
+//! The reader of a file with one query, and the lines of its outcome.
 ghost use Rattle.std.specs.Prelude.{◌<◌, ◌^◌};
 ghost use Rattle.cql_syntax.specs.TreeOf.{query_tree};
 ghost use Rattle.cq_report.specs.Queries.{query_line};
@@ -17,28 +17,29 @@ use cql_parser::{parse, spelled_queries_have_no_any, tokens_of_a_text_are_ended}
 use cql_syntax::{QueryFault, TypedQuery};
 use std::alloc::Global;
 
-/// The line that answers a query that is accepted.
+/// The line of an accepted query.
 const ACCEPTED: &[u8] = b"ok\n";
 
-/// Why what a file asks is not answered.
+/// The causes for which nothing is accepted of a file.
 #[derive(Drop)]
 pub enum FileRefusal<F> {
-    /// The query in it has a fault, or the file of queries.
+    /// The query, or the file of queries, has this fault.
     Faulty(F),
     /// The file could not be opened.
     Unopened,
     /// The file could not be read.
     Unread,
-    /// No memory was found.
+    /// Out of memory.
     OutOfMemory,
 }
 
-/// The query that a text is.
+/// Returns the query that a text spells.
 ///
-/// Refused:
-/// - `Fault`: the text is no query, for this fault: that of the first character that begins no token, else that of the first token at which
-///   no query goes on, else the first of the query that the tokens spell. No text has two (`texts_have_one_outcome`).
-/// - `NoMemory`: no memory was found.
+/// # Errors
+///
+/// - `Fault`: the text is no query. The fault is that of the first character that begins no token. Else it is that of the first token at
+///   which no query goes on, else the first of the query that the tokens spell. No text has two (`texts_have_one_outcome`).
+/// - `NoMemory`: out of memory.
 #[tactic(auto, using(crate::proofs::Texts::untokened, crate::proofs::Texts::unparsed))]
 pub fn read_query(alloc: Global, text: &[u8]) -> Result<TypedQuery, Refusal<QueryFault>>
     ensures { ReadsQuery text.now result }
@@ -50,13 +51,14 @@ pub fn read_query(alloc: Global, text: &[u8]) -> Result<TypedQuery, Refusal<Quer
     check(&query)
 }
 
-/// The query in a file, which is opened; at most 65,537 bytes of it are taken.
+/// Opens a file, takes at most 65,537 bytes of it, and returns its query.
 ///
-/// Refused:
-/// - `Faulty`: what was taken is no query, for this fault.
-/// - `Unopened`: the file could not be opened: that count of the desk rose, and nothing else changed.
-/// - `Unread`: it was opened and could not be read: that count of the desk rose.
-/// - `OutOfMemory`: no memory was found, to open the file, to read it or for the query; no count rose.
+/// # Errors
+///
+/// - `Faulty`: the bytes taken are no query, for this fault.
+/// - `Unopened`: the file could not be opened. That count of the desk rose, and nothing else changed.
+/// - `Unread`: the file was opened, and could not be read. That count of the desk rose.
+/// - `OutOfMemory`: out of memory to open the file, to read it, or for the query; no count rose.
 pub fn query_in_file<D: Desk>(
     alloc: Global,
     name: &[u8],
@@ -74,7 +76,13 @@ pub fn query_in_file<D: Desk>(
     }
 }
 
-/// The bytes of a file that is opened, until its end or one byte more than a limit.
+/// Opens a file, and returns its bytes, until its end or one byte more than the limit `most`.
+///
+/// # Errors
+///
+/// - `Unopened`: the file could not be opened. That count of the desk rose, and nothing else changed.
+/// - `Unread`: the file was opened, and could not be read. That count of the desk rose.
+/// - `OutOfMemory`: out of memory to open the file or to read it; no count rose.
 pub fn text_in_file<D: Desk, F>(
     alloc: Global,
     name: &[u8],
@@ -97,18 +105,18 @@ pub fn text_in_file<D: Desk, F>(
     }
 }
 
-/// Frees a query. Where queries are freed by this call alone, how their trees are freed is proved here and not again.
+/// Frees a query. If a caller frees queries by this call alone, the freeing of their trees is proved here and not again.
 pub fn drop_query(query: TypedQuery) {
     drop(query);
 }
 
-/// Says why the query in a file is not answered: `err` takes a line where the query has a fault, and nothing else.
+/// Writes the line of the query's fault to `err`, and nothing for any other cause.
 ///
-/// Answers:
+/// Returns:
 /// - `QueryRefused`: the query has a fault, and the line `query byte B: REASON` was taken.
 /// - `OpenFault` or `ReadFault`: the file could not be opened, or read; nothing is written.
 /// - `WriteFault`: a write failed, and the count of `err` rose. A prefix of the line was taken.
-/// - `NoMemory`: no memory was found, for the query or for the line; nothing is written.
+/// - `NoMemory`: out of memory for the query or for the line; nothing is written.
 pub fn report_refusal<E: Sink>(alloc: Global, why: &FileRefusal<QueryFault>, err: &mut E) -> Status
     ensures { (out : SinkView) → TellsWhy query_file_kind why.now result
         (sinks_of out out (sink_view E.taken E.faults err.old) (sink_view E.taken E.faults err.new)) }
@@ -121,12 +129,12 @@ pub fn report_refusal<E: Sink>(alloc: Global, why: &FileRefusal<QueryFault>, err
     }
 }
 
-/// Writes the line of a query that is refused, `query byte B: REASON`.
+/// Writes the line of a faulty query, `query byte B: REASON`.
 ///
-/// Answers:
+/// Returns:
 /// - `QueryRefused`: the line was taken.
 /// - `WriteFault`: a write failed, and the count of `err` rose. A prefix of the line was taken.
-/// - `NoMemory`: no memory was found for the line; nothing is written.
+/// - `NoMemory`: out of memory for the line; nothing is written.
 pub fn refuse_query<E: Sink>(alloc: Global, fault: &QueryFault, err: &mut E) -> Status
     ensures { (out : SinkView) → RefusesQuery (query_line fault.now) result
         (sinks_of out out (sink_view E.taken E.faults err.old) (sink_view E.taken E.faults err.new)) }
@@ -140,9 +148,9 @@ pub fn refuse_query<E: Sink>(alloc: Global, fault: &QueryFault, err: &mut E) -> 
     }
 }
 
-/// Writes the line of a query that is accepted, `ok`.
+/// Writes the line of an accepted query, `ok`.
 ///
-/// Answers:
+/// Returns:
 /// - `Done`: the line was taken.
 /// - `WriteFault`: a write failed, and the count of `out` rose. A prefix of the line was taken.
 pub fn accept_query<O: Sink>(out: &mut O) -> Status

@@ -1,4 +1,4 @@
-//! Reading a file of queries, and saying what is wrong with one.
+//! The reader of a file of queries, and the lines of its faults.
 ghost use Rattle.std.specs.Prelude.{◌≡◌, ◌≤◌, ◌<◌, ◌∷◌, IfOk, drop, length, map, take};
 ghost use Rattle.cql_syntax.specs.QueryTrees.{trees_of};
 ghost use Rattle.cq_queries.specs.QueryReading.{ReadsFile, ReadsPiece, ReadsPieces, ReadsText, TellsWhy};
@@ -22,25 +22,27 @@ const FILE_LIMIT: usize = 1_048_576;
 /// The most queries of such a file.
 const QUERIES_LIMIT: usize = 16;
 
-/// Why a file of queries is refused.
+/// The faults of a file of queries.
 #[derive(Drop)]
 pub enum ManyFault {
     /// It has too many bytes.
     TooLong,
     /// It has too many pieces.
     TooMany,
-    /// A piece has a fault, the first that has one. Pieces are counted from 1, and the byte is that in the piece.
+    /// A piece has a fault, and no piece before it has one. Pieces are numbered from 1, and the byte is that in the piece.
     Faulty { query: u32, fault: QueryFault },
 }
 
-/// The queries in a file of queries, from 1 to 16 with a line `%%` between two of them. The file is opened, and at most 1,048,577 bytes of
-/// it are taken.
+/// Returns the queries in a file of queries, from 1 to 16 with a line `%%` between two of them. The file is opened, and at most 1,048,577
+/// bytes of it are taken.
 ///
-/// Refused:
-/// - `Faulty`: what was taken is no file of queries: it has more than 1,048,576 bytes, else more than 16 pieces, else a piece with a fault.
-/// - `Unopened`: the file could not be opened: that count of the desk rose, and nothing else changed.
-/// - `Unread`: it was opened and could not be read: that count of the desk rose.
-/// - `OutOfMemory`: no memory was found, to open the file, to read it or for the queries; no count rose.
+/// # Errors
+///
+/// - `Faulty`: the bytes taken are no file of queries. They are more than 1,048,576, else they have more than 16 pieces, else a piece has a
+///   fault.
+/// - `Unopened`: the file could not be opened. That count of the desk rose, and nothing else changed.
+/// - `Unread`: the file was opened, and could not be read. That count of the desk rose.
+/// - `OutOfMemory`: out of memory to open the file, to read it, or for the queries; no count rose.
 pub fn queries_in_file<D: Desk>(
     alloc: Global,
     name: &[u8],
@@ -63,7 +65,7 @@ pub fn drop_queries(queries: Vec<TypedQuery>) {
     drop(queries);
 }
 
-// The queries of a file of queries, or why it is refused.
+// Returns the queries of a file of queries. Fails if the file has a fault.
 fn read_queries(alloc: Global, text: &[u8]) -> Result<Vec<TypedQuery>, Refusal<ManyFault>>
     ensures { ReadsText queries_file_kind (λ queries. trees_of queries.items) text.now result }
 {
@@ -77,7 +79,7 @@ fn read_queries(alloc: Global, text: &[u8]) -> Result<Vec<TypedQuery>, Refusal<M
     read_pieces(alloc, pieces.as_slice())
 }
 
-// The length of the first line of a text, its line feed with it.
+// Returns the length of the first line of a text, its line feed included.
 fn line_len(text: &[u8]) -> usize
     requires { 0 < length text.now }
     ensures within { (0 < result) × (result ≤ length text.now) }
@@ -89,14 +91,14 @@ fn line_len(text: &[u8]) -> usize
     }
 }
 
-// Whether a line stands between two queries.
+// Returns true if a line is a divider between two queries.
 fn is_divider(line: &[u8]) -> bool
     ensures { result ≡ is_divider line.now }
 {
     line == b"%%\n".as_slice() || line == b"%%".as_slice()
 }
 
-// The pieces of a file of queries.
+// Returns the pieces of a file of queries.
 fn cut<'a>(alloc: Global, text: &'a [u8]) -> Result<Vec<&'a [u8]>, NoMemory>
     ensures { IfOk result (λ found. map (λ piece. piece.now) found.items ≡ pieces text.now) }
 {
@@ -115,7 +117,7 @@ fn cut<'a>(alloc: Global, text: &'a [u8]) -> Result<Vec<&'a [u8]>, NoMemory>
     Ok(pieces)
 }
 
-// The queries that some pieces are, or the first of their faults.
+// Returns the queries that some pieces spell. Fails with the first of their faults.
 fn read_pieces(alloc: Global, pieces: &[&[u8]]) -> Result<Vec<TypedQuery>, Refusal<ManyFault>>
     requires { length pieces.now ≤ 16 }
     ensures { ReadsPieces (λ queries. trees_of queries.items) (map (λ piece. piece.now) pieces.now) result }
@@ -128,7 +130,7 @@ fn read_pieces(alloc: Global, pieces: &[&[u8]]) -> Result<Vec<TypedQuery>, Refus
     Ok(queries)
 }
 
-// The query that a piece is, or its fault with the number of the piece.
+// Returns the query that a piece spells. Fails with its fault and the number of the piece.
 fn read_piece(alloc: Global, query: u32, piece: &[u8]) -> Result<TypedQuery, Refusal<ManyFault>>
     ensures { ReadsPiece query piece.now result }
 {
@@ -139,13 +141,13 @@ fn read_piece(alloc: Global, query: u32, piece: &[u8]) -> Result<TypedQuery, Ref
     }
 }
 
-/// Says why the queries in a file are not answered: `err` takes a line where the file of queries has a fault, and nothing else.
+/// Writes the line of the fault of a file of queries to `err`, and nothing for any other cause.
 ///
-/// Answers:
+/// Returns:
 /// - `QueryRefused`: the file has a fault, and its line was taken: `queries too long`, `queries too many` or `query I byte B: REASON`.
 /// - `OpenFault` or `ReadFault`: the file could not be opened, or read; nothing is written.
 /// - `WriteFault`: a write failed, and the count of `err` rose. A prefix of the line was taken.
-/// - `NoMemory`: no memory was found, for the queries or for the line; nothing is written.
+/// - `NoMemory`: out of memory for the queries or for the line; nothing is written.
 pub fn report_queries_refusal<E: Sink>(
     alloc: Global,
     why: &FileRefusal<ManyFault>,
@@ -162,7 +164,7 @@ pub fn report_queries_refusal<E: Sink>(
     }
 }
 
-// Writes the line of a file of queries that is refused.
+// Writes the line of a faulty file of queries.
 fn refuse_queries<E: Sink>(alloc: Global, fault: &ManyFault, err: &mut E) -> Status
     ensures { (out : SinkView) → RefusesQuery (many_line fault.now) result
         (sinks_of out out (sink_view E.taken E.faults err.old) (sink_view E.taken E.faults err.new)) }
@@ -176,7 +178,7 @@ fn refuse_queries<E: Sink>(alloc: Global, fault: &ManyFault, err: &mut E) -> Sta
     }
 }
 
-// The line that tells why a file of queries is refused.
+// Returns the line of a fault of a file of queries.
 fn many_line(alloc: Global, fault: &ManyFault) -> Result<Bytes, NoMemory>
     ensures { IfOk result (λ line. line ≡ many_line fault.now) }
 {

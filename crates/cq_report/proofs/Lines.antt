@@ -2,7 +2,7 @@
 use Rattle.std.proofs.Common.{◌≡◌, ℕ, List, ◌++◌, append_assoc, Ok, Err, sym, ap, ◌∙◌}
 use Rattle.std.specs.Prelude.{Result, OnOk}
 
--- what holds of a success
+-- the clause of a success
 pub on_ok : {T E : Type 0} {A B : Type 0} (result : Result T E) → (A → B) → OnOk result A → OnOk result B
 on_ok (Ok x) f a = f a
 on_ok (Err e) f a = tt

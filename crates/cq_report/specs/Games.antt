@@ -28,7 +28,7 @@ abbrev pub fault_line : ℕ → GameFault → List ℕ
 fault_line game fault =
     codes "game " ++ decimal game ++ codes " byte " ++ decimal fault.byte ++ codes ": " ++ reason_text fault.reason ++ codes "\n"
 
--- how many games there are, match and are refused
+-- the numbers of all games, of those that match, and of the faulty ones
 abbrev pub counts : (games matched refused : ℕ) → List ℕ
 counts games matched refused =
     codes "games " ++ decimal games ++ codes " matched " ++ decimal matched ++ codes " refused " ++ decimal refused
@@ -37,11 +37,11 @@ counts games matched refused =
 abbrev pub summary_line : (games matched refused : ℕ) → List ℕ
 summary_line games matched refused = counts games matched refused ++ codes "\n"
 
--- the line on a made archive that is answered: its bytes, what of its games, and the bytes of the exports
+-- the line of a made archive that was searched: the number of its bytes, the counts of its games, and the bytes of the exports
 abbrev pub made_line : (bytes games matched refused written : ℕ) → List ℕ
 made_line bytes games matched refused written =
     codes "bytes " ++ decimal bytes ++ codes " " ++ counts games matched refused ++ codes " written " ++ decimal written ++ codes "\n"
 
--- the line over the exports of one of several queries: its number, from 1, and how many bytes they have
+-- the line over the exports of one of several queries: its number, from 1, and their length in bytes
 abbrev pub head_line : (query bytes : ℕ) → List ℕ
 head_line query bytes = codes "query " ++ decimal query ++ codes " bytes " ++ decimal bytes ++ codes "\n"

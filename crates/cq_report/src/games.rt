@@ -7,7 +7,7 @@ use itoa::Buffer;
 use pgn_reader::{GameFault, Reason};
 use std::alloc::Global;
 
-// What is said of a faulty game.
+// The text of a reason.
 fn reason_text(reason: Reason) -> &'static [u8]
     ensures { result.now ≡ lines.reason_text reason }
 {
@@ -31,7 +31,11 @@ fn reason_text(reason: Reason) -> &'static [u8]
     }
 }
 
-/// The line of a faulty game: its number, from 1, the byte of its fault, from 0, and the reason.
+/// Returns the line of a faulty game: its number, from 1, the byte of its fault, from 0, and the reason.
+///
+/// # Errors
+///
+/// `NoMemory`: out of memory for the line.
 pub fn fault_line(alloc: Global, game: u64, fault: &GameFault) -> Result<Bytes, NoMemory>
     ensures { IfOk result (λ line. line ≡ lines.fault_line game fault.now) }
 {
@@ -46,7 +50,11 @@ pub fn fault_line(alloc: Global, game: u64, fault: &GameFault) -> Result<Bytes, 
     Ok(line)
 }
 
-/// The last line of a report: how many games there are, match and are refused.
+/// Returns the last line of a report: the numbers of all games, of those that match, and of the faulty ones.
+///
+/// # Errors
+///
+/// `NoMemory`: out of memory for the line.
 pub fn summary_line(
     alloc: Global,
     games: u64,
@@ -61,7 +69,12 @@ pub fn summary_line(
     Ok(line)
 }
 
-/// The line on a made archive that is answered: its bytes, how many games it has, match and are refused, and the bytes of the exports.
+/// Returns the line of a made archive that was searched: the number of its bytes, the counts of its games, and the number of bytes of the
+/// exports.
+///
+/// # Errors
+///
+/// `NoMemory`: out of memory for the line.
 pub fn made_line(
     alloc: Global,
     bytes: u64,
@@ -83,7 +96,11 @@ pub fn made_line(
     Ok(line)
 }
 
-/// The line over the exports of one of several queries: its number, from 1, and how many bytes they have.
+/// Returns the line over the exports of one of several queries: its number, from 1, and their length in bytes.
+///
+/// # Errors
+///
+/// `NoMemory`: out of memory for the line.
 pub fn head_line(alloc: Global, query: u64, bytes: u128) -> Result<Bytes, NoMemory>
     ensures { IfOk result (λ line. line ≡ lines.head_line query bytes) }
 {
@@ -96,7 +113,7 @@ pub fn head_line(alloc: Global, query: u64, bytes: u128) -> Result<Bytes, NoMemo
     Ok(line)
 }
 
-// Adds how many games there are, match and are refused.
+// Adds the numbers of all games, of those that match, and of the faulty ones.
 fn push_counts(line: &mut Bytes, games: u64, matched: u64, refused: u64) -> Result<(), NoMemory>
     ensures { OnOk result (line.new ≡ line.old ++ lines.counts games matched refused) }
 {

@@ -1,5 +1,4 @@
-//! The lines of reports: that of a faulty game, the counts after the last game or on a made archive, and the line of a query that is
-//! refused.
+//! The lines of reports: the line of a faulty game, the counts after the last game or on a made archive, and the line of a faulty query.
 #![tactic(auto)]
 
 mod games;

@@ -1,4 +1,4 @@
-//! The line of a query that is refused.
+//! The line of a faulty query.
 ghost use Rattle.std.specs.Prelude.{◌≡◌, ◌++◌, IfOk, OnOk};
 ghost use Rattle.cql_syntax.specs.declared.fault.QueryReason.TheVariants as reasons;
 ghost use Rattle.cq_report.specs.Queries as lines;
@@ -8,7 +8,11 @@ use cql_syntax::{Kind, QueryFault, QueryReason};
 use itoa::Buffer;
 use std::alloc::Global;
 
-/// The line of a query's fault: its byte, from 0, and the reason.
+/// Returns the line of a query's fault: its byte, from 0, and the reason.
+///
+/// # Errors
+///
+/// `NoMemory`: out of memory for the line.
 pub fn query_line(alloc: Global, fault: &QueryFault) -> Result<Bytes, NoMemory>
     ensures { IfOk result (λ line. line ≡ lines.query_line fault.now) }
 {
@@ -20,7 +24,11 @@ pub fn query_line(alloc: Global, fault: &QueryFault) -> Result<Bytes, NoMemory>
     Ok(line)
 }
 
-/// The same line in a file of queries: the query's number, from 1, its byte within the query, from 0, and the reason.
+/// Returns the same line in a file of queries: the query's number, from 1, its byte within the query, from 0, and the reason.
+///
+/// # Errors
+///
+/// `NoMemory`: out of memory for the line.
 pub fn numbered_query_line(
     alloc: Global,
     number: u32,
@@ -39,7 +47,7 @@ pub fn numbered_query_line(
     Ok(line)
 }
 
-// Adds what is said of a query.
+// Adds the text of a reason.
 fn push_reason(line: &mut Bytes, reason: &QueryReason) -> Result<(), NoMemory>
     ensures { OnOk result (line.new ≡ line.old ++ lines.query_reason_text reason.now) }
 {
@@ -63,7 +71,7 @@ fn push_reason(line: &mut Bytes, reason: &QueryReason) -> Result<(), NoMemory>
     }
 }
 
-// Adds a reason that names something.
+// Adds a reason and the name that it is about.
 fn push_name(line: &mut Bytes, reason: &[u8], name: &Bytes) -> Result<(), NoMemory>
     ensures { OnOk result (line.new ≡ line.old ++ (reason.now ++ name.now)) }
 {
@@ -71,7 +79,7 @@ fn push_name(line: &mut Bytes, reason: &[u8], name: &Bytes) -> Result<(), NoMemo
     line.push_all(name.as_slice())
 }
 
-// Adds the reason of a filter of another kind than is wanted.
+// Adds the reason of a filter that has another kind than its place requires.
 fn push_kinds(line: &mut Bytes, wanted: Kind, found: Kind) -> Result<(), NoMemory>
     ensures { OnOk result (line.new ≡ line.old ++ lines.query_reason_text (reasons.KindMismatch wanted found)) }
 {

@@ -1,4 +1,4 @@
--- A count that rose in a call of `run` is answered by its own fault.
+-- A count that rose in a call of `run` has the status of its own fault.
 use Rattle.std.proofs.Common.{◌≡◌, ℕ, List, refl, ap, sym, ◌∙◌, arith, subst}
 use Rattle.cq_maker.specs.GeneratedArchive.{generated_archive}
 use Rattle.cq_words.specs.declared.job.Job.{Job}
@@ -21,7 +21,7 @@ use Rattle.cq_search.specs.SelfRun.{WritesTotals, WritesMade, totals_written, ma
 use Rattle.cq_search.specs.declared.totals.Totals.{Totals}
 use Rattle.cq_queries.proofs.Sinks.{wrote_none}
 
--- counts that stand still, and the one that may rise
+-- counts that did not rise, and the one that may rise
 
 -- no open and no read failed
 pub record NoInputFailed (desk after : DeskView) : Type 0 where
@@ -140,7 +140,7 @@ archive_faults archive limit asks status call (archive_answered file opened answ
 archive_faults archive limit asks status call (archive_unopened is fails same) = unopened_faults status call is fails same
 archive_faults archive limit asks status call (archive_out_of_memory is same) = unmoved_faults status call same
 
--- counts that stood still up to a desk in between
+-- counts that did not rise up to a desk in between
 later_faults : (mid : DeskView) (status : Status) (call : Call) → NoInputFailed call.desk mid → AnswersItsFault status (from_desk mid call) → AnswersItsFault status call
 later_faults mid status call same faults =
     let opens = same.opens in

@@ -1,4 +1,4 @@
--- What is done for words, and the promise of `run` from it.
+-- The work for words, and the promise of `run` from it.
 use Rattle.std.proofs.Common.{◌≡◌, ◌⊎◌, ℕ, ◌+◌, ◌≤◌, ◌<◌, true, List, [], ◌∷◌, ◌++◌, length, take, append-nil, Option, Some, None, Ok, Err, refl, ap, sym, ◌∙◌, arith, subst, inl, inr}
 use Rattle.std.specs.Prelude.{Result}
 use Rattle.std.proofs.Math.Seq.{take-append_seam}
@@ -42,7 +42,7 @@ use Rattle.cq_queries.specs.QueryReading.{RefusesFile, TellsWhy}
 use Rattle.cq_run.specs.Run.{call_of}
 use Rattle.cq_run.proofs.RunFaults.{job_faults, takes_counts, unmoved_faults, usage_faults}
 
--- words that ask a job are not refused
+-- words that name a job are no fault
 
 not_twice : (status s : Status) → status ≡ s → status ≡ WordsRefused → s ≡ WordsRefused
 not_twice status s is e = sym is ∙ e
@@ -92,7 +92,7 @@ job_not_words (Many queries archive settings) status call does e =
     file_not_words queries_file_kind queries (λ asks. AnswersFile archive settings.limit (texts_of_all asks)) status call
     (λ qs mid a f. archive_not_words archive settings.limit (texts_of_all qs) status (from_desk mid call) a f) does e
 
--- a faulty query is refused
+-- a faulty query has its line
 refusal_is_one : (text : List ℕ) (status : Status) (sinks : Sinks) → RefusesQuery text status sinks → IsOneOf status (QueryRefused ∷ WriteFault ∷ NoMemory ∷ [])
 refusal_is_one text QueryRefused sinks does = inl refl
 refusal_is_one text WriteFault sinks does = inr (inl refl)
@@ -104,7 +104,7 @@ refusal_is_one text OpenFault sinks does = absurd does
 refusal_is_one text ReadFault sinks does = absurd does
 refusal_is_one text ArchiveTooLong sinks does = absurd does
 
--- What is taken of a file: all of it, or one byte more than the limit.
+-- The bytes taken of a file: all of it, or one byte more than the limit.
 
 text_by_length : (limit : ℕ) (text rest : List ℕ) → length text ≤ limit + 1 → (length text ≤ limit → rest ≡ [])
     → (limit < length text) ⊎ (length text ≤ limit) → take (limit + 1) (text ++ rest) ≡ text
@@ -120,7 +120,7 @@ taken_text limit file text None takes most whole = absurd takes
 taken_text limit file text (Some rest) takes most whole =
     sym (ap (take (limit + 1)) takes ∙ text_by_length limit text rest most whole (cases_lt limit (length text)))
 
--- what is taken of such a file, by what the desk tells
+-- the bytes taken of such a file, by the telling of the desk
 read_text : (call : Call) (most : ℕ) (name text found : List ℕ) (mid : DeskView) → (asks : IsInFile call most name text) → TakesQuery most name call.desk mid found → found ≡ text
 read_text call most name text found mid asks takes =
     taken_text most (bytes_of asks.told.files name) found mid.file.left
@@ -170,7 +170,7 @@ queries_refused_always (Check query) text status call has never does = absurd ha
 queries_refused_always (Explain query) text status call has never does = absurd has
 queries_refused_always (SelfRun word settings) text status call has never does = absurd has
 
--- an accepted query is answered
+-- an archive is searched for an accepted query
 
 archive_complete : (archive : List ℕ) (limit : ℕ) (asks : ExpectedOutput) (status : Status) (call : Call) → (short : IsShort call archive limit asks) → (none : NothingRose call)
     → AnswersFile archive limit asks status call → IsOneOf status (Done ∷ DoneWithRefusals ∷ NoMemory ∷ [])
@@ -190,7 +190,7 @@ record Only {Q F : Type 0} (reading : FileKind Q F) (text : List ℕ) (found : Q
   one : (other : Q) → reading.Is text other → other ≡ found
   none : (fault : F) → reading.Has text fault → ⊥
 
--- the good answers, of which one is that there is no memory
+-- the good statuses, of which one is out of memory
 record Good : Type 0 where
   statuses : List Status
   memory : IsOneOf NoMemory statuses
@@ -207,7 +207,7 @@ text_complete text query Accepted good status call only answers (text_accepted q
 text_complete text query Accepted good status call only answers (text_refused fault faulty does same) = absurd (only.none fault faulty)
 text_complete text query Accepted good status call only answers (text_out_of_memory is same) = subst (λ s. IsOneOf s good.statuses) (sym is) good.memory
 
--- what is taken of a file is accepted as this, and as nothing else
+-- the bytes taken of a file are accepted as this, and as nothing else
 record IsFoundIn {Q F : Type 0} (reading : FileKind Q F) (name : List ℕ) (found : Q) (call : Call) : Type 0 where
   text : List ℕ
   asks : IsInFile call reading.most name text
@@ -248,13 +248,13 @@ none_later most name mid text call takes none =
       writes = none.writes;
     }
 
--- What is taken of a file is accepted as this, and as nothing else, the archive is short enough for it, and no count rose.
+-- The bytes taken of a file are accepted as this, and as nothing else, the archive is short enough for it, and no count rose.
 record IsAnswerable {Q F : Type 0} (reading : FileKind Q F) (name : List ℕ) (found : Q) (archive : List ℕ) (limit : ℕ) (asked_of : ExpectedOutput) (call : Call) : Type 0 where
   file : IsFoundIn reading name found call
   short : IsShort call archive limit asked_of
   none : NothingRose call
 
--- what a file is asked for is answered over an archive
+-- an archive is searched for the queries of a file
 over_archive : {Q F : Type 0} (reading : FileKind Q F) (name : List ℕ) (found : Q) (archive : List ℕ) (limit : ℕ) (asks : Q → ExpectedOutput) (status : Status) (call : Call)
     → IsAnswerable reading name found archive limit (asks found) call
     → OverFile reading name (λ q. AnswersFile archive limit (asks q)) status call → IsOneOf status (Done ∷ DoneWithRefusals ∷ NoMemory ∷ [])
@@ -369,7 +369,7 @@ asks_answered words result value taken job (inr is) = subst (λ j. Answers j res
 same_job : (a b : Job) → ◌≡◌ {A = Option Job} (Some a) (Some b) → b ≡ a
 same_job a b e = cc
 
--- the job that was done is the one that is asked
+-- the job that was done is the one that the words name
 asked_done : (words : List (List ℕ)) (status : Status) (call : Call) (job other : Job) → Answers (job_of_words words) (Ok job)
     → (takes line words ≡ true → Answers (job_in (matches_of line words)) (Ok job)) → DoesJob job status call → Asks words (Some other) → DoesJob other status call
 asked_done words status call job other value taken does asks =
@@ -381,7 +381,7 @@ IsDecided {Q} {F} reading text =
     (((found : Q) × reading.Is text found) × ((fault : F) → reading.Has text fault → ⊥))
     ⊎ (((fault : F) × reading.Has text fault) × ((found : Q) → reading.Is text found → ⊥))
 
--- the laws of what a file is asked for: each text is decided, and is accepted as one thing at most
+-- the laws of a kind of file: each text is decided, and is accepted as one thing at most
 pub record HasOneOutcome {Q F : Type 0} (reading : FileKind Q F) : Type 0 where
   pub one : (text : List ℕ) (found other : Q) → reading.Is text found → reading.Is text other → found ≡ other
   pub decided : (text : List ℕ) → IsDecided reading text
@@ -472,7 +472,7 @@ memory_refusal_promised words desk sinks same =
       queries_complete = λ job text queries asks has are short none. memory_is_good job;
     }
 
--- what was said of a file that is not answered
+-- the line of a file of which nothing is accepted
 pub told_why : {Q F : Type 0} (reading : FileKind Q F) (name : List ℕ) (Accepted : Q → Status → Call → Type 0) (why : FileRefusal F) (status : Status)
     (desk after : DeskView) (sinks : Sinks) → RefusesFile reading name desk after why → TellsWhy reading why status sinks
     → OverFile reading name Accepted status (call_of desk after sinks)

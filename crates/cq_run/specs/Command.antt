@@ -1,17 +1,17 @@
--- How the program ends.
+-- The exit status of the program.
 use Rattle.std.specs.Prelude.{◌≡◌, ℕ, List}
 use Rattle.cq_run.specs.Run.{Call, IsUnmoved, Promise}
 use Rattle.cq_queries.specs.Status.{exit_code}
 use Rattle.cq_queries.specs.declared.status.Status.{Status}
 use Rattle.cq_queries.specs.declared.status.Status.TheVariants.{NoMemory}
 
--- the exit status is that of the status by which these words were answered
+-- the exit status is that of the status that `run` returns for these words
 pub record EndsWords (words : List (List ℕ)) (code : ℕ) (call : Call) : Type 0 where
   pub status : Status
   pub code_is : code ≡ exit_code status
   pub answered : Promise words status call
 
--- there was no memory for the words: nothing was opened, read or written
+-- out of memory for the words: nothing was opened, read or written
 pub record EndsWithoutWords (code : ℕ) (call : Call) : Type 0 where
   pub code_is : code ≡ exit_code NoMemory
   pub unmoved : IsUnmoved call

@@ -1,4 +1,4 @@
--- What `run` promises: what it does for its words, what out and err have taken then, and when each answer comes.
+-- The promise of `run`: the job that it does for its words, the texts that out and err have taken, and the cause of each status.
 use Rattle.std.specs.Prelude.{◌≡◌, ◌⊎◌, ℕ, ◌+◌, ◌≤◌, ◌<◌, true, List, [], ◌∷◌, length, take, Option, None, Some, codes}
 use Rattle.clap.specs.Takes.{takes}
 use Rattle.clap.specs.Simple.{matches_of}
@@ -28,7 +28,7 @@ use Rattle.cq_queries.specs.Views.{SourceView, DeskView, Sinks, Writes, WritesPr
 use Rattle.cq_queries.specs.Views.{ErrFailed, SinkFailed}
 use Rattle.cq_search.specs.Promise.{IsOneOf, AnswerPromise, Suffices, ExpectedOutput}
 
--- what a call of `run` was lent, as it began and as it ended
+-- the desk and the sinks of a call of `run`, as it began and as it ended
 pub record Call : Type 0 where
   pub desk : DeskView
   pub desk_after : DeskView
@@ -46,13 +46,13 @@ pub record IsUnmoved (call : Call) : Type 0 where
   pub desk : call.desk_after ≡ call.desk
   pub sinks : IsUnwritten call.sinks
 
--- ---- words that are refused
+-- ---- words that are no command
 
--- the line that answers words that are refused
+-- the line for words that are no command
 abbrev pub usage_line : List ℕ
 usage_line = codes "usage: cqlpgn MODE QUERY [ARCHIVE] [--workers N] [--seed S] [--games G] [--limit B] [--first]\n"
 
--- words that are refused: the usage line is written
+-- words that are no command: the usage line is written
 abbrev pub WritesUsage : Status → Sinks → Type 0
 WritesUsage WordsRefused sinks = Writes sinks (text_for_err usage_line) × NoWriteFailed sinks
 WritesUsage WriteFault sinks = WritesPrefix sinks (text_for_err usage_line) × ErrFailed sinks
@@ -60,7 +60,8 @@ WritesUsage _ sinks = ⊥
 
 -- ---- jobs
 
--- What is accepted is answered over the archive in a file, of which so many bytes are the limit, by the texts that it asks for.
+-- The search of the archive in a file for an accepted query, or for several. So many bytes of it are the limit, and the texts are those of
+-- the expected output.
 pub data AnswersFile (archive : List ℕ) (limit : ℕ) (asks : ExpectedOutput) (status : Status) (call : Call) : Type 0 where
   archive_answered : (file : SourceView) → Opened archive call.desk call.desk_after file
       → AnswerPromise asks status (record { limit = limit; source = file; source_after = call.desk_after.file; sinks = call.sinks })
@@ -69,14 +70,14 @@ pub data AnswersFile (archive : List ℕ) (limit : ℕ) (asks : ExpectedOutput) 
       → AnswersFile archive limit asks status call
   archive_out_of_memory : status ≡ NoMemory → IsUnmoved call → AnswersFile archive limit asks status call
 
--- A query that a word is: it is refused for its fault, or accepted, and then this is done.
+-- A query that a word spells: its fault has a line, or it is accepted, and then this is done.
 pub data OverText (text : List ℕ) (Accepted : QueryTree → Status → Call → Type 0) (status : Status) (call : Call) : Type 0 where
   text_accepted : (query : QueryTree) → IsQuery text query → Accepted query status call → OverText text Accepted status call
   text_refused : (fault : QueryFault) → IsQueryFault text fault → RefusesQuery (query_line fault) status call.sinks
       → call.desk_after ≡ call.desk → OverText text Accepted status call
   text_out_of_memory : status ≡ NoMemory → IsUnmoved call → OverText text Accepted status call
 
--- The same of what a file is asked for, which is opened and read first.
+-- The same of a file with one query or several, which is opened and read first.
 pub data OverFile {Q F : Type 0} (reading : FileKind Q F) (name : List ℕ) (Accepted : Q → Status → Call → Type 0) (status : Status)
     (call : Call) : Type 0 where
   file_accepted : (text : List ℕ) (found : Q) (mid : DeskView) → TakesQuery reading.most name call.desk mid text
@@ -90,7 +91,7 @@ pub data OverFile {Q F : Type 0} (reading : FileKind Q F) (name : List ℕ) (Acc
   file_out_of_memory : status ≡ NoMemory → LacksMemory reading.most name call.desk call.desk_after → IsUnwritten call.sinks
       → OverFile reading name Accepted status call
 
--- an accepted query is said to be one, and no other file is opened
+-- an accepted query has the line `ok`, and no other file is opened
 abbrev pub SaysAccepted : QueryTree → Status → Call → Type 0
 SaysAccepted query status call = AcceptsQuery status call.sinks × (call.desk_after ≡ call.desk)
 
@@ -98,11 +99,11 @@ SaysAccepted query status call = AcceptsQuery status call.sinks × (call.desk_af
 abbrev pub Explains : QueryTree → Status → Call → Type 0
 Explains query status call = WritesFlat query status call.sinks × (call.desk_after ≡ call.desk)
 
--- an accepted query is answered over the archive that is made, and no file is opened
+-- the made archive is searched for an accepted query, and no file is opened
 abbrev pub RunsMade : ℕ → ℕ → QueryTree → Status → Call → Type 0
 RunsMade seed games query status call = WritesMade (generated_archive seed games) query status call.sinks × (call.desk_after ≡ call.desk)
 
--- what is done for a job
+-- the work of a job
 abbrev pub DoesJob : Job → Status → Call → Type 0
 DoesJob (Run query archive settings) = OverFile query_file_kind query (λ asks. AnswersFile archive settings.limit (expected_output settings.first asks))
 DoesJob (Eval text archive settings) = OverText text (λ asks. AnswersFile archive settings.limit (expected_output settings.first asks))
@@ -111,28 +112,28 @@ DoesJob (Explain query) = OverFile query_file_kind query Explains
 DoesJob (SelfRun text settings) = OverText text (RunsMade settings.seed settings.games)
 DoesJob (Many queries archive settings) = OverFile queries_file_kind queries (λ asks. AnswersFile archive settings.limit (texts_of_all asks))
 
--- What is done for words: the job that they ask, or they are refused, and no file is opened then.
+-- The work for words: the job that they name, or the usage line. For the usage line no file is opened.
 pub data AnswersWords (words : List (List ℕ)) (status : Status) (call : Call) : Type 0 where
   job_done : (job : Job) → job_of_words words ≡ Some job → DoesJob job status call → AnswersWords words status call
   words_refused : job_of_words words ≡ None → WritesUsage status call.sinks → call.desk_after ≡ call.desk → AnswersWords words status call
   words_out_of_memory : status ≡ NoMemory → IsUnmoved call → AnswersWords words status call
 
--- ---- when an answer always comes
+-- ---- when a status always comes
 
--- The words ask for this job, or for none: by the matches that `clap` promises where it promises to take them, or by the faults that
--- it finds in them.
+-- The words name this job, or none: by the matches that `clap` promises if it promises to take them, or by the faults that it finds in
+-- them.
 abbrev pub Asks : List (List ℕ) → Option Job → Type 0
 Asks words job = ((takes line words ≡ true) × (job_in (matches_of line words) ≡ job)) ⊎ (job_of_words words ≡ job)
 
--- a count that is greater than it was is answered by its own fault
+-- a count that is greater than it was has the status of its own fault
 pub record AnswersItsFault (status : Status) (call : Call) : Type 0 where
   pub open_faults : call.desk.open_faults < call.desk_after.open_faults → status ≡ OpenFault
   pub read_faults : call.desk.file.faults < call.desk_after.file.faults → status ≡ ReadFault
   pub out_faults : call.sinks.out.faults < call.sinks.out_after.faults → status ≡ WriteFault
   pub err_faults : call.sinks.err.faults < call.sinks.err_after.faults → status ≡ WriteFault
 
--- The desk tells its files, and this is taken of the file of a query, or of several, which was opened and read without a fault: all of it,
--- or one byte more than the limit.
+-- The desk tells its files, and the file of a query, or of several, was opened and read without a fault. This text was taken of it: all of
+-- it, or one byte more than the limit.
 pub record IsInFile (call : Call) (most : ℕ) (name text : List ℕ) : Type 0 where
   pub told : DeskFiles
   pub tells : call.desk.told ≡ Some told
@@ -166,8 +167,8 @@ pub record IsShort (call : Call) (archive : List ℕ) (limit : ℕ) (asked_of : 
   pub tells : call.desk.told ≡ Some told
   pub within : (length (bytes_of told.files archive) ≤ limit) ⊎ Suffices asked_of (take limit (bytes_of told.files archive))
 
--- The archive of a job, where it reads one, is within the limit. Up to the first match it is enough that a game matches in the whole
--- batches of that many bytes.
+-- The archive of a job, if it reads one, is within the limit. Up to the first match it is enough that a game matches in the whole batches
+-- of that many bytes.
 abbrev pub IsWithin : Call → Job → QueryTree → Type 0
 IsWithin call (Run name archive settings) query = IsShort call archive settings.limit (expected_output settings.first query)
 IsWithin call (Eval text archive settings) query = IsShort call archive settings.limit (expected_output settings.first query)
@@ -181,7 +182,7 @@ abbrev pub IsWithinForAll : Call → Job → List QueryTree → Type 0
 IsWithinForAll call (Many name archive settings) queries = IsShort call archive settings.limit (texts_of_all queries)
 IsWithinForAll call job queries = Unit {0}
 
--- the answers of a job that is accepted, where nothing fails
+-- the statuses of a job that is accepted, if nothing fails
 abbrev pub good_answers : Job → List Status
 good_answers (Run query archive settings) = Done ∷ DoneWithRefusals ∷ NoMemory ∷ []
 good_answers (Eval text archive settings) = Done ∷ DoneWithRefusals ∷ NoMemory ∷ []
@@ -190,8 +191,8 @@ good_answers (Explain query) = Done ∷ NoMemory ∷ []
 good_answers (SelfRun text settings) = Done ∷ DoneWithRefusals ∷ NoMemory ∷ []
 good_answers (Many queries archive settings) = Done ∷ DoneWithRefusals ∷ NoMemory ∷ []
 
--- What `run` promises of its status: what was done for the words, that a count that rose is answered by its own fault, and when an
--- answer always or never comes.
+-- The promise of `run` on its status: the work that was done for the words, the fault of each count that rose, and the statuses that always
+-- or never come.
 pub record Promise (words : List (List ℕ)) (status : Status) (call : Call) : Type 0 where
   pub does : AnswersWords words status call
   pub faults : AnswersItsFault status call

@@ -1,4 +1,4 @@
-//! The program, but for the real things that it is handed.
+//! The program, with its desk and sinks as parameters.
 ghost use Rattle.std.specs.Prelude.{map, MatchResult};
 ghost use Rattle.std.specs.String.{string_bytes};
 ghost use Rattle.cq_run.specs.Run.{call_of};
@@ -12,9 +12,8 @@ use cq_queries::Status;
 use std::alloc::Global;
 use std::thread::Threads;
 
-/// Ends the program: answers the words after its name over the desk and the two sinks that it is handed, `out` for exports and `err`
-/// for the report, as `run` does, and gives the exit status, from 0 to 8. Words for which there was no memory end it with 7, and
-/// nothing is opened, read or written then.
+/// Ends the program: does the job of the words after its name, as `run` does, over the desk and the two sinks. `out` takes exports, and
+/// `err` the report. Returns the exit status, from 0 to 8. Out of memory for the words, it is 7, and nothing is opened, read or written.
 pub fn answer_command<R: Threads + Sync, D: Desk, O: Sink, E: Sink>(
     rt: &R,
     alloc: Global,

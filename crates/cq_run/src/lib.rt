@@ -1,4 +1,4 @@
-//! The top call: what the words of a command answer.
+//! The top call: the jobs that the words of a command name.
 #![tactic(auto)]
 
 mod command;

@@ -1,4 +1,4 @@
-//! Answering the query that a text is over an archive that is made.
+//! The search of a made archive.
 ghost use Rattle.std.specs.Prelude.{◌≤◌};
 ghost use Rattle.cq_queries.specs.Views.{DeskView, sink_view, sinks_of};
 ghost use Rattle.cq_run.specs.Run.{OverText, RunsMade, call_of};
@@ -11,7 +11,7 @@ use cq_words::{SelfRunSettings, Settings};
 use std::alloc::Global;
 use std::thread::Threads;
 
-/// Answers the query that a text is over the archive that is made as the settings say: `out` takes one line with the counts.
+/// Searches the archive that the settings make for the query that a text spells. `out` takes one line with the counts.
 pub fn do_self_run<R: Threads + Sync, O: Sink, E: Sink, G: Gate + Sync>(
     rt: &R,
     alloc: Global,

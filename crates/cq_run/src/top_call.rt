@@ -28,49 +28,52 @@ use cql_syntax::TypedQuery;
 use std::alloc::Global;
 use std::thread::Threads;
 
-/// The line that answers words that are refused.
+/// The line for words that are no command.
 const USAGE: &[u8] =
     b"usage: cqlpgn MODE QUERY [ARCHIVE] [--workers N] [--seed S] [--games G] [--limit B] [--first]\n";
 
-/// Answers the words of a command, those after the program's name.
+/// Does the job that the words of a command name, those after the program's name.
 ///
-/// - `run QUERY [ARCHIVE]` answers the query in the file QUERY over the archive in the file ARCHIVE: `out` takes the exports of
-///   the games that match, by the query's sort items and then in archive order, and `err` the report. Where the word is missing the
-///   archive is standard input, the desk's file `-`.
-/// - `eval TEXT [ARCHIVE]` does the same of the query that the word TEXT is.
-/// - `check QUERY` writes `ok` to `out` where the query in the file QUERY is accepted.
-/// - `explain QUERY` writes its flat form to `out`, an item on each line, where the query in the file QUERY is accepted.
-/// - `selfrun TEXT` answers the query that the word TEXT is over an archive that is made, of `--games G` games, from 0 to 100,000 and
-///   by default 100, from `--seed S`, from 0 to 2^32 - 1 and by default 1: `out` takes one line, `bytes B games G matched M refused
-///   R written W`, where B is the length of the archive and W that of the exports, and no file is opened.
-/// - `many QUERIES [ARCHIVE]` answers the queries in the file QUERIES, from 1 to 16 with a line `%%` between two of them, over one reading
-///   of the archive: for each in order `out` takes the line `query I bytes W` and then its W bytes of exports; `err` takes the lines of
-///   the faulty games and then, for each in order, its counts.
+/// - `run QUERY [ARCHIVE]` searches the archive in the file ARCHIVE for the query in the file QUERY. `out` takes the exports of the games
+///   with a match, by the query's sort items and then in archive order, and `err` the report. If the word is missing, the archive is
+///   standard input, the desk's file `-`.
+/// - `eval TEXT [ARCHIVE]` does the same with the query that the word TEXT spells.
+/// - `check QUERY` writes `ok` to `out` if the query in the file QUERY is accepted.
+/// - `explain QUERY` writes its flat form to `out`, an item on each line, if the query in the file QUERY is accepted.
+/// - `selfrun TEXT` searches a made archive for the query that the word TEXT spells. The archive has `--games G` games, from 0 to 100,000
+///   and by default 100, from `--seed S`, from 0 to 2^32 - 1 and by default 1. No file is opened, and `out` takes one line,
+///   `bytes B games G matched M refused R written W`. B is the length of the archive and W that of the exports.
+/// - `many QUERIES [ARCHIVE]` searches the archive, in one reading, for the queries in the file QUERIES, from 1 to 16 with a line `%%`
+///   between two of them. For each in order `out` takes the line `query I bytes W` and then its W bytes of exports. `err` takes the lines
+///   of the faulty games and then, for each in order, its counts.
 ///
-/// All but `check` and `explain` take `--workers N`, from 1 to 64, the number of workers that answer the games of a batch, in threads of
-/// `rt`, by default 4; each tells `gate` as it enters and leaves a game. `run`, `eval` and `many` take `--limit B`, from 1 to 2^40: more
-/// than so many bytes of an archive are refused, of which one more is taken at most. An archive is read in pieces of at most 65,536 bytes,
-/// batch by batch. `run` and `eval` also take `--first`: the first game that matches is written alone, whatever the query's sort items, the
-/// report ends with it, and nothing is read after the read that completes its batch.
+/// All but `check` and `explain` take `--workers N`, from 1 to 64 and by default 4. It is the number of workers that search the games of a
+/// batch, in threads of `rt`. Each tells `gate` as it enters and leaves a game. `run`, `eval` and `many` take `--limit B`, from 1 to 2^40,
+/// the most bytes of an archive; at most one byte more is taken. An archive is read in pieces of at most 65,536 bytes, batch by batch.
+/// `run` and `eval` also take `--first`: the first game that matches is written alone, whatever the query's sort items. The report ends
+/// with that game. Nothing is read after the read that completes its batch.
 ///
-/// Of a query's file at most 65,537 bytes are taken, and of a file of queries 1,048,577. A query with a fault is refused by a line on
-/// `err`, `query byte B: REASON`, before the archive is opened. So is a file of queries, by the first of these lines that applies: `queries
-/// too long`, with more than 1,048,576 bytes; `queries too many`, with more than 16 pieces; `query I byte B: REASON`, with I the number of
-/// the first piece with a fault, from 1, and B its byte in the piece. Other words are refused by the usage line.
+/// Of a query's file at most 65,537 bytes are taken, and of a file of queries 1,048,577. A query with a fault has a line on `err`,
+/// `query byte B: REASON`, before the archive is opened. So has a file of queries, the first of these lines that applies:
+/// - `queries too long`: it has more than 1,048,576 bytes.
+/// - `queries too many`: it has more than 16 pieces.
+/// - `query I byte B: REASON`: a piece has a fault. I is the number of the first such piece, from 1, and B its byte in the piece.
 ///
-/// Answers:
-/// - `Done` or `DoneWithRefusals`: both sinks have taken all, and no game of the report, or some, is faulty. `check` and `explain` answer
+/// Words that are no command have the usage line.
+///
+/// Returns:
+/// - `Done` or `DoneWithRefusals`: both sinks have taken all, and no game of the report, or some, is faulty. `check` and `explain` return
 ///   `Done`.
-/// - `QueryRefused` or `WordsRefused`: the query has a fault, or the file of queries, or the words are refused; the line is written.
+/// - `QueryRefused` or `WordsRefused`: the query has a fault, or the file of queries, or the words are no command; the line is written.
 /// - `OpenFault`: that count of the desk rose, and no other; nothing is written.
-/// - `ReadFault`: that count of the desk rose, and no other. Of the games of the whole batches that were read the lines of the faulty
-///   ones are written, and the exports where there is one query and it has no sort item.
+/// - `ReadFault`: that count of the desk rose, and no other. Of the games of the whole batches that were read the lines of the faulty ones
+///   are written. So are the exports if there is one query and it has no sort item.
 /// - `WriteFault`: the count of one sink rose, and no other. Each sink has taken a prefix of its text.
-/// - `NoMemory`: no memory was found, and no count rose; each sink has taken a prefix of its text.
-/// - `ArchiveTooLong`: more bytes of the archive than the limit were taken; written is as much as after a fault of reading.
+/// - `NoMemory`: out of memory, and no count rose; each sink has taken a prefix of its text.
+/// - `ArchiveTooLong`: more bytes of the archive than the limit were taken; as much is written as for `ReadFault`.
 ///
-/// In all the others no count rose. The clause `Promise` says each of these exactly, and when an answer always comes; the
-/// table of statuses in README says what the program's user sees of it.
+/// In all the others no count rose. The clause `Promise` defines each of these exactly, and the statuses that always come. README has a
+/// table of statuses for the program's user.
 pub fn run<R: Threads + Sync, D: Desk, O: Sink, E: Sink, G: Gate + Sync>(
     rt: &R,
     alloc: Global,
@@ -111,7 +114,7 @@ fn refuse_words<E: Sink>(err: &mut E) -> Status
     }
 }
 
-// Does what the words ask.
+// Does the job that the words name.
 fn do_job<R: Threads + Sync, D: Desk, O: Sink, E: Sink, G: Gate + Sync>(
     rt: &R,
     alloc: Global,
@@ -163,7 +166,7 @@ fn do_job<R: Threads + Sync, D: Desk, O: Sink, E: Sink, G: Gate + Sync>(
     }
 }
 
-// Answers the query in a file over the archive in another.
+// Searches the archive in a file for the query in another.
 fn do_run<R: Threads + Sync, D: Desk, O: Sink, E: Sink, G: Gate + Sync>(
     context: &RunContext<'_, R, G>,
     name: &[u8],
@@ -187,7 +190,7 @@ fn do_run<R: Threads + Sync, D: Desk, O: Sink, E: Sink, G: Gate + Sync>(
     }
 }
 
-// Answers the query that a text is over the archive in a file.
+// Searches the archive in a file for the query that a text spells.
 fn do_eval<R: Threads + Sync, D: Desk, O: Sink, E: Sink, G: Gate + Sync>(
     context: &RunContext<'_, R, G>,
     text: &[u8],
@@ -211,7 +214,7 @@ fn do_eval<R: Threads + Sync, D: Desk, O: Sink, E: Sink, G: Gate + Sync>(
     status
 }
 
-// Answers a query that is accepted over the archive in a file.
+// Searches the archive in a file for an accepted query.
 fn search_file<R: Threads + Sync, D: Desk, O: Sink, E: Sink, G: Gate + Sync>(
     context: &RunContext<'_, R, G>,
     query: &TypedQuery,
@@ -232,7 +235,7 @@ fn search_file<R: Threads + Sync, D: Desk, O: Sink, E: Sink, G: Gate + Sync>(
     }
 }
 
-// Answers the queries in a file over the archive in another.
+// Searches the archive in a file for the queries in another.
 fn do_many<R: Threads + Sync, D: Desk, O: Sink, E: Sink, G: Gate + Sync>(
     context: &RunContext<'_, R, G>,
     name: &[u8],
@@ -256,7 +259,7 @@ fn do_many<R: Threads + Sync, D: Desk, O: Sink, E: Sink, G: Gate + Sync>(
     }
 }
 
-// Answers several queries over the archive in a file.
+// Searches the archive in a file for several queries.
 fn search_file_many<R: Threads + Sync, D: Desk, O: Sink, E: Sink, G: Gate + Sync>(
     context: &RunContext<'_, R, G>,
     queries: &[TypedQuery],
@@ -278,7 +281,7 @@ fn search_file_many<R: Threads + Sync, D: Desk, O: Sink, E: Sink, G: Gate + Sync
     }
 }
 
-// Says whether the query in a file is accepted.
+// Writes `ok` if the query in a file is accepted.
 fn do_check<D: Desk, O: Sink, E: Sink>(
     alloc: Global,
     name: &[u8],

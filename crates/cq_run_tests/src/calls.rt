@@ -1,4 +1,4 @@
-//! The top call, and what the tests give it.
+//! The top call, and its parameters in the tests.
 ghost use Rattle.std.specs.Prelude.{◌≤◌};
 
 use cq_common::NoMemory;
@@ -7,7 +7,7 @@ use cq_run::{Status, run};
 use std::alloc::{AllocError, Global};
 use std::thread::Threads;
 
-// The words as a command has them.
+// Returns the words as a command has them.
 fn texts_of(alloc: Global, words: &[&str]) -> Result<Vec<String>, AllocError> {
     let mut texts = Vec::new(alloc);
     for word in words {
@@ -16,7 +16,7 @@ fn texts_of(alloc: Global, words: &[&str]) -> Result<Vec<String>, AllocError> {
     Ok(texts)
 }
 
-/// The words of a job, and so many workers.
+/// Returns the words of a job, and so many workers.
 pub(crate) fn job_of(
     alloc: Global,
     job: &[&str],
@@ -28,7 +28,7 @@ pub(crate) fn job_of(
     Ok(texts)
 }
 
-/// A desk with these files, each a name and what it holds. The name `-` is standard input.
+/// Returns a desk with these files, each a name and its text. The name `-` is standard input.
 pub(crate) fn desk_of(alloc: Global, files: &[(&str, &str)]) -> Result<SureDesk, NoMemory> {
     let mut desk = SureDesk::new(alloc);
     for (name, bytes) in files {
@@ -37,14 +37,14 @@ pub(crate) fn desk_of(alloc: Global, files: &[(&str, &str)]) -> Result<SureDesk,
     Ok(desk)
 }
 
-/// A sink that takes so many bytes a write, of which some fail.
+/// Returns a sink that takes so many bytes a write, of which some fail.
 pub(crate) fn sink_with(alloc: Global, piece: usize, fails: &[u64]) -> Result<MemSink, NoMemory>
     requires { 1 ≤ piece }
 {
     MemSink::new(alloc, 4096, piece, Calls::of(alloc, fails)?)
 }
 
-/// Whether a sink has taken so many bytes of a text; where no number is asked for, any.
+/// Returns true if a sink has taken so many bytes of a text, or any number of them if none is given.
 pub(crate) fn is_part(taken: Option<&[u8]>, text: &str, count: Option<usize>) -> bool {
     let Some(taken) = taken else {
         return false;
@@ -52,7 +52,7 @@ pub(crate) fn is_part(taken: Option<&[u8]>, text: &str, count: Option<usize>) ->
     text.as_bytes().starts_with(taken) && taken.len() == count.unwrap_or(taken.len())
 }
 
-/// How texts are answered. The contract of the top call is a large one, so that all tests make this call alone.
+/// Returns the status of texts. The contract of the top call is a large one, so that all tests make this call alone.
 pub(crate) fn status_by<R: Threads + Sync, D: Desk, O: Sink, E: Sink, G: Gate + Sync>(
     rt: &R,
     alloc: Global,
@@ -65,7 +65,7 @@ pub(crate) fn status_by<R: Threads + Sync, D: Desk, O: Sink, E: Sink, G: Gate + 
     run(rt, alloc, texts, desk, out, err, gate)
 }
 
-/// How words are answered.
+/// Returns the status of words.
 pub(crate) fn status_of<R: Threads + Sync, D: Desk, O: Sink, E: Sink, G: Gate + Sync>(
     rt: &R,
     alloc: Global,

@@ -1,4 +1,4 @@
-//! The top call over a desk of other hands, which answers each call as it is told.
+//! The top call over a desk whose results are given.
 ghost use Rattle.std.specs.Prelude.{◌≡◌, ◌≤◌, None};
 
 use crate::calls::status_of;
@@ -10,7 +10,7 @@ use std::process::Abort;
 use std::test::Fail;
 use std::thread::Threads;
 
-/// A desk without bytes that answers each call so.
+/// A desk without bytes, with these results of each call.
 #[derive(Drop)]
 struct FailingDesk {
     open: Result<(), OpenFault>,
@@ -77,7 +77,7 @@ impl Desk for FailingDesk {
     ghost keeps_open_faults = { λ s t f. f.1 };
 }
 
-/// How openings and reads are answered, and the status of `eval` over standard input.
+/// The results of openings and reads, and the status of `eval` over standard input.
 type FailureCase = (Result<(), OpenFault>, Result<(), Failed>, Status);
 
 static ROWS: [FailureCase; 4] = [
@@ -87,7 +87,7 @@ static ROWS: [FailureCase; 4] = [
     (Ok(()), Ok(()), Status::Done),
 ];
 
-// The status of `eval` over a desk and a first sink.
+// Returns the status of `eval` over a desk and a first sink.
 fn status_of_eval<R: Threads + Sync>(
     rt: &R,
     alloc: Global,
@@ -99,7 +99,7 @@ fn status_of_eval<R: Threads + Sync>(
     status_of(rt, alloc, words, desk, out, &mut err, &OpenGate)
 }
 
-// The same over the desk of a row.
+// Returns the same over the desk of a row.
 fn answered_by<R: Threads + Sync>(
     rt: &R,
     alloc: Global,
@@ -110,7 +110,7 @@ fn answered_by<R: Threads + Sync>(
     status_of_eval(rt, alloc, &mut desk, out)
 }
 
-// Asks that a row has its status, and that no game is written.
+// Fails unless a row has its status, and no game is written.
 fn expect<R: Threads + Sync + Abort>(rt: &R, alloc: Global, row: &FailureCase) -> Result<(), Fail> {
     let mut out = SureSink::new(alloc, 64)?;
     let status = answered_by(rt, alloc, row, &mut out)?;

@@ -1,5 +1,5 @@
-//! Calls of the outside that fail at each place in turn, over one game: the status is that of the cause, and each sink has taken all of its
-//! text, nothing where a read failed, or a prefix. Of several batches this is asked of the process.
+//! Calls of the outside that fail at each place in turn, over one game. The status is that of the cause. Each sink has taken all of its
+//! text, nothing if a read failed, or a prefix. The tests of the process do the same with several batches.
 ghost use Rattle.std.specs.Prelude.{◌≤◌};
 
 use crate::calls::{is_part, sink_with, status_of};
@@ -11,7 +11,7 @@ use std::process::Abort;
 use std::test::Fail;
 use std::thread::Threads;
 
-/// A game as a server writes it.
+/// A game in the form of a chess server.
 const GAME: &str = "\u{feff}[Event \"Rated blitz game\"]\r\n\
     [Site \"https://lichess.org/abcd1234\"]\r\n\
     [Date \"2023.05.14\"]\r\n\
@@ -52,19 +52,19 @@ const WORDS: &[&str] = &[
     "1",
 ];
 
-/// How many calls are made to fail in turn at most, before a run in which none fails.
+/// The most calls that are made to fail in turn, before a run in which none fails.
 const MOST_CALLS: u64 = 8192;
 
-/// How many bytes a call takes or gives at most where none of its kind fails.
+/// The most bytes that a call takes or gives if none of its kind fails.
 const PIECE: usize = 65_536;
 
-/// How many bytes a read gives and a write takes at most, and the numbers of the calls that fail: of a read, and of a write to the first
-/// sink and to the second. No call has the number 0.
+/// The most bytes that a read gives and a write takes, and the numbers of the calls that fail. These are a read, a write to the first sink,
+/// and one to the second. No call has the number 0.
 type FailureRun = (usize, usize, u64, u64, u64);
 
 // ---- one run
 
-// How many bytes a sink has taken before the write that fails, where each write before took one. After it there is none.
+// Returns the number of bytes that a sink has taken before the write that fails, if each write before took one. After it there is none.
 fn taken_before(number: u64, piece: usize) -> Option<usize> {
     if piece == 1 && number > 0 {
         Some((number - 1) as usize)
@@ -73,7 +73,7 @@ fn taken_before(number: u64, piece: usize) -> Option<usize> {
     }
 }
 
-// How many bytes the two sinks should have taken, None where any number may be; nothing where this status should not be.
+// Returns the numbers of bytes that the two sinks should have taken, None for any number. Returns None if this status should not be.
 fn counts(run: &FailureRun, status: Status) -> Option<(Option<usize>, Option<usize>)> {
     let (_, taken, read, at_out, at_err) = *run;
     if status == Status::Done {
@@ -88,7 +88,7 @@ fn counts(run: &FailureRun, status: Status) -> Option<(Option<usize>, Option<usi
     None
 }
 
-// A desk with the game as standard input, whose reads give so many bytes, and of which this one fails.
+// Returns a desk with the game as standard input, whose reads give so many bytes, and of which this one fails.
 fn desk_with(alloc: Global, given: usize, read: u64) -> Result<MemDesk, NoMemory>
     requires { 1 ≤ given }
 {
@@ -97,7 +97,7 @@ fn desk_with(alloc: Global, given: usize, read: u64) -> Result<MemDesk, NoMemory
     Ok(desk)
 }
 
-// The status in a run, over two sinks.
+// Returns the status in a run, over two sinks.
 fn status_of_run<R: Threads + Sync + Abort>(
     rt: &R,
     alloc: Global,
@@ -110,7 +110,7 @@ fn status_of_run<R: Threads + Sync + Abort>(
     status_of(rt, alloc, WORDS, &mut desk, out, err, &OpenGate)
 }
 
-// Whether this status and what the sinks have taken are as they should be in a run.
+// Returns true if this status and the texts of the sinks are as they should be in a run.
 fn is_right(run: &FailureRun, status: Status, out: Option<&[u8]>, err: Option<&[u8]>) -> bool {
     match counts(run, status) {
         Some((outs, errs)) => is_part(out, EXPORT, outs) && is_part(err, REPORT, errs),
@@ -118,7 +118,7 @@ fn is_right(run: &FailureRun, status: Status, out: Option<&[u8]>, err: Option<&[
     }
 }
 
-// Asks for this over two sinks, and says whether a call failed.
+// Fails unless this holds over two sinks. Returns true if a call failed.
 fn expect_by<R: Threads + Sync + Abort>(
     rt: &R,
     alloc: Global,
@@ -131,7 +131,7 @@ fn expect_by<R: Threads + Sync + Abort>(
     Ok(status != Status::Done)
 }
 
-// The same over a first sink.
+// Does the same over a first sink.
 fn expect_with<R: Threads + Sync + Abort>(
     rt: &R,
     alloc: Global,
@@ -143,7 +143,7 @@ fn expect_with<R: Threads + Sync + Abort>(
     expect_by(rt, alloc, run, out, &mut err)
 }
 
-// Asks for this, and says whether a call failed.
+// Fails unless this holds. Returns true if a call failed.
 fn expect<R: Threads + Sync + Abort>(
     rt: &R,
     alloc: Global,
@@ -172,8 +172,8 @@ fn run_of(failing: Failing, piece: usize, number: u64) -> FailureRun {
     }
 }
 
-/// Which calls fail, how many bytes one gives or takes at most, and the bits that the number of a call that fails hasn't: a read costs as
-/// much however little it gives, so of many reads a part fails.
+/// The calls that fail, the most bytes that one gives or takes, and the bits that the number of a failing call hasn't. A read costs as much
+/// however little it gives, so of many reads a part fails.
 type FailureTurns = (Failing, usize, u64);
 
 static TURNS: [FailureTurns; 9] = [
@@ -188,7 +188,7 @@ static TURNS: [FailureTurns; 9] = [
     (Failing::Reads, 4096, 0),
 ];
 
-// Lets calls fail in turn until none does; how many did.
+// Lets calls fail in turn until none does. Returns the number of those that did.
 fn failed_in_turn<R: Threads + Sync + Abort>(
     rt: &R,
     alloc: Global,

@@ -1,4 +1,4 @@
-//! The program has as many workers as it is told, and each of them tells the gate that was handed in.
+//! The number of workers of the program, and the gate that each of them tells.
 use crate::calls::{desk_of, job_of, status_by};
 use cq_common::NoMemory;
 use cq_outside::{Gate, SureDesk, SureSink};
@@ -9,31 +9,31 @@ use std::sync::atomic::{AtomicU32, Ordering};
 use std::test::Fail;
 use std::thread::Threads;
 
-/// How often the worker that comes first looks for another one, where one has to come.
+/// The most looks of the first worker for another one, if one has to come.
 const MOST_LOOKS: u32 = 1_000_000_000;
 
-/// How often each worker looks, at each game, for one that should not be there. A thread that is started begins within a few
-/// milliseconds, and these are more, so that one worker too many would have a game.
+/// The number of looks of each worker, at each game, for one that should not be there. A thread that is started begins within a few
+/// milliseconds, and these looks take more, so that one worker too many would have a game.
 const LOOKS_AT_A_GAME: u32 = 20_000_000;
 
-/// A gate that holds the worker that comes first until another has come, where the program is told more than one, and counts its calls.
+/// A gate that counts its calls. If the program has more than one worker, it holds the first until another has come.
 #[derive(Drop)]
 struct Meeting {
-    /// How many workers the program is told.
+    /// The number of workers that the words give.
     told: u64,
     enters: AtomicU32,
     leaves: AtomicU32,
     by_first: AtomicU32,
     by_others: AtomicU32,
-    /// How many calls were of a worker too many.
+    /// The number of calls of a worker too many.
     beyond: AtomicU32,
-    /// How many workers were held until no other could be waited for.
+    /// The number of workers that were held until no other could be waited for.
     alone: AtomicU32,
-    /// How many games were left with an export of those that `cql() initial` finds.
+    /// The number of games that were left with an export of a match of `cql() initial`.
     exports: AtomicU32,
 }
 
-// Looks so often until there is a count; whether there came to be one.
+// Looks so often until there is a count. Returns true if there came to be one.
 fn comes(count: &AtomicU32, looks: u32) -> bool {
     for _look in 0..looks {
         if count.load(Ordering::Relaxed) > 0 {
@@ -63,8 +63,8 @@ impl Meeting {
         }
     }
 
-    // Whether there was a call of each kind for so many games, with so many exports, none of them by a worker too many, and no worker
-    // waited in vain.
+    // Returns true if there was a call of each kind for so many games, with so many exports. None may be by a worker too many, and no
+    // worker may have waited in vain.
     fn has_seen(&self, games: u32, exports: u32) -> bool {
         let enters = self.enters.load(Ordering::Relaxed);
         let leaves = self.leaves.load(Ordering::Relaxed);
@@ -109,11 +109,11 @@ static FILES: [(&str, &str); 4] = [
     ("games.pgn", "1. e4 *\n* * * * * * *\n"),
 ];
 
-/// Words, how many games are entered and left, and how many exports the gate is told.
+/// Words, the number of games that are entered and left, and the number of exports at the gate.
 type WorkersCase<'a> = (&'a [&'a str], u32, u32);
 
-/// Jobs of each mode that answers games. Of several queries the gate is told the exports of the first: one of 108 bytes and seven of 102,
-/// where those of the second are shorter by two.
+/// Jobs of each mode that searches games. Of several queries the gate is told the exports of the first: one of 108 bytes and seven of 102.
+/// Those of the second are shorter by two.
 static JOBS: [WorkersCase<'static>; 7] = [
     (&["run", "q.cql", "games.pgn"], 8, 0),
     (&["eval", "cql() mate", "games.pgn"], 8, 0),
@@ -127,7 +127,7 @@ static JOBS: [WorkersCase<'static>; 7] = [
 /// One worker draws in order, so it skips every game after the first match.
 static FIRST: WorkersCase<'static> = (&["eval", "cql() initial", "games.pgn", "--first"], 1, 1);
 
-// The status of words over a desk, at a gate.
+// Returns the status of words over a desk, at a gate.
 fn status_of_words<R: Threads + Sync>(
     rt: &R,
     alloc: Global,
@@ -140,7 +140,7 @@ fn status_of_words<R: Threads + Sync>(
     Ok(status_by(rt, alloc, words, desk, &mut out, &mut err, gate))
 }
 
-// The status of a job, at a gate.
+// Returns the status of a job, at a gate.
 fn status_at<R: Threads + Sync>(
     rt: &R,
     alloc: Global,
@@ -153,7 +153,7 @@ fn status_at<R: Threads + Sync>(
     status_of_words(rt, alloc, words.as_slice(), &mut desk, gate)
 }
 
-// Asks that so many workers enter and leave the games of a job once each, none of them a worker too many.
+// Fails unless so many workers enter and leave the games of a job once each, none of them a worker too many.
 fn expect<R: Threads + Sync + Abort>(
     rt: &R,
     alloc: Global,

@@ -1,4 +1,4 @@
--- How a call ends for which all games are asked, from how the batches of the archive were taken.
+-- The end of a call over all games, from the visit of the batches of the archive.
 use Rattle.std.proofs.Common.{◌≡◌, ℕ, ◌+◌, ◌≤◌, ◌<◌, List, [], ◌∷◌, ◌++◌, Err, refl, arith, inl, inr}
 use Rattle.pgn_batches.specs.KeptGames.{KeptGames}
 use Rattle.pgn_batches.specs.Visits.{Gives, HasVisitCause, ReadsAll, IsVisitResult, TakesWhole}
@@ -26,7 +26,7 @@ use Rattle.cq_queries.proofs.Sinks.{some_failed}
 needs : (asked : FullOutput) (call : SearchCall) → TakesAtMost (call.limit + 1) call.source.left call.source_after.left → ReadsNoMore asked.expected_output call
 needs asked call some = needs_all asked call.limit call.source call.source_after call.sinks some
 
--- what games give is written
+-- the texts of the games are written
 abbrev pub IsWritten : FullOutput → Sinks → List ReadResult → Type 0
 IsWritten asked sinks outcomes = Writes sinks (asked.so_far outcomes) × NoWriteFailed sinks
 
@@ -43,7 +43,7 @@ all_stopped laws status asked call games batch gives counts at =
       writes = asked.grows at.outcomes more call.sinks writes;
     }) counts at.holds
 
--- no memory for the next batch
+-- out of memory for the next batch
 all_starves : Laws → (asked : FullOutput) (call : SearchCall) (games : KeptGames) → Gives call.limit call.source.left call.source_after.left games []
     → call.source_after.faults ≡ call.source.faults → HaveReadResults games (IsWritten asked call.sinks) → AnswerPromise asked.expected_output NoMemory call
 all_starves laws asked call games gives counts at =
@@ -53,9 +53,9 @@ all_starves laws asked call games gives counts at =
       holds = (as_prefix call.sinks (asked.so_far at.outcomes) at.holds.0, at.holds.1);
     })
 
--- ---- the next batch was refused
+-- ---- the refusal of the next batch
 
--- games that are taken are read, and what they give is written
+-- games that are taken are read, and their texts are written
 abbrev pub AreWritten : FullOutput → Sinks → (KeptGames → Type 0) → Type 0
 AreWritten asked sinks HasVisited = (games : KeptGames) → HasVisited games → HaveReadResults games (IsWritten asked sinks)
 
@@ -89,7 +89,7 @@ all_refused laws (Fault TheArchiveTooLong) asked call HasVisited Stopped writes 
     (record { source = counts; sinks = (writes (whole at.front) at.taken).holds.1 })
 all_refused laws IsNoMemory asked call HasVisited Stopped writes at counts = all_starves laws asked call at.0 at.1 counts (writes at.0 at.2)
 
--- ---- all games were answered
+-- ---- all games were searched
 
 promised : (status : Status) (asked : FullOutput) (call : SearchCall) (archive : List ℕ) (rs : List ReadResult) → AllRead call archive rs
     → SaysOfAnswer status asked.expected_output call → (AnswersAll asked.expected_output call → IsOneOf status (Done ∷ DoneWithRefusals ∷ NoMemory ∷ []))

@@ -1,4 +1,4 @@
--- The promise of `answer`, from what its parts answer.
+-- The promise of `answer`, from the results of its parts.
 use Rattle.std.proofs.Common.{◌≡◌, ℕ, ◌+◌, ◌≤◌, List, [], ◌∷◌, ◌++◌, length, length-append, append-nil, Bool, Option, Some, None, refl, ap, sym, ◌∙◌, arith, subst, inl, inr}
 use Rattle.std.specs.Io.KnownBytes.{Consumes, IsAtEnd}
 use Rattle.pgn_batches.proofs.Filling.{consumes_none}
@@ -38,7 +38,7 @@ same_count told few taken (Some rest) f g =
     let lengths : length (few ++ rest) ≡ length (taken ++ rest) = ap length (sym f ∙ g) in
     omega (arith, length-append few rest, length-append taken rest)
 
--- where at most the limit was taken, the source is not overrun
+-- if at most the limit was taken, the source is not overrun
 pub not_overrun : (limit : ℕ) (source after : SourceView) → TakesAtMost limit source.left after.left → Overruns limit source after → ⊥
 not_overrun limit source after few much =
     let same = same_count much.told few.bytes much.too_much.bytes after.left (subst (λ l. Consumes l after.left few.bytes) much.tells few.takes)
@@ -61,8 +61,8 @@ not_too_long limit source after told tells few much =
 abbrev pub answer_call : ℕ → SourceView → SourceView → Sinks → SearchCall
 answer_call limit source after sinks = record { limit = limit; source = source; source_after = after; sinks = sinks }
 
--- What is asked for of all games of an archive, so that no fewer suffice: what is written of some of them before more are read is a prefix
--- of what is written of more.
+-- The expected output of all games of an archive, so that no fewer suffice. The texts of some games before more are read are a prefix of
+-- the texts of more.
 pub record FullOutput : Type 1 where
   pub expected_output : ExpectedOutput
   pub so_far : List ReadResult → Texts
@@ -71,7 +71,7 @@ pub record FullOutput : Type 1 where
   pub never : (rs : List ReadResult) (refused : ℕ) (texts : Texts) → expected_output.early rs refused texts → ⊥
   pub grows : (rs qs : List ReadResult) (sinks : Sinks) → WritesPrefix sinks (so_far rs) → WritesPrefix sinks (so_far (rs ++ qs))
 
--- what one query asks for
+-- the expected output of one query
 abbrev pub full_output_of : (sorted : Bool) (query : QueryTree) → have_sort query.items ≡ sorted → FullOutput
 full_output_of sorted query sorts = record {
   expected_output = texts_of query;
@@ -90,7 +90,7 @@ needs_all asked limit source after sinks some = record {
   needed = λ enough. asked.never enough.outcomes enough.refused enough.texts enough.early;
 }
 
--- no memory before anything was read
+-- out of memory before anything was read
 pub none_taken : (limit : ℕ) (source : SourceView) → TakesAtMost (limit + 1) source.left source.left
 none_taken limit source = record { bytes = []; takes = consumes_none source.left; few = omega arith }
 

@@ -1,4 +1,4 @@
--- Counting what a query finds, batch by batch.
+-- Counting the matches of a query, batch by batch.
 use Rattle.std.proofs.Common.{◌≡◌, inl, inr, ℕ, ◌+◌, ◌^◌, ℤ, List, [], ◌∷◌, ◌++◌, length, length-append, append_assoc, append-nil, take, Some, ◌<◌, ◌≤◌, arith, refl, ap, sym, ◌∙◌, cond, subst, Ok, Err}
 use Rattle.std.specs.List.{flat_map}
 use Rattle.std.proofs.lemmas.Grind.{flat_map-append}
@@ -46,7 +46,7 @@ totals_with bytes tally written = record { bytes = bytes; tally = tally; written
 same_totals : (bytes : ℕ) (t u : Tally) (m n : ℕ) → t ≡ u → m ≡ n → totals_with bytes t m ≡ totals_with bytes u n
 same_totals bytes t u m n e f = cc
 
--- a game more, of which so many match and are refused, and whose export has so many bytes
+-- one game more, whose matches and faults, 0 or 1, and the bytes of whose export are given
 abbrev pub with_one : Totals → ℕ → ℕ → ℕ → Totals
 with_one before matched refused written =
     totals_with before.bytes (tally_with (before.tally.games + 1) (before.tally.matched + matched) (before.tally.refused + refused)) (before.written + written)
@@ -105,11 +105,11 @@ same_length query outcomes exports are =
     ∙ sym (sum_by-IsPermutation (λ (a : GameAnswer). length (text_of a.what)) here are.sorted are.same)
     ∙ sym (length-flat_map (λ (a : GameAnswer). text_of a.what) are.sorted) ∙ sym (ap length are.is)
 
--- what was counted of the games that were taken
+-- the totals of the games that were taken
 abbrev pub CountedIn : QueryTree → ℕ → Totals → KeptGames → Type 0
 CountedIn query bytes totals games = HaveReadResults games (λ outcomes. totals ≡ totals_of query bytes outcomes)
 
--- by what is asked now, which is what was asked
+-- by the query after the call, which is the query before it
 pub counted_now : (was now : QueryTree) (bytes : ℕ) (totals : Totals) (games : KeptGames) → HasVisited was now games (λ outcomes. totals ≡ totals_of was bytes outcomes)
     → CountedIn now bytes totals games
 counted_now was now bytes totals games taken = subst (λ q. CountedIn q bytes totals games) (sym taken.same) taken.reading

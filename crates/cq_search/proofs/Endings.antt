@@ -1,4 +1,4 @@
--- How a call ends, from how the batches of the archive were taken.
+-- The end of a call, from the visit of the batches of the archive.
 use Rattle.std.proofs.Common.{◌≡◌, ◌⊎◌, ℕ, ◌≤◌, ◌<◌, List, [], ◌∷◌, ◌++◌, length, take, Some, refl, arith, subst, inl, inr}
 use Rattle.pgn_batches.specs.Visits.{AreLeadingGames, Reads, ReadsAll}
 use Rattle.pgn_batches.specs.Whole.{cut_games, whole, whole_spans}
@@ -16,7 +16,7 @@ use Rattle.cq_search.proofs.Given.{reads_archive, whole_are}
 use Rattle.cq_search.proofs.Known.{AllRead, Known, ReadOn, first_closed, read_on, takes_some}
 use Rattle.cq_queries.proofs.Sinks.{some_failed}
 
--- ---- where it was stopped
+-- ---- the visit was stopped
 
 -- Each sink has taken a prefix of its text, whatever games follow.
 abbrev pub WritesEver : ExpectedOutput → SearchCall → List ReadResult → Type 0
@@ -51,7 +51,7 @@ stops_by laws expected_output call known writes (inr (all, first)) =
       holds = record { texts = part.texts; are = inl part.are; writes = part.writes };
     })
 
--- no memory
+-- out of memory
 pub starves : Laws → (expected_output : ExpectedOutput) (call : SearchCall) (known : Known call) → ReadsNoMore expected_output call → WritesEver expected_output call known.outcomes → NothingFails call
     → AnswerPromise expected_output NoMemory call
 starves laws expected_output call known needed writes unfailed = record {
@@ -89,7 +89,7 @@ stopped laws ArchiveTooLong expected_output call known texts needed ever counts 
 
 -- ---- after a fault of reading
 
--- the games of the whole batches of the bytes read were answered
+-- the games of the whole batches of the bytes read were searched
 pub record Broken (expected_output : ExpectedOutput) (call : SearchCall) (AreTaken : ℕ → Type 0) : Type 0 where
   pub front : List ℕ
   pub outcomes : List ReadResult
@@ -135,7 +135,7 @@ too_long laws expected_output call at needed never unfailed = record {
       (never every.archive every.tells) every.within);
 }
 
--- ---- all games were answered
+-- ---- all games were searched
 
 pub finds_all : (call : SearchCall) (archive : List ℕ) (outcomes : List ReadResult) (Holds : List ReadResult → Type 0) → AllRead call archive outcomes → Holds outcomes → FindsAll call Holds
 finds_all call archive outcomes Holds all holds = record {

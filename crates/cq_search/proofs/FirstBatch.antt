@@ -36,7 +36,7 @@ batch_up_to laws query batch answers are = up_to laws.have query (number_of batc
 abbrev pub NoneIn : QueryTree → Sinks → SearchState → KeptGames → Type 0
 NoneIn query sinks stand games = HaveReadResults games (FoundNone query sinks stand)
 
--- by what is asked now, which is what was asked
+-- by the query after the call, which is the query before it
 pub none_now : (was now : QueryTree) (sinks : Sinks) (stand : SearchState) (games : KeptGames) → HasVisited was now games (FoundNone was sinks stand) → NoneIn now sinks stand games
 none_now was now sinks stand games taken = subst (λ q. NoneIn q sinks stand games) (sym taken.same) taken.reading
 
@@ -48,7 +48,7 @@ first_within query sinks stand games at = (
   subst (λ (s : SearchState). s.tally.refused ≤ s.tally.games) (sym at.holds.found.is) (count_by-le-length is_refused at.outcomes),
 )
 
--- a batch is answered up to its first match, and none of the games before it matches
+-- a batch was searched up to its first match, and none of the games before it matches
 pub record NextBatch : Type 0 where
   pub query : QueryTree
   pub sinks : Sinks
@@ -60,7 +60,7 @@ pub record NextBatch : Type 0 where
   pub index : number_of batch ≡ length games
   pub answered : BatchUpTo query batch answers
 
--- how the games before it and its own are read, its own up to the first match
+-- the results of reading the games before the batch, and its own up to the first match
 abbrev pub read_in : NextBatch → List ReadResult
 read_in next = next.at.outcomes ++ up_to_first next.query next.answered.outcomes
 
@@ -92,7 +92,7 @@ none_prefix query rs more sinks stand so =
     subst (λ l. WritesPrefix sinks (texts_so_far false query l)) up
     (prefix_grows false query rs (up_to_first query more) sinks (as_prefix sinks (texts_so_far false query rs) so.found.writes))
 
--- no memory for its answers
+-- out of memory for its answers
 pub first_wants : Laws → (query : QueryTree) (sinks : Sinks) (stand : SearchState) (games : KeptGames) (batch : Batch) → NoneIn query sinks stand games
     → FirstStopped query sinks NoMemory games (games_of batch)
 first_wants laws query sinks stand games batch at =
@@ -105,7 +105,7 @@ first_wants laws query sinks stand games batch at =
       };
     }
 
--- how the games before it and all of its own are read
+-- the results of reading the games before the batch, and all of its own
 abbrev all_in : NextBatch → List ReadResult
 all_in next = next.at.outcomes ++ next.answered.outcomes
 
@@ -115,7 +115,7 @@ all_read next = kept_read_on next.games (games_of next.batch) next.at.outcomes n
 same_read : (next : NextBatch) → read_in next ≡ up_to_first next.query (all_in next)
 same_read next = sym (up_on next.query next.at.outcomes next.answered.outcomes next.at.holds.none)
 
--- a write failed, or no memory was found for it
+-- a write failed, or the call was out of memory
 pub first_halts : (status : Status) (next : NextBatch) (new : Sinks) → StopsIn (texts_so_far false next.query (read_in next)) new status
     → FirstStopped next.query new status next.games (games_of next.batch)
 first_halts status next new stops = record {

@@ -1,4 +1,4 @@
--- How a call ends that answers up to the first match, from how the batches of the archive were taken.
+-- The end of a call up to the first match, from the visit of the batches of the archive.
 use Rattle.std.proofs.Common.{◌≡◌, ◌⊎◌, ℕ, ◌-◌, ◌≤◌, ◌<◌, Bool, true, false, List, [], ◌∷◌, ◌++◌, length, take, Option, Some, None, Err, refl, ap, sym, ◌∙◌, arith, subst, inl, inr}
 use Rattle.std.specs.List.{flat_map}
 use Rattle.std.specs.Io.KnownBytes.{Consumes}
@@ -92,7 +92,7 @@ first_read laws ArchiveTooLong query call archive rs all before writes = absurd 
 
 -- ---- before all was read
 
--- what was written, whatever games follow
+-- the texts that were written, whatever games follow
 ever : (query : QueryTree) (call : SearchCall) (rs : List ReadResult) → ((more : List ReadResult) → WritesPrefix call.sinks (first_texts_of query (rs ++ more)))
     → WritesEver (first_texts query) call rs
 ever query call rs writes = λ more. record {
@@ -200,7 +200,7 @@ found_one laws status query call known before counts one = found_by laws status 
 
 -- ---- after a fault of reading
 
--- the games of the whole batches of the bytes read were answered, and none matches
+-- the games of the whole batches of the bytes read were searched, and none matches
 abbrev WholeUnmatched : QueryTree → (call : SearchCall) → SearchState → (AreRead : ℕ → Type 0) → Type 0
 WholeUnmatched query call stand AreRead = TakesWhole call.limit call.source.left call.source_after.left AreRead (λ games. HaveReadResults games (FoundNone query call.sinks stand))
 
@@ -256,7 +256,7 @@ first_too_long laws query call stand at counts =
     (subst (Suffices (first_texts query)) same enough))
     (record { source = counts; sinks = at.taken.holds.found.unfailed })
 
--- ---- how a call ends
+-- ---- the end of a call
 
 before_of : (query : QueryTree) (call : SearchCall) (games batch : KeptGames) (rs : List ReadResult) → Gives call.limit call.source.left call.source_after.left games batch
     → AreKeptRead games rs → some_match query rs ≡ false → Before query call
@@ -286,14 +286,14 @@ first_stopped laws status query call games batch gives counts at =
     stopped_or_found laws status query call (known_of call games batch at.after.outcomes gives at.after.are_read)
     (before_of query call games batch at.before.outcomes gives at.before.are_read at.before.holds) counts at.after.holds
 
--- what was written of games without a match
+-- the texts of games without a match
 so_far_prefix : (query : QueryTree) (rs : List ReadResult) (sinks : Sinks) (stand : SearchState) → FoundNone query sinks stand rs
     → WritesPrefix sinks (texts_so_far false query (up_to_first query rs))
 so_far_prefix query rs sinks stand so =
     as_prefix sinks (texts_so_far false query (up_to_first query rs))
     (subst (λ l. Writes sinks (texts_so_far false query l)) (sym (all_up query rs so.none)) so.found.writes)
 
--- no memory for the next batch
+-- out of memory for the next batch
 first_starves : Laws → (query : QueryTree) (call : SearchCall) (stand : SearchState) (games : KeptGames) → Gives call.limit call.source.left call.source_after.left games []
     → call.source_after.faults ≡ call.source.faults → HaveReadResults games (FoundNone query call.sinks stand) → AnswerPromise (first_texts query) NoMemory call
 first_starves laws query call stand games gives counts at =
@@ -342,7 +342,7 @@ first_refused laws IsNoMemory query call stand HasVisited Stopped none at counts
 pub first_begins : (query : QueryTree) (out err : SinkView) → HaveReadResults [] (FoundNone query (sinks_of out out err err) (search_state (tally_with 0 0 0) []))
 first_begins query out err = record { outcomes = []; are_read = tt; holds = record { none = refl; found = none_found false query out err } }
 
--- ---- no memory before anything was read
+-- ---- out of memory before anything was read
 
 no_games : (games : KeptGames) → length games ≡ 0 → games ≡ []
 no_games [] none = refl

@@ -36,7 +36,7 @@ same_if : (b m : Bool) (r : ReadResult) (xs ys : List ReadResult) → (if b then
 same_if true m r xs ys some same = refl
 same_if false m r xs ys some same = ap (λ l. r ∷ l) (same some)
 
--- games behind a match change nothing
+-- games after a match change nothing
 pub up_same : (query : QueryTree) (rs qs : List ReadResult) → some_match query rs ≡ true → up_to_first query (rs ++ qs) ≡ up_to_first query rs
 up_same query [] qs some = absurd cc
 up_same query (r ∷ rs) qs some = same_if (is_match query r) (some_match query rs) r (up_to_first query rs) (up_to_first query (rs ++ qs)) some (up_same query rs qs)

@@ -1,4 +1,4 @@
--- What is written up to the first match, and what is read before it.
+-- The texts up to the first match, and the reading before it.
 use Rattle.std.proofs.Common.{◌≡◌, ℕ, ◌+◌, ◌-◌, ◌<◌, true, false, List, [], ◌∷◌, ◌++◌, length, append_assoc, append-nil, take, refl, ap, ap₂, sym, ◌∙◌, subst, inr}
 use Rattle.std.specs.List.{flat_map}
 use Rattle.std.specs.Io.KnownBytes.{Consumes}
@@ -32,7 +32,7 @@ use Rattle.cq_queries.proofs.Sinks.{Took, with_err, then_err, fails_after, grew_
 
 -- ---- no game of the batches before was a match
 
--- what is read of some games is what is read of the first ones, and of the others
+-- the results of reading some games are those of the first ones, and those of the others
 pub record KeptSplit (gs : KeptGames) (rs : List ReadResult) : Type 0 where
   pub front : List ReadResult
   pub back : List ReadResult
@@ -68,7 +68,7 @@ not_enough laws query front games rs (more, are) read none enough =
     let same = one_read laws.one front (whole_spans front) enough.outcomes split.front enough.are_read here in
     none_of_both query rs split.front split.back split.is none (ap (some_match query) (sym same) ∙ enough.early.0)
 
--- what is kept of the games that were answered before the last piece was read
+-- the games that were searched before the last piece was read
 pub record Before (query : QueryTree) (call : SearchCall) : Type 0 where
   pub front : List ℕ
   pub games : KeptGames
@@ -87,7 +87,7 @@ no_more laws query call so = record {
 
 -- ---- texts
 
--- a prefix of what is written of the games up to the first match is one of what is written of more games
+-- a prefix of the texts of the games up to the first match is one of the texts of more games
 pub first_prefix : (query : QueryTree) (rs more : List ReadResult) (sinks : Sinks) → WritesPrefix sinks (texts_so_far false query (up_to_first query rs))
     → WritesPrefix sinks (first_texts_of query (rs ++ more))
 first_prefix query rs more sinks writes =
@@ -168,7 +168,7 @@ first_written OpenFault query rs sinks err tally ks found writes = absurd writes
 first_written ReadFault query rs sinks err tally ks found writes = absurd writes
 first_written ArchiveTooLong query rs sinks err tally ks found writes = absurd writes
 
--- games behind the match change nothing
+-- games after the match change nothing
 pub written_more : (status : Status) (query : QueryTree) (rs qs : List ReadResult) (sinks : Sinks) → some_match query rs ≡ true
     → FirstWritten (refused_of query rs) (first_texts_of query rs) sinks status → FirstWritten (refused_of query (rs ++ qs)) (first_texts_of query (rs ++ qs)) sinks status
 written_more status query rs qs sinks some writes =

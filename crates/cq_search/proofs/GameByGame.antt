@@ -1,4 +1,4 @@
--- Answering game by game.
+-- The search, game by game.
 use Rattle.std.proofs.Common.{◌≡◌, ℕ, ◌+◌, ℤ, Bool, true, false, List, [], ◌∷◌, ◌++◌, length, length-append, take, ◌<◌, inl, inr, arith, refl, ap, sym, ◌∙◌, append_assoc, append-nil, cond, subst, Ok, Err, Option}
 use Rattle.std.specs.Prelude.{count_by, Result}
 use Rattle.std.specs.List.{flat_map}
@@ -56,7 +56,7 @@ pub same_tally : (games games' matched matched' refused refused' : ℕ) → game
     → tally_with games matched refused ≡ tally_with games' matched' refused'
 same_tally games games' matched matched' refused refused' g m r = cc
 
--- the same texts and games kept, by cases on whether the query has a sort item
+-- the same texts and games kept, by the cases that the query has a sort item or none
 
 pub same_stand : (t u : Tally) (ks ls : List GameAnswer) → t ≡ u → ks ≡ ls → search_state t ks ≡ search_state u ls
 same_stand t u ks ls e f = cc
@@ -188,7 +188,7 @@ found_more sorted query rs r at stand new so_far (counts, writes, unfailed) =
       unfailed = none_after at so_far.unfailed unfailed;
     }
 
--- ---- what is written is a prefix of what is written of more games
+-- ---- the texts so far are a prefix of the texts of more games
 
 exports_split : (sorted : Bool) (query : QueryTree) (rs qs : List ReadResult) → flat_map (written sorted query) (rs ++ qs) ≡ flat_map (written sorted query) rs ++ flat_map (written sorted query) qs
 exports_split sorted query rs qs = flat_map-append (written sorted query) rs qs
@@ -221,7 +221,7 @@ prefix_grows sorted query rs qs sinks writes =
           (took_count sinks.err.taken sinks.err_after.taken (fault_lines 1 rs) writes.err_count writes.err));
     })
 
--- all that was written of the games before, and a part of what is written of the next
+-- all texts of the games before, and a part of the texts of the next
 pub part_more : (a b c : Option (List ℕ)) (xs ys : List ℕ) (count : ℕ) → Grew a b xs → Grew b c (take count ys) → Took a c (xs ++ ys)
 part_more a b c xs ys count f g = subst (λ l. Took a c (xs ++ l)) (append-nil ys) (took_on a b c xs ys [] f (took_count b c ys count g))
 
@@ -239,7 +239,7 @@ stopped_at sorted query rs r at stand so_far writes =
           writes.err_count so_far.writes.err writes.err);
     })
 
--- what was written of all games so far is a prefix of itself
+-- the texts of all games so far are a prefix of themselves
 pub as_prefix : (sinks : Sinks) (texts : Texts) → Writes sinks texts → WritesPrefix sinks texts
 as_prefix sinks texts writes = both_prefix sinks texts (record {
   out = subst (Took sinks.out.taken sinks.out_after.taken) (append-nil texts.out) (took_front sinks.out.taken sinks.out_after.taken texts.out [] writes.out);
@@ -303,7 +303,7 @@ all_of_batch query n ys rest items outcomes e none is =
     ap length (sym (append-nil ys) ∙ ap (λ l. ys ++ l) (sym none) ∙ sym e ∙ is) ∙ answers_count query n outcomes in
     take_all (length ys) outcomes (let l = all in omega arith)
 
--- an answer in a batch, after those of `ys`: what the games before the batch and those in it were read as
+-- an answer in a batch, after those of `ys`, and the results of reading the games before the batch and those in it
 pub record InBatch (query : QueryTree) (a : GameAnswer) : Type 0 where
   pub before : List ReadResult
   pub outcomes : List ReadResult
@@ -356,7 +356,7 @@ one_stopped sorted query a batch at stand new failed so_far does =
       fails_after at so_far.unfailed done.1,
     )
 
--- no memory for it
+-- out of memory for it
 pub one_starved : (sorted : Bool) (query : QueryTree) (a : GameAnswer) (batch : InBatch query a) (at : Moments) (stand new : SearchState)
     → FoundSoFar sorted query (batch.before ++ take (length batch.ys) batch.outcomes) (until_now at) stand
     → ((r : ReadResult) → a ≡ answer_of query stand.tally.games r → AnswersGame sorted query r stand new (from_now at) (Err IsNoMemory))
@@ -388,7 +388,7 @@ exports_whole false query outcomes answers ordered sorts are order =
     (sym (append-nil (flat_map (export_if query) outcomes)) ∙ ap (λ answers. flat_map (export_if query) outcomes ++ exports_of answers) (sym none))
     (unsorted_exports query outcomes sorts)
 
--- no memory to put the games in order, or a write of them that failed
+-- out of memory to put the games in order, or a write of them failed
 pub unordered : (sorted : Bool) (query : QueryTree) (rs : List ReadResult) (sinks : Sinks) (out : SinkView) (stand : SearchState) → have_sort query.items ≡ sorted
     → FoundSoFar sorted query rs sinks stand → out ≡ sinks.out_after → WritesAnswer (texts_of query) rs (with_out sinks out) NoMemory
 unordered sorted query rs sinks out stand sorts found same =
@@ -425,7 +425,7 @@ unkept sorted query rs sinks out stand failed sorts found (ordered, order, part,
       fails_after (then_out sinks out) found.unfailed (inl (rose, refl)),
     )
 
--- all but the last text of the report was written; with it so many games are refused, and these are the texts of all of them
+-- all but the last text of the report was written; with it so many games are faulty, and these are the texts of all of them
 pub record AllButLast (expected_output : ExpectedOutput) (outcomes : List ReadResult) (sinks : Sinks) (refused : ℕ) (last : List ℕ) : Type 0 where
   pub exports : List ℕ
   pub report : List ℕ

@@ -1,4 +1,4 @@
--- What the games that are kept are read as, and where those of whole batches stand.
+-- The results of reading the games that are kept, and the places of those of whole batches.
 use Rattle.std.proofs.Common.{◌≡◌, ℕ, Bool, List, [], ◌∷◌, ◌++◌, length, map, take, refl, ap, sym, ◌∙◌, arith}
 use Rattle.std.proofs.Math.Seq.{take-append_seam}
 use Rattle.std.proofs.lemmas.List.{take-map}
@@ -30,7 +30,7 @@ kept_read_on [] hs (r ∷ rs) qs before after = absurd before
 kept_read_on (g ∷ gs) hs [] qs before after = absurd before
 kept_read_on (g ∷ gs) hs (r ∷ rs) qs before after = (before.0, kept_read_on gs hs rs qs before.1 after)
 
--- what is kept of a game is read as the game
+-- the bytes that are kept of a game are read as the game
 kept_read : Laws → (start : ℕ) (first : Bool) (bytes : List ℕ) (r : ReadResult) → IsRead start first (take most_kept bytes) r → IsRead start first bytes r
 unfolding most_kept
 kept_read laws start first bytes r read = (laws.decide start first bytes r).0 read
@@ -47,7 +47,7 @@ count_read [] (r ∷ rs) read = absurd read
 count_read (g ∷ gs) [] read = absurd read
 count_read (g ∷ gs) (r ∷ rs) read = let e = count_read gs rs read.1 in omega (arith, e)
 
--- the games of the whole batches stand in the archive where its first closed games do
+-- the games of the whole batches are the first closed games of the archive
 pub whole_are : Laws → (front : List ℕ) → whole front ≡ map (kept front) (whole_spans front)
 whole_are laws front =
     sym (take-append_seam (whole front) (left_over (closed_games front))) ∙ ap (take (length (whole front))) (laws.batches.all (closed_games front))

@@ -1,4 +1,4 @@
--- How far an archive was read, and what its first games are read as.
+-- The part of an archive that was read, and the results of reading its first games.
 use Rattle.std.proofs.Common.{◌≡◌, ◌⊎◌, ℕ, ◌+◌, List, [], ◌++◌, append_assoc, append-nil, map, ap, sym, ◌∙◌, subst}
 use Rattle.std.proofs.lemmas.List.{map-append, take-append-drop}
 use Rattle.std.proofs.lemmas.Grind.{flat_map-append}
@@ -39,7 +39,7 @@ known_of call games batch outcomes gives read = record {
   are_read = read;
 }
 
--- where no batch is left out, the games are those that were taken
+-- if no batch is left out, the games are those that were taken
 pub with_none : (games : KeptGames) (outcomes : List ReadResult) → AreKeptRead games outcomes → AreKeptRead (games ++ []) outcomes
 with_none games outcomes read = subst (λ gs. AreKeptRead gs outcomes) (sym (append-nil games)) read
 
@@ -49,7 +49,7 @@ takes_some call front reads = record { bytes = front; takes = reads.takes; few =
 
 -- ---- the games that follow
 
--- what is read of games that were taken, and of those of a batch
+-- the results of reading the games that were taken, and those of a batch
 pub reading_on : (games : KeptGames) (batch : Batch) (Before After : List ReadResult → Type 0) → (at : HaveReadResults games Before) → (qs : List ReadResult) → AreKeptRead (games_of batch) qs
     → After (at.outcomes ++ qs) → HaveReadResults (games ++ games_of batch) After
 reading_on games batch Before After at qs read holds = record {
@@ -63,7 +63,7 @@ pub reading_as : (games : KeptGames) (Before After : List ReadResult → Type 0)
     → HaveReadResults games After
 reading_as games Before After follows at = record { outcomes = at.outcomes; are_read = at.are_read; holds = follows at.outcomes at.holds }
 
--- what the other games of some spans are read as
+-- the results of reading the other games of some spans
 pub record ReadOn (archive : List ℕ) (spans : List Span) (outcomes : List ReadResult) : Type 0 where
   pub more : List ReadResult
   pub are_read : AreRead archive spans (outcomes ++ more)

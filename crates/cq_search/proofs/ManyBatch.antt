@@ -1,4 +1,4 @@
--- Taking a batch, where several queries are answered.
+-- Taking a batch, for several queries.
 use Rattle.std.proofs.Common.{◌≡◌, ℕ, ◌+◌, ◌^◌, ◌<◌, ◌≤◌, true, List, [], ◌∷◌, ◌++◌, length, map, get_or, set, replicate, refl, ap, sym, ◌∙◌, arith, subst, Ok, Err}
 use Rattle.std.specs.Prelude.{Result}
 use Rattle.std.proofs.lemmas.List.{length-map}
@@ -40,7 +40,7 @@ use Rattle.cq_search.proofs.Rows.{Keeping, all_kept, kept_of, row_at, rows_are}
 use Rattle.cq_queries.proofs.Sinks.{Took, took_count, unwritten}
 use Rattle.cq_search.proofs.Sorted.{StandBeside}
 
--- ---- what is asked for
+-- ---- the expected output
 
 pub faults_grow : (rs qs : List ReadResult) (sinks : Sinks) → WritesPrefix sinks (faults_alone rs) → WritesPrefix sinks (faults_alone (rs ++ qs))
 faults_grow rs qs sinks writes =
@@ -80,7 +80,7 @@ found_first query queries rs sinks tally kept found = record {
   unfailed = found.unfailed;
 }
 
--- the answers of a batch to the first query, in order, around the call that writes and keeps them: the sinks, the tally and what is kept
+-- The answers of a batch to the first query, in order, around the call that writes and keeps them: the sinks, the tally and the kept games.
 pub record FirstCall : Type 0 where
   pub before : List ReadResult
   pub outcomes : List ReadResult
@@ -124,7 +124,7 @@ first_starved f (q ∷ qs) done =
     let did = first_does f q qs (Err IsNoMemory) done in
     (subst (WritesPrefix f.new) (faults_same q (f.before ++ f.outcomes)) did.0, did.1)
 
--- no memory for those of the other queries
+-- out of memory for those of the other queries
 pub rest_starved : (f : FirstCall) (queries : List QueryTree) → FirstDone f queries (Ok tt)
     → WritesPrefix f.new (faults_alone (f.before ++ f.outcomes)) × NoWriteFailed f.new
 rest_starved f [] done = absurd (none_kept_for f _ done)
@@ -148,7 +148,7 @@ rest_kept f (q ∷ qs) new done keeps =
       unfailed = did.unfailed;
     }
 
--- no memory before any is written
+-- out of memory before any is written
 pub none_kept_yet : (queries : List QueryTree) (before outcomes : List ReadResult) (sinks : Sinks) (tally : Tally) (kept : List (List GameAnswer))
     → FoundByAll queries before sinks tally kept → WritesPrefix sinks (faults_alone (before ++ outcomes)) × NoWriteFailed sinks
 none_kept_yet queries before outcomes sinks tally kept found =
@@ -156,7 +156,7 @@ none_kept_yet queries before outcomes sinks tally kept found =
 
 -- ---- a batch
 
--- there are as many as are asked
+-- there are as many as there are queries
 pub few_trees : (queries : List TypedQuery) (trees : List QueryTree) → trees ≡ trees_of queries → 1 ≤ length queries → length queries ≤ 16
     → (1 ≤ length trees) × (length trees ≤ 16)
 few_trees queries trees is some few =
@@ -174,7 +174,7 @@ tally_few (q ∷ qs) rs sinks tally kept some found =
       subst (λ (t : Tally). t.refused ≤ t.games) (sym is) (count_by-le-length is_refused rs),
     )
 
--- the batch was answered: how its games are read
+-- the batch was searched, and its games have these results of reading
 pub record Answered (queries : List QueryTree) (batch : Batch) (rows : List (List GameAnswer)) : Type 0 where
   pub outcomes : List ReadResult
   pub are_read : AreKeptRead (games_of batch) outcomes
@@ -185,7 +185,7 @@ answered laws beside queries batch rows are =
     let rest : Rest (games_of batch) = rest_of laws.have (games_of batch) in
     record { outcomes = rest.outcomes; are_read = rest.are_read; are = rows_are laws beside queries batch rest.outcomes rows rest.are_read are }
 
--- what was found of the games that were taken
+-- the state of the search after the games that were taken
 abbrev pub FoundInAll : List QueryTree → Sinks → Tally → List (List GameAnswer) → KeptGames → Type 0
 FoundInAll queries sinks tally kept games = HaveReadResults games (λ outcomes. FoundByAll queries outcomes sinks tally kept)
 
@@ -193,12 +193,12 @@ FoundInAll queries sinks tally kept games = HaveReadResults games (λ outcomes. 
 abbrev pub StoppedInAll : Sinks → Status → KeptGames → Type 0
 StoppedInAll sinks status games = HaveReadResults games (λ outcomes. StopsIn (faults_alone outcomes) sinks status)
 
--- by what is asked now, which is what was asked
+-- by the queries after the call, which are the queries before it
 pub found_now_by_all : (was now : List QueryTree) (sinks : Sinks) (tally : Tally) (kept : List (List GameAnswer)) (games : KeptGames)
     → HasVisited was now games (λ outcomes. FoundByAll was outcomes sinks tally kept) → FoundInAll now sinks tally kept games
 found_now_by_all was now sinks tally kept games taken = subst (λ qs. FoundInAll qs sinks tally kept games) (sym taken.same) taken.reading
 
--- a batch is answered, and what was found of the games before it is known
+-- a batch is searched, and the state after the games before it is known
 pub record NextBatch : Type 0 where
   pub queries : List QueryTree
   pub sinks : Sinks
@@ -234,7 +234,7 @@ many_few next some ordered sorts =
     let index = next.index in
     omega (arith, counted, before, long, read, most, index)
 
--- no memory for its answers
+-- out of memory for its answers
 pub many_wants : HaveOutcomes → (queries : List QueryTree) (sinks : Sinks) (tally : Tally) (kept : List (List GameAnswer)) (games : KeptGames) (batch : Batch)
     → FoundInAll queries sinks tally kept games → StoppedInAll sinks NoMemory (games ++ games_of batch)
 many_wants have queries sinks tally kept games batch at =

@@ -1,4 +1,4 @@
--- Writing what several queries find in an archive, once it was read to its end.
+-- Writing the texts of several queries over an archive, once it was read to its end.
 use Rattle.std.proofs.Common.{◌≡◌, ℕ, zero, suc, ◌+◌, ◌<◌, ◌≤◌, List, [], ◌∷◌, ◌++◌, ◌⊎◌, length, length-append, map, replicate, take, drop, get_or, append-nil, append_assoc, arith, refl, ap, ap₂, sym, ◌∙◌, subst, inl, inr, Ok, Err, Option}
 use Rattle.std.specs.Prelude.{All, AllPairs, Result, count_by, filter}
 use Rattle.std.specs.List.{flat_map}
@@ -141,7 +141,7 @@ lines_are (q ∷ qs) outcomes (o ∷ os) long each =
     ap₂ (λ n l. summary_line (length outcomes) n (count_by is_refused outcomes) ++ l) (sorted_long q outcomes o (each zero q (omega arith)))
     (lines_are qs outcomes os (omega (arith, long)) (λ i p below. each (suc i) p (omega (arith, below))))
 
--- the queries, what was found of all games, and the matches of each query in its order
+-- the queries, the state after all games, and the matches of each query in its order
 pub record Ends (queries : List QueryTree) (outcomes : List ReadResult) (sinks : Sinks) (tally : Tally) (ordered : List (List GameAnswer)) : Type 0 where
   pub some : 1 ≤ length queries
   pub kept : List (List GameAnswer)
@@ -231,7 +231,7 @@ outputs_starved queries outcomes sinks out tally ordered ends writes = (
   none_after (then_out sinks out) ends.found.unfailed (record { out = writes.1; err = refl }),
 )
 
--- no memory to put the matches in order
+-- out of memory to put the matches in order
 pub unordered_all : (queries : List QueryTree) (outcomes : List ReadResult) (sinks : Sinks) (tally : Tally) (kept : List (List GameAnswer))
     → FoundByAll queries outcomes sinks tally kept → WritesAnswer (texts_of_all queries) outcomes sinks NoMemory
 unordered_all queries outcomes sinks tally kept found =
@@ -264,7 +264,7 @@ one_more_ordered queries ks os k o so order = record {
 pub none_ordered_yet : (queries : List QueryTree) → AreInOrder queries [] []
 none_ordered_yet queries = record { count = refl; each = λ i q below. absurd (omega (arith, below)) }
 
--- a query of a plan orders what is kept for it
+-- a query of a plan orders the matches that are kept for it
 pub ordered_by : (queries : List TypedQuery) (n : ℕ) (t : TypedQuery) (ks os : List GameAnswer) → n < length queries → t ≡ get_or queries n t
     → IsPermutation (filter is_match_kept ks) os
     → (AreApart ks → All (HasKeys (directions (query_tree t.query).items)) ks → AllPairs (ComesBefore (directions (query_tree t.query).items)) os)

@@ -1,4 +1,4 @@
--- Taking a batch, where one query is answered over all games.
+-- Taking a batch, for one query over all games.
 use Rattle.std.proofs.Common.{◌≡◌, ◌+◌, ◌^◌, ◌≤◌, ◌<◌, List, [], ◌++◌, length, ap, sym, ◌∙◌, arith, subst}
 use Rattle.std.proofs.lemmas.List.Sums.{count_by-le-length}
 use Rattle.pgn_batches.specs.Games.{games_of, number_of}
@@ -18,7 +18,7 @@ use Rattle.cq_search.proofs.GameByGame.{answers_count, as_prefix, none_found, pr
 use Rattle.cq_search.proofs.Given.{Rest, count_read, rest_of}
 use Rattle.cq_search.proofs.Known.{reading_on}
 
--- what was found of the games that were taken
+-- the state of the search after the games that were taken
 abbrev pub FoundIn : Task → Sinks → SearchState → KeptGames → Type 0
 FoundIn task sinks stand games = HaveReadResults games (λ outcomes. FoundSoFar task.sorted task.query outcomes sinks stand)
 
@@ -26,7 +26,7 @@ FoundIn task sinks stand games = HaveReadResults games (λ outcomes. FoundSoFar 
 abbrev pub StoppedIn : Task → Sinks → Status → KeptGames → Type 0
 StoppedIn task sinks status games = HaveReadResults games (λ outcomes. StopsIn (texts_so_far task.sorted task.query outcomes) sinks status)
 
--- by what is asked now, which is what was asked
+-- by the task after the call, which is the task before it
 pub found_now : (was now : Task) (sinks : Sinks) (stand : SearchState) (games : KeptGames)
     → HasVisited was now games (λ outcomes. FoundSoFar was.sorted was.query outcomes sinks stand) → FoundIn now sinks stand games
 found_now was now sinks stand games taken = subst (λ t. FoundIn t sinks stand games) (sym taken.same) taken.reading
@@ -55,7 +55,7 @@ pub one_answers : (task : Task) (sinks : Sinks) (stand : SearchState) (games : K
 one_answers task sinks stand games batch answers at index answered =
     answered.are ∙ ap (λ n. answers_from task.query n answered.outcomes) (index ∙ count_read games at.outcomes at.are_read)
 
--- no memory for its answers
+-- out of memory for its answers
 pub one_wants : HaveOutcomes → (task : Task) (sinks : Sinks) (stand : SearchState) (games : KeptGames) (batch : Batch) → FoundIn task sinks stand games
     → StoppedIn task sinks NoMemory (games ++ games_of batch)
 one_wants have task sinks stand games batch at =

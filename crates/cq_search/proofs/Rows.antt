@@ -1,4 +1,4 @@
--- Of several queries the answers of a batch, and the matches that are kept.
+-- The answers of a batch to several queries, and the matches that are kept.
 use Rattle.std.proofs.Common.{◌≡◌, ◌⊎◌, inl, inr, ℕ, zero, suc, ◌+◌, ◌<◌, ◌≤◌, Bool, true, false, List, [], ◌∷◌, ◌++◌, length, map, filter, get_or, set, append_assoc, arith, refl, ap, ap₂, sym, ◌∙◌, cond, subst, Ok, Err}
 use Rattle.std.specs.Prelude.{count_by}
 use Rattle.std.proofs.lemmas.Bool.{cases_lt}
@@ -40,7 +40,7 @@ row_is laws beside query batch outcomes row read are = λ ordered sorts.
     let found = beside query batch row ordered are sorts.0 sorts.1 in
     found.are ∙ ap (answers_from query (number_of batch)) (one_reading laws.one (games_of batch) found.outcomes outcomes found.are_read read)
 
--- whatever the games of the batch are read as
+-- for all results of reading the games of the batch
 pub rows_are : Laws → StandBeside → (queries : List QueryTree) (batch : Batch) (outcomes : List ReadResult) (rows : List (List GameAnswer))
     → AreKeptRead (games_of batch) outcomes → AreManyOf queries batch rows → AreAnswerListsOf queries (number_of batch) outcomes rows
 rows_are laws beside [] batch outcomes [] read are = tt
@@ -119,7 +119,7 @@ matches_counted query rs = filtered query 0 rs ∙ length-filter (is_match query
 abbrev pub kept_of : List ReadResult → QueryTree → List GameAnswer
 kept_of outcomes query = matches_from query 0 outcomes
 
--- what is kept before and after a batch, and once the first query's matches of it are
+-- the matches that are kept before and after a batch, and after the first query's matches of it
 pub record Keeping : Type 0 where
   pub before : List ReadResult
   pub outcomes : List ReadResult
@@ -232,7 +232,7 @@ all_of_rest i rows left before after so all = record {
 
 -- ---- rows in vectors
 
--- what is kept for the query of a place
+-- the matches that are kept for the query of a place
 pub kept_at : {X : Type 0} (items : X → List GameAnswer) (kept : List X) (i : ℕ) (x : X) → i < length kept → x ≡ get_or kept i x → items x ≡ get_or (map items kept) i []
 kept_at items kept i x inside is = ap items is ∙ sym (get_or-map items kept i x [] inside)
 

@@ -10,7 +10,7 @@ some_in_either : (ds es : List Bool) → is_some (ds ++ es) ≡ (is_some ds || i
 some_in_either [] es = refl
 some_in_either (d ∷ ds) es = refl
 
--- one of some filters is a `sort` where one of them in a row is
+-- one of some filters is a `sort` if one of them in a row is
 pub sort_in : (fs : List Filter) → have_sort (filter_trees fs) ≡ list_any (λ f. is_sort (filter_tree f)) fs
 sort_in [] = refl
 sort_in (f ∷ fs) =

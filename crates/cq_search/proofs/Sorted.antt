@@ -8,7 +8,7 @@ use Rattle.cq_shards.specs.declared.answers.GameAnswer.{GameAnswer}
 use Rattle.cq_shards.specs.Answers.{AnswersBatch, AreAnswersOf}
 use Rattle.cq_shards.specs.Order.{AreApart, IsEarlier}
 
--- sorted answers stand beside their games
+-- sorted answers are beside their games
 abbrev pub StandBeside : Type 0
 StandBeside = (query : QueryTree) (batch : Batch) (answers sorted : List GameAnswer) → AreAnswersOf query batch answers → IsPermutation answers sorted
     → (AreApart answers → AllPairs IsEarlier sorted) → AnswersBatch query batch sorted

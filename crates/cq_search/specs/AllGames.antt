@@ -1,4 +1,4 @@
--- What one query asks to be written, of all games.
+-- The texts of one query, over all games.
 use Rattle.std.specs.Prelude.{◌≡◌, ℕ, List, [], Bool, if◌then◌else◌}
 use Rattle.std.specs.List.{flat_map}
 use Rattle.cql_syntax.specs.Trees.{QueryTree}
@@ -15,7 +15,7 @@ pub record AreAnswers (query : QueryTree) (outcomes : List ReadResult) (refused 
   pub report : texts.err ≡ report_of query outcomes
   pub count : refused ≡ (tally_of query outcomes).refused
 
--- what is written of some games before the next ones are read: with a sort item no exports
+-- the texts of some games before the next ones are read: with a sort item no exports
 abbrev pub written : (sorted : Bool) → QueryTree → ReadResult → List ℕ
 written sorted query outcome = if sorted then [] else export_if query outcome
 

@@ -1,4 +1,4 @@
--- How the games of an archive are read.
+-- The games of an archive, and their reading.
 use Rattle.std.specs.Prelude.{ℕ, List, [], ◌∷◌}
 use Rattle.pgn_cut.specs.declared.span.Span.{Span}
 use Rattle.pgn_cut.specs.GameTokens.{game_bytes}

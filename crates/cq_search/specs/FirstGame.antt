@@ -1,4 +1,4 @@
--- What is written of an archive up to the first game that matches.
+-- The texts of an archive up to the first game that matches.
 use Rattle.std.specs.Prelude.{◌≡◌, ℕ, Bool, true, false, List, [], ◌∷◌, if◌then◌else◌}
 use Rattle.cql_syntax.specs.Trees.{QueryTree}
 use Rattle.cq_shards.specs.ReadResults.{ReadResult}
@@ -7,12 +7,12 @@ use Rattle.cq_search.specs.AllGames.{texts_of}
 use Rattle.cq_queries.specs.Views.{Texts}
 use Rattle.cq_search.specs.Promise.{ExpectedOutput}
 
--- whether one of some games matches
+-- one of some games matches
 abbrev pub some_match : QueryTree → List ReadResult → Bool
 some_match query [] = false
 some_match query (r ∷ rs) = if is_match query r then true else some_match query rs
 
--- the games up to and with the first that matches, or all where none does
+-- the games up to and with the first that matches, or all if none does
 abbrev pub up_to_first : QueryTree → List ReadResult → List ReadResult
 up_to_first query [] = []
 up_to_first query (r ∷ rs) = r ∷ (if is_match query r then [] else up_to_first query rs)
@@ -22,8 +22,8 @@ abbrev pub first_export : QueryTree → List ReadResult → List ℕ
 first_export query [] = []
 first_export query (r ∷ rs) = if is_match query r then export_if query r else first_export query rs
 
--- The export of the first of some games that matches, and the report up to it: the lines of the faulty games before it, and the counts
--- of these games and it. Where no game matches, no export and the report of all of them.
+-- The export of the first of some games that matches, and the report up to it: the lines of the faulty games before it, and the counts up
+-- to it. If no game matches, there is no export, and the report is that of all games.
 pub record AreFirstMatchTexts (query : QueryTree) (outcomes : List ReadResult) (refused : ℕ) (texts : Texts) : Type 0 where
   pub export : texts.out ≡ first_export query outcomes
   pub report : texts.err ≡ report_of query (up_to_first query outcomes)
@@ -33,7 +33,7 @@ pub record AreFirstMatchTexts (query : QueryTree) (outcomes : List ReadResult) (
 abbrev pub first_texts_of : QueryTree → List ReadResult → Texts
 first_texts_of query outcomes = record { out = first_export query outcomes; err = report_of query (up_to_first query outcomes) }
 
--- The sort items of the query order nothing. Games suffice where one of them matches. After a fault of reading none does.
+-- The sort items of the query order nothing. Games suffice if one of them matches. After a fault of reading none do.
 abbrev pub first_texts : QueryTree → ExpectedOutput
 first_texts query = record {
   ended = AreFirstMatchTexts query;
@@ -42,7 +42,7 @@ first_texts query = record {
   reading = λ outcomes texts. (refused : ℕ) × AreFirstMatchTexts query outcomes refused texts;
 }
 
--- what a run asks to be written, up to the first match or of all games
+-- the expected output of a run, up to the first match or of all games
 abbrev pub expected_output : (first : Bool) → QueryTree → ExpectedOutput
 expected_output true query = first_texts query
 expected_output false query = texts_of query

@@ -1,4 +1,4 @@
--- What a query finds in games, and how it is written.
+-- The matches of a query in games, and their texts.
 use Rattle.std.specs.Prelude.{ℕ, ◌+◌, Bool, true, false, List, [], ◌∷◌, ◌++◌, length, count_by, Ok, Err, if◌then◌else◌}
 use Rattle.pgn_export.specs.Export.{export_text}
 use Rattle.cq_shards.specs.Answers.{has_match}
@@ -34,7 +34,7 @@ fault_lines number (r ∷ rs) = fault_if number r ++ fault_lines (number + 1) rs
 abbrev pub summary_of : Tally → List ℕ
 summary_of tally = summary_line tally.games tally.matched tally.refused
 
--- how many of some games there are, match and are refused
+-- the numbers of some games, of those that match, and of the faulty ones
 abbrev pub tally_of : QueryTree → List ReadResult → Tally
 tally_of query outcomes = record {
   games = length outcomes;

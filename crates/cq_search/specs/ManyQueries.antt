@@ -1,4 +1,4 @@
--- What several queries ask to be written, over one reading of an archive.
+-- The texts of several queries, over one reading of an archive.
 use Rattle.std.specs.Prelude.{◌≡◌, ℕ, ◌+◌, List, [], ◌∷◌, ◌++◌, length, count_by}
 use Rattle.std.specs.List.{AllZip, flat_map}
 use Rattle.cql_syntax.specs.Trees.{QueryTree}
@@ -34,7 +34,7 @@ pub record AreAllAnswers (queries : List QueryTree) (outcomes : List ReadResult)
   pub report : texts.err ≡ fault_lines 1 outcomes ++ summaries queries outcomes
   pub count : refused ≡ count_by is_refused outcomes
 
--- what is written of some games before all are read: the lines of the faulty ones alone
+-- the texts of some games before all are read: the lines of the faulty ones alone
 abbrev pub faults_alone : List ReadResult → Texts
 faults_alone outcomes = record { out = []; err = fault_lines 1 outcomes }
 

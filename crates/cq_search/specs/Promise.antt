@@ -1,4 +1,4 @@
--- What `answer` promises: what it answers, what out and err have taken then, and when each answer comes.
+-- The promise of `answer`: its status, the texts that out and err have taken, and the cause of each status.
 use Rattle.std.specs.Prelude.{◌≡◌, ◌⊎◌, ℕ, ◌+◌, ◌-◌, ◌≤◌, ◌<◌, List, [], ◌∷◌, length, take, Option, None, Some}
 use Rattle.std.specs.Io.KnownBytes.{Consumes, IsAtEnd}
 use Rattle.pgn_batches.specs.Filling.{most_read}
@@ -18,24 +18,24 @@ abbrev pub IsOneOf : Status → List Status → Type 0
 IsOneOf status [] = ⊥
 IsOneOf status (one ∷ more) = (status ≡ one) ⊎ IsOneOf status more
 
--- a call of `answer`: the limit on the archive in bytes, and what it was lent, as the call began and as it ended
+-- a call of `answer`: the limit on the archive in bytes, and the source and the sinks, as the call began and as it ended
 pub record SearchCall : Type 0 where
   pub limit : ℕ
   pub source : SourceView
   pub source_after : SourceView
   pub sinks : Sinks
 
--- What is asked to be written, of how the games of an archive are read. `ended`: of all games of an archive that was read to its
--- end, so many of which are refused. `early`: of the games of the whole batches, where these suffice and no more is read. `faulted`: of
--- the games of the whole batches, after a fault of reading. `reading`: of the closed games, of which a prefix is written while
--- the archive is read.
+-- The expected output, from the results of reading the games of an archive. `ended`: the texts of all games of an archive that was read to
+-- its end, so many of which are faulty. `early`: the texts of the games of the whole batches, if these suffice and no more is read.
+-- `faulted`: the texts of the games of the whole batches, after a fault of reading. `reading`: the texts of the closed games, of which a
+-- prefix is written while the archive is read.
 pub record ExpectedOutput : Type 1 where
   pub ended : List ReadResult → ℕ → Texts → Type 0
   pub early : List ReadResult → ℕ → Texts → Type 0
   pub faulted : List ReadResult → Texts → Type 0
   pub reading : List ReadResult → Texts → Type 0
 
--- told bytes are these; where nothing is told they may be any
+-- told bytes are these; if none are told they may be any
 abbrev pub MayBe : Option (List ℕ) → List ℕ → Type 0
 MayBe None bytes = Unit {0}
 MayBe (Some told) bytes = told ≡ bytes
@@ -75,13 +75,13 @@ pub record WritesPart (Are : Texts → Type 0) (sinks : Sinks) : Type 0 where
   pub are : Are texts
   pub writes : WritesPrefix sinks texts
 
--- so many games are refused as is asked, and the sinks have taken the texts
+-- so many games are faulty as is given, and the sinks have taken the texts
 pub record WritesAll (Are : ℕ → Texts → Type 0) (AreRefused : ℕ → Type 0) (sinks : Sinks) : Type 0 where
   pub refused : ℕ
   pub is : AreRefused refused
   pub writes : WritesSome (Are refused) sinks
 
--- The bytes taken of the archive, and what some of its games are read as.
+-- The bytes taken of the archive, and the results of reading some of its games.
 pub record Finds (call : SearchCall) (games : List ℕ → List Span) (Holds : List ℕ → List ReadResult → Type 0) : Type 0 where
   pub front : List ℕ
   pub outcomes : List ReadResult
@@ -115,12 +115,12 @@ Stops expected_output call =
     Finds call closed (λ front outcomes. WritesPart (expected_output.reading outcomes) call.sinks)
     ⊎ FindsAll call (λ outcomes. WritesPart (Unfinished expected_output outcomes) call.sinks)
 
--- after a fault of reading: what the games of the whole batches give was written
+-- after a fault of reading: the texts of the games of the whole batches were written
 abbrev pub Breaks : ExpectedOutput → SearchCall → (ℕ → Type 0) → Type 0
 Breaks expected_output call AreTaken =
     Finds call whole_spans (λ front outcomes. AreTaken (length front) × WritesSome (expected_output.faulted outcomes) call.sinks)
 
--- what each status says
+-- the promise of each status
 abbrev pub SaysOfAnswer : Status → ExpectedOutput → SearchCall → Type 0
 SaysOfAnswer Done expected_output call = Answers expected_output call (λ refused. refused ≡ 0)
 SaysOfAnswer DoneWithRefusals expected_output call = Answers expected_output call (λ refused. 0 < refused)
@@ -152,13 +152,13 @@ pub record AnswersAll (expected_output : ExpectedOutput) (call : SearchCall) : T
   pub no_read : Rose call.source.faults call.source_after.faults → ⊥
   pub no_write : SinkFailed call.sinks → ⊥
 
--- Less did not suffice: the games of the whole batches of the bytes taken, less the last piece of them, do not.
+-- Less did not suffice: the games of the whole batches of the bytes taken, without the last piece of them, do not.
 pub record ReadsNoMore (expected_output : ExpectedOutput) (call : SearchCall) : Type 0 where
   pub front : List ℕ
   pub takes : Consumes call.source.left call.source_after.left front
   pub needed : Suffices expected_output (take (length front - most_read) front) → ⊥
 
--- what `answer` promises of its status
+-- the promise of `answer` on its status
 pub record AnswerPromise (expected_output : ExpectedOutput) (status : Status) (call : SearchCall) : Type 0 where
   pub says : SaysOfAnswer status expected_output call
   pub takes : TakesAtMost (call.limit + 1) call.source.left call.source_after.left

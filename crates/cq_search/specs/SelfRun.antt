@@ -1,4 +1,4 @@
--- What is written of a query over an archive that is made: one line with the counts.
+-- The text of a query over a made archive: one line with the counts.
 use Rattle.std.specs.Prelude.{◌≡◌, ℕ, ◌<◌, List, [], length}
 use Rattle.std.specs.List.{flat_map}
 use Rattle.cq_report.specs.Games.{made_line}
@@ -12,8 +12,8 @@ use Rattle.cq_shards.specs.ReadResults.{ReadResult}
 use Rattle.cq_search.specs.ArchiveGames.{HasGames}
 use Rattle.cq_queries.specs.Views.{Sinks, Texts, Writes, WritesPrefix, IsUnwritten, NoWriteFailed, OutFailed}
 
--- Of the games of an archive: how many there are, match and are refused, and how long their exports are together. In any order they are
--- as long, so this is the length of what `run` and `eval` write.
+-- The totals of the games of an archive: their counts, and the length of their exports together. The exports are as long in any order, so
+-- this is the length of the exports that `run` and `eval` write.
 pub record AreTotals (query : QueryTree) (archive : List ℕ) (totals : Totals) : Type 0 where
   pub outcomes : List ReadResult
   pub holds : HasGames archive outcomes
@@ -37,7 +37,7 @@ line_of totals = made_line totals.bytes totals.tally.games totals.tally.matched 
 abbrev pub texts_of_totals : Totals → Texts
 texts_of_totals totals = record { out = line_of totals; err = [] }
 
--- the line is written to out, and the status tells whether a game is refused, or why not all of it is written
+-- the line is written to out, and the status tells of a faulty game, or the cause why not all of it is written
 abbrev pub WritesTotals : Totals → Status → Sinks → Type 0
 WritesTotals totals Done sinks = (totals.tally.refused ≡ 0) × Writes sinks (texts_of_totals totals) × NoWriteFailed sinks
 WritesTotals totals DoneWithRefusals sinks = (0 < totals.tally.refused) × Writes sinks (texts_of_totals totals) × NoWriteFailed sinks
@@ -45,7 +45,7 @@ WritesTotals totals WriteFault sinks = WritesPrefix sinks (texts_of_totals total
 WritesTotals totals NoMemory sinks = IsUnwritten sinks
 WritesTotals totals _ sinks = ⊥
 
--- what is written of a query over an archive that is made; out of memory nothing is
+-- the text of a query over a made archive; out of memory there is none
 pub data WritesMade (archive : List ℕ) (query : QueryTree) (status : Status) (sinks : Sinks) : Type 0 where
   totals_written : (totals : Totals) → AreTotals query archive totals → WritesTotals totals status sinks
       → WritesMade archive query status sinks

@@ -3,12 +3,12 @@ use Rattle.std.specs.Prelude.{Bool, true, false, List, [], ◌∷◌}
 use Rattle.cql_syntax.specs.Trees.{FilterTree, FilterTrees}
 use Rattle.cq_shards.specs.Order.{filter_directions, directions}
 
--- whether there is a direction
+-- there is a direction
 abbrev pub is_some : List Bool → Bool
 is_some [] = false
 is_some (d ∷ ds) = true
 
--- whether a filter, or one of some filters, gives a direction in which games are sorted
+-- a filter, or one of some filters, gives a direction in which games are sorted
 abbrev pub is_sort : FilterTree → Bool
 is_sort f = is_some (filter_directions f)
 

@@ -1,4 +1,4 @@
-//! Answering batch by batch.
+//! The search of all games, batch by batch.
 ghost use Rattle.std.specs.Prelude.{◌++◌, IfOk};
 ghost use Rattle.std.specs.Fn.{FnReturnsAt};
 ghost use Rattle.std.specs.Thread.{IsSync};
@@ -26,9 +26,9 @@ use pgn_batches::{Batch, BatchVisitor, VisitEnd, visit_batches};
 use std::alloc::Global;
 use std::thread::Threads;
 
-/// Answers the query of `plan` over the games of one batch after the other, and writes of them what is to be written before all are
-/// answered. The answers of a batch come by `answer`, and so from a function that says what its workers may share, since a method of a
-/// trait can't use the bounds of its block for what it sends to a thread.
+/// A visitor that searches one batch after the other for the query of `plan`, and writes all that is due before all games were searched.
+/// The answers of a batch come from the closure `answer`. The function that makes it states what its workers may share. A method of a trait
+/// can't use the bounds of its block for a value that it sends to a thread.
 #[derive(Drop)]
 struct AllGames<'a, F> {
     alloc: Global,
@@ -70,8 +70,8 @@ impl<'a, F: Fn(&Batch) -> Result<Vec<GameAnswer>, NoMemory>, O: Sink, E: Sink> B
     }
 }
 
-/// Answers the query of a plan over the archive that `source` has left: the games of one batch after the other, what is to be
-/// written of them before the next batch is asked for.
+/// Searches the archive that `source` has left for the query of a plan, one batch after the other. The texts of a batch are written before
+/// the next batch is read.
 pub fn search_all_games<R: Threads + Sync, S: Source, O: Sink, E: Sink, G: Gate + Sync>(
     context: &RunContext<'_, R, G>,
     plan: &Plan,
@@ -119,7 +119,11 @@ pub fn search_all_games<R: Threads + Sync, S: Source, O: Sink, E: Sink, G: Gate 
     }
 }
 
-/// The answers of the games of a batch, in the order of the games.
+/// Returns the answers of the games of a batch, in the order of the games.
+///
+/// # Errors
+///
+/// `NoMemory`: out of memory.
 pub fn batch_answers<R: Threads + Sync, G: Gate + Sync>(
     context: &RunContext<'_, R, G>,
     plan: &Plan,

@@ -1,4 +1,4 @@
-//! Answering several queries over one reading of an archive.
+//! The search for several queries over one reading of an archive.
 ghost use Rattle.std.specs.Prelude.{◌≡◌, ◌++◌, ◌≤◌, ◌^◌, false, length, map, IfOk};
 ghost use Rattle.std.specs.Fn.{FnReturnsAt};
 ghost use Rattle.std.specs.Thread.{IsSync};
@@ -30,8 +30,8 @@ use pgn_batches::{Batch, BatchVisitor, VisitEnd, visit_batches};
 use std::alloc::Global;
 use std::thread::Threads;
 
-/// Answers the queries of `plan` over the games of one batch after the other, writes the lines of the faulty ones and keeps those that
-/// match.
+/// A visitor that searches one batch after the other for the queries of `plan`. It writes the lines of the faulty games, and keeps the
+/// games that match.
 #[derive(Drop)]
 struct AllQueries<'a, F> {
     alloc: Global,
@@ -80,23 +80,23 @@ impl<'a, F: Fn(&Batch) -> Result<ManyAnswers, NoMemory>, O: Sink, E: Sink> Batch
     }
 }
 
-/// Answers 1 to 16 queries over the archive that `source` has left, read once: batch by batch, as `answer` reads it, the games of each
-/// by `settings.workers` workers, from 1 to 64, in threads of `rt`, of the first `settings.limit` bytes, from 1 to 2^40. All these
-/// ranges are conditions, and so is that not the first match alone is asked for.
+/// Searches the archive that `source` has left for 1 to 16 queries, in one reading, batch by batch, as `answer` reads it. The games of each
+/// batch are searched by `settings.workers` workers, from 1 to 64, in threads of `rt`. At most the first `settings.limit` bytes are
+/// searched, from 1 to 2^40. All these ranges are conditions, and so is that `settings.first` is false.
 ///
-/// The fault lines of a batch are written before the next one is asked for. The games that match are kept until all are answered: then
-/// `out` takes for each query, in order, the line `query I bytes W`, with its number, from 1, and the length of its exports, and then
-/// these, as `answer` writes them for it alone. After that `err` takes the last line of each query's report, in order.
+/// The fault lines of a batch are written before the next batch is read. The games that match are kept until all games were searched. Then
+/// `out` takes for each query, in order, the line `query I bytes W`, and after it its exports, as `answer` writes them for it alone. I is
+/// the number of the query, from 1, and W the length of its exports. After that `err` takes the last line of each query's report, in order.
 ///
-/// Answers:
+/// Returns:
 /// - `Done` or `DoneWithRefusals`: both sinks have taken all, and no game is faulty, or some.
-/// - `ReadFault`: a read failed, and no other count rose. Written are the fault lines of the batches that were full by then, and nothing
-///   to `out`.
-/// - `ArchiveTooLong`: one byte more than the limit was read, and no count rose. Written is as much as after a failed read.
+/// - `ReadFault`: a read failed, and no other count rose. The fault lines of the batches that were full by then are written, and nothing to
+///   `out`.
+/// - `ArchiveTooLong`: one byte more than the limit was read, and no count rose. As much is written as after a failed read.
 /// - `WriteFault`: a write to one sink failed, and no other count rose. Each sink has taken a prefix of its text.
-/// - `NoMemory`: no memory was found, and no count rose. Each sink has taken a prefix of its text.
+/// - `NoMemory`: out of memory, and no count rose. Each sink has taken a prefix of its text.
 ///
-/// The clause `AnswerPromise` says each of these exactly; no other status is given.
+/// The clause `AnswerPromise` defines each of these exactly; no other status is returned.
 pub fn answer_many<R: Threads + Sync, S: Source, O: Sink, E: Sink, G: Gate + Sync>(
     rt: &R,
     alloc: Global,
@@ -124,8 +124,8 @@ pub fn answer_many<R: Threads + Sync, S: Source, O: Sink, E: Sink, G: Gate + Syn
     search_archive_many(&context, queries, source, out, err)
 }
 
-/// Answers several queries, from 1 to 16, as `answer_many` does, and with the same statuses, by the workers and limit of a context. All games
-/// are answered, also where its settings ask for the first match alone.
+/// Searches an archive for 1 to 16 queries as `answer_many` does, with the same statuses, by the workers and the limit of a context. All
+/// games are searched, whatever `first` is in its settings.
 pub fn search_archive_many<R: Threads + Sync, S: Source, O: Sink, E: Sink, G: Gate + Sync>(
     context: &RunContext<'_, R, G>,
     queries: &[TypedQuery],
@@ -150,7 +150,7 @@ pub fn search_archive_many<R: Threads + Sync, S: Source, O: Sink, E: Sink, G: Ga
     search_all_queries(context, &plan, source, out, err)
 }
 
-// Answers the queries of a plan: the games of one batch after the other, what is to be written of them before the next batch is asked for.
+// Searches one batch after the other for the queries of a plan. The texts of a batch are written before the next batch is read.
 fn search_all_queries<R: Threads + Sync, S: Source, O: Sink, E: Sink, G: Gate + Sync>(
     context: &RunContext<'_, R, G>,
     plan: &SharedPlan,
@@ -207,7 +207,7 @@ fn search_all_queries<R: Threads + Sync, S: Source, O: Sink, E: Sink, G: Gate + 
     }
 }
 
-// For each query of a plan, the answers of the games of a batch.
+// Returns the answers of the games of a batch, for each query of a plan.
 fn many_answers<R: Threads + Sync, G: Gate + Sync>(
     context: &RunContext<'_, R, G>,
     plan: &SharedPlan,

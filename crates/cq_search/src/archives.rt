@@ -1,4 +1,4 @@
-//! Answering a query over an archive that is open.
+//! The search for one query over an open archive.
 ghost use Rattle.std.specs.Prelude.{◌≤◌, ◌^◌};
 ghost use Rattle.cql_syntax.specs.TreeOf.{query_tree};
 ghost use Rattle.cq_search.specs.FirstGame.{expected_output};
@@ -17,23 +17,25 @@ use cql_syntax::TypedQuery;
 use std::alloc::Global;
 use std::thread::Threads;
 
-/// Answers a query over the archive that `source` has left: batch by batch, the games of each by `settings.workers` workers, from 1 to 64,
-/// in threads of `rt`, of the first `settings.limit` bytes, from 1 to 2^40. Both ranges are conditions. A batch has 1,024 games, or
-/// fewer of which 2^24 bytes are kept, or those that are left at the end.
+/// Searches the archive that `source` has left for a query, batch by batch. The games of each batch are searched by `settings.workers`
+/// workers, from 1 to 64, in threads of `rt`. At most the first `settings.limit` bytes are searched, from 1 to 2^40. Both ranges are
+/// conditions. A batch has 1,024 games, or fewer of which 2^24 bytes are kept, or those that are left at the end.
 ///
-/// The source is read in pieces of at most 65,536 bytes, none while a full batch waits, and at most one byte over the limit in all.
-/// Without a sort item the exports and fault lines of a batch are written before the next one is asked for; with one the fault lines
-/// are, and the games that match are kept until all are answered. With `settings.first` no more is written than the game that matches first
-/// and the report up to it, whatever the sort items, and no more is read after its batch. Nothing is written after a fault.
+/// The source is read in pieces of at most 65,536 bytes, none while a full batch waits, and at most one byte over the limit in all. Without
+/// a sort item the exports and fault lines of a batch are written before the next batch is read. With one the fault lines are. The matching
+/// games are then kept until all games were searched.
 ///
-/// Answers:
+/// With `settings.first`, only the game that matches first and the report up to it are written, whatever the sort items. No more is read
+/// after its batch. Nothing is written after a fault.
+///
+/// Returns:
 /// - `Done` or `DoneWithRefusals`: both sinks have taken all, and no game of the report, or some, is faulty.
-/// - `ReadFault`: a read failed, and no other count rose. Of the games of the batches that were full by then all that is due is written.
-/// - `ArchiveTooLong`: one byte more than the limit was read, and no count rose. Written is as much as after a failed read.
+/// - `ReadFault`: a read failed, and no other count rose. All that is due of the games of the batches that were full by then is written.
+/// - `ArchiveTooLong`: one byte more than the limit was read, and no count rose. As much is written as after a failed read.
 /// - `WriteFault`: a write to one sink failed, and no other count rose. Each sink has taken a prefix of its text.
-/// - `NoMemory`: no memory was found, and no count rose. Each sink has taken a prefix of its text.
+/// - `NoMemory`: out of memory, and no count rose. Each sink has taken a prefix of its text.
 ///
-/// The clause `AnswerPromise` says each of these exactly; no other status is given.
+/// The clause `AnswerPromise` defines each of these exactly; no other status is returned.
 pub fn answer<R: Threads + Sync, S: Source, O: Sink, E: Sink, G: Gate + Sync>(
     rt: &R,
     alloc: Global,
@@ -59,7 +61,7 @@ pub fn answer<R: Threads + Sync, S: Source, O: Sink, E: Sink, G: Gate + Sync>(
     search_archive(&context, query, source, out, err)
 }
 
-/// Answers a query as `answer` does, and with the same statuses, by the workers and settings of a context.
+/// Searches an archive for a query as `answer` does, with the same statuses, by the workers and the settings of a context.
 pub fn search_archive<R: Threads + Sync, S: Source, O: Sink, E: Sink, G: Gate + Sync>(
     context: &RunContext<'_, R, G>,
     query: &TypedQuery,

@@ -1,4 +1,4 @@
-//! How a refusal of the next batch ends a call.
+//! The status of a call that ends with the refusal of a batch.
 ghost use Rattle.std.specs.Prelude.{◌≡◌};
 ghost use Rattle.cq_search.specs.Internal.BatchRefusal.{status_after};
 
@@ -6,7 +6,7 @@ use cq_common::Refusal;
 use cq_queries::Status;
 use pgn_batches::BatchFault;
 
-/// The status of a call that was refused the next batch.
+/// Returns the status of a call that ends with the refusal of a batch.
 pub fn status_of(refusal: Refusal<BatchFault>) -> Status
     ensures { result ≡ status_after refusal }
 {

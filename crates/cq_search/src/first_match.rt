@@ -1,4 +1,4 @@
-//! Answering batch by batch up to the first match.
+//! The search up to the first match, batch by batch.
 ghost use Rattle.std.specs.Prelude.{IfOk};
 ghost use Rattle.std.specs.Fn.{FnReturnsAt};
 ghost use Rattle.std.specs.Thread.{IsSync};
@@ -25,8 +25,8 @@ use pgn_batches::{Batch, BatchVisitor, VisitEnd, visit_batches};
 use std::alloc::Global;
 use std::thread::Threads;
 
-/// Answers the query of `plan` over the games of one batch after the other, up to the first that matches, and then writes the last line of
-/// the report.
+/// A visitor that searches one batch after the other for the query of `plan`, up to the first game that matches. It then writes the last
+/// line of the report.
 #[derive(Drop)]
 struct UpToFirst<'a, F> {
     alloc: Global,
@@ -70,8 +70,8 @@ impl<'a, F: Fn(&Batch) -> Result<Vec<GameAnswer>, NoMemory>, O: Sink, E: Sink> B
     }
 }
 
-/// Answers the query of a plan over the archive that `source` has left up to the first game that matches: the games of one batch after
-/// the other, what is to be written of them before the next batch is asked for, and none after the batch of that game.
+/// Searches the archive that `source` has left for the query of a plan, up to the first game that matches. The texts of a batch are written
+/// before the next batch is read. No batch is read after that of the first match.
 pub fn search_first_match<R: Threads + Sync, S: Source, O: Sink, E: Sink, G: Gate + Sync>(
     context: &RunContext<'_, R, G>,
     plan: &Plan,
@@ -117,7 +117,7 @@ pub fn search_first_match<R: Threads + Sync, S: Source, O: Sink, E: Sink, G: Gat
     }
 }
 
-// The answers of the games of a batch up to the first that matches, in the order of the games.
+// Returns the answers of the games of a batch up to the first that matches, in the order of the games.
 fn first_answers<R: Threads + Sync, G: Gate + Sync>(
     context: &RunContext<'_, R, G>,
     plan: &Plan,

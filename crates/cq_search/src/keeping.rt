@@ -1,5 +1,5 @@
-//! What is kept of a batch for several queries. The lines of the faulty games are the same for each query, so they are written as the first
-//! one's answers are.
+//! The games of a batch that are kept for several queries. The lines of the faulty games are the same for each query, so they are written
+//! with the answers to the first query.
 ghost use Rattle.std.specs.Prelude.{◌≡◌, ◌+◌, ◌++◌, ◌<◌, ◌≤◌, ◌^◌, [], List, length, map, get_or, replicate, IfOk, OnOk};
 ghost use Rattle.cql_syntax.specs.Trees.{QueryTree};
 ghost use Rattle.cq_shards.specs.Many.{answers_in};
@@ -16,7 +16,11 @@ use cq_outside::Sink;
 use cq_shards::{Answer, GameAnswer, ManyAnswers, in_order};
 use std::alloc::Global;
 
-/// For each of so many queries nothing.
+/// Returns an empty list for each of so many queries.
+///
+/// # Errors
+///
+/// `NoMemory`: out of memory for the lists.
 pub fn none_kept(alloc: Global, queries: u32) -> Result<Vec<Vec<GameAnswer>>, NoMemory>
     ensures { IfOk result (λ kept. map (λ row. row.items) kept.items ≡ replicate queries []) }
 {
@@ -28,6 +32,11 @@ pub fn none_kept(alloc: Global, queries: u32) -> Result<Vec<Vec<GameAnswer>>, No
 }
 
 /// Writes the lines of the faulty games of a batch, and keeps the games that match, for each query.
+///
+/// # Errors
+///
+/// - `Fault`: a write failed, and the count of one sink rose. A prefix of the lines was taken.
+/// - `NoMemory`: out of memory. A prefix of the lines was taken, and no count rose.
 pub fn keep_batch<O: Sink, E: Sink>(
     alloc: Global,
     answers: ManyAnswers,

@@ -1,4 +1,4 @@
-//! Answering queries over an archive: one over all its games, or up to the first that matches, or several over one reading of it.
+//! The search of an archive: for one query over all its games, or up to the first that matches, or for several over one reading of it.
 #![tactic(auto)]
 
 mod all_games;

@@ -1,5 +1,5 @@
-//! Writing what a query finds in an archive. The line of a faulty game is written once its batch is answered, and so is an export where
-//! the query has no sort item; with one the games that match are kept, and written in order once all are answered.
+//! The texts of one query over an archive. The line of a faulty game is written once its batch was searched. So is an export if the query
+//! has no sort item. With one the games that match are kept, and written in order once all games were searched.
 ghost use Rattle.std.specs.Prelude.{◌≡◌, ◌+◌, ◌++◌, ◌<◌, ◌≤◌, ◌^◌, Bool, List, length};
 ghost use Rattle.cql_syntax.specs.Trees.{QueryTree};
 ghost use Rattle.cq_shards.specs.Answers.{answer_of, answers_from};
@@ -23,7 +23,7 @@ use cql_plan::Plan;
 use pgn_reader::GameFault;
 use std::alloc::Global;
 
-/// Writes what is due once all games are answered: the matches that were kept, and the last line of the report.
+/// Writes the rest of the texts once all games were searched: the matches that were kept, and the last line of the report.
 pub fn write_rest<O: Sink, E: Sink>(
     alloc: Global,
     plan: &Plan,
@@ -46,7 +46,7 @@ pub fn write_rest<O: Sink, E: Sink>(
     }
 }
 
-/// Whether the query of a plan has a sort item.
+/// Returns true if the query of a plan has a sort item.
 pub fn has_sort_item(plan: &Plan) -> bool
     ensures { result ≡ some_sort (query_in plan.now).items }
 {
@@ -68,6 +68,11 @@ fn write_kept<O: Sink>(
 }
 
 /// Writes the exports of answers, one after the other.
+///
+/// # Errors
+///
+/// - `Fault`: a write failed, and the count of `out` rose. A prefix of the exports was taken.
+/// - `NoMemory`: never returned.
 pub fn write_texts<O: Sink>(answers: &[GameAnswer], out: &mut O) -> Result<(), Refusal<Failed>>
     ensures { WritesText (exports_of answers.now)
         (sink_view O.taken O.faults out.old) (sink_view O.taken O.faults out.new) result }
@@ -91,7 +96,7 @@ pub fn write_summary<E: Sink>(alloc: Global, tally: Tally, err: &mut E) -> Statu
     write_last(line.as_slice(), tally.refused, err)
 }
 
-/// Writes the last of a report, in which so many games are refused.
+/// Writes the last text of a report with so many faulty games.
 pub fn write_last<E: Sink>(text: &[u8], refused: u64, err: &mut E) -> Status
     ensures { WritesLast text.now refused (sink_view E.taken E.faults err.old) (sink_view E.taken E.faults err.new) result }
 {
@@ -102,7 +107,12 @@ pub fn write_last<E: Sink>(text: &[u8], refused: u64, err: &mut E) -> Status
     }
 }
 
-/// Counts and writes, or keeps, the answers of games that follow those answered before.
+/// Counts the answers of the next games, and writes or keeps them.
+///
+/// # Errors
+///
+/// - `Fault`: a write failed, and the count of one sink rose. Each sink has taken a prefix of its text.
+/// - `NoMemory`: out of memory, and no count rose. Each sink has taken a prefix of its text.
 pub fn write_answers<O: Sink, E: Sink>(
     alloc: Global,
     sorted: bool,
@@ -134,7 +144,7 @@ pub fn write_answers<O: Sink, E: Sink>(
     Ok(())
 }
 
-// Counts and writes, or keeps, the answer of one game. Memory is refused before anything of the game is written.
+// Counts the answer of one game, and writes or keeps it. If out of memory, nothing of the game is written.
 fn write_answer<O: Sink, E: Sink>(
     alloc: Global,
     sorted: bool,
@@ -173,7 +183,7 @@ fn write_answer<O: Sink, E: Sink>(
     Ok(())
 }
 
-// Writes the line of a game that is faulty.
+// Writes the line of a faulty game.
 fn write_fault<E: Sink>(
     alloc: Global,
     fault: &GameFault,
@@ -187,6 +197,11 @@ fn write_fault<E: Sink>(
 }
 
 /// Writes all of a text.
+///
+/// # Errors
+///
+/// - `Fault`: a write failed, and the count of the sink rose. A prefix of the text was taken.
+/// - `NoMemory`: never returned.
 pub fn write_to<S: Sink>(sink: &mut S, text: &[u8]) -> Result<(), Refusal<Failed>>
     ensures { WritesText text.now (sink_view S.taken S.faults sink.old) (sink_view S.taken S.faults sink.new) result }
 {

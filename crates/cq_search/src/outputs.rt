@@ -1,4 +1,4 @@
-//! Writing what several queries find in an archive, once it was read to its end.
+//! The texts of several queries over an archive, once it was read to its end.
 ghost use Rattle.std.specs.Prelude.{◌≡◌, ◌+◌, ◌≤◌, List, length, map, IfOk};
 ghost use Rattle.std.specs.List.{flat_map};
 ghost use Rattle.cq_report.specs.Games.{summary_line as line_of};
@@ -21,7 +21,7 @@ use cq_shards::{GameAnswer, by_keys};
 use cq_shared::SharedPlan;
 use std::alloc::Global;
 
-/// Writes what is due once all games are answered: the output of each query, and the last lines of the report.
+/// Writes the rest of the texts once all games were searched: the output of each query, and the last lines of the report.
 pub fn write_outputs<O: Sink, E: Sink>(
     alloc: Global,
     plan: &SharedPlan,
@@ -49,7 +49,7 @@ pub fn write_outputs<O: Sink, E: Sink>(
     }
 }
 
-// The matches that were kept for each query, in its order.
+// Returns the matches that were kept for each query, in its order.
 fn all_by_keys(
     alloc: Global,
     plan: &SharedPlan,
@@ -104,7 +104,7 @@ fn write_output<O: Sink>(
     }
 }
 
-// How many bytes the exports of answers have together.
+// Returns the length in bytes of the exports of answers.
 fn count_bytes(answers: &[GameAnswer]) -> u128
     ensures { result ≡ length (exports_of answers.now) }
 {
@@ -131,7 +131,7 @@ fn write_summaries<E: Sink>(
     write_last(lines.as_slice(), tally.refused, err)
 }
 
-// The last lines of the report, one for each query, of which a row has the matches.
+// Returns the last lines of the report, one for each query. The matches of a query are a row.
 fn summary_lines(alloc: Global, tally: Tally, rows: &[Vec<GameAnswer>]) -> Result<Bytes, NoMemory>
     ensures { IfOk result (λ lines. lines ≡ flat_map (λ row. line_of tally.games (length row.items) tally.refused) rows.now) }
 {

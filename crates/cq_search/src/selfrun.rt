@@ -1,4 +1,4 @@
-//! Answering a query over an archive that is made. The exports are not written, but their bytes are counted.
+//! The search of a made archive. The exports are not written, but their bytes are counted.
 ghost use Rattle.std.specs.Prelude.{◌≡◌, ◌+◌, ◌*◌, ◌<◌, ◌≤◌, ◌^◌, ◌++◌, [], ℕ, List, length, IfOk};
 ghost use Rattle.std.specs.Fn.{FnReturnsAt};
 ghost use Rattle.std.specs.Thread.{IsSync};
@@ -32,15 +32,15 @@ use pgn_batches::{Batch, BatchVisitor, VisitEnd, visit_batches};
 use std::alloc::Global;
 use std::thread::Threads;
 
-/// A limit that no archive which is made reaches, in bytes.
+/// A limit that no made archive reaches, in bytes.
 pub const MADE_LIMIT: u64 = 1 << 40;
 
-/// Answers a query over the archive of so many games, up to 100,000, that a seed gives: `out` takes one line with the counts.
+/// Searches the archive of so many games, up to 100,000, that a seed makes. `out` takes one line with the counts.
 ///
-/// Answers:
+/// Returns:
 /// - `Done` or `DoneWithRefusals`: the line was taken, and no game is faulty, or some.
 /// - `WriteFault`: a write failed, and the count of `out` rose. A prefix of the line was taken.
-/// - `NoMemory`: no memory was found, for the archive, for what a game asks or for the line; nothing is written.
+/// - `NoMemory`: out of memory for the archive, for the search of a game, or for the line; nothing is written.
 pub fn search_made_archive<R: Threads + Sync, O: Sink, G: Gate + Sync>(
     context: &RunContext<'_, R, G>,
     query: &TypedQuery,
@@ -58,7 +58,7 @@ pub fn search_made_archive<R: Threads + Sync, O: Sink, G: Gate + Sync>(
     }
 }
 
-// What a query finds in the archive of so many games that a seed gives.
+// Returns the totals of a query in the archive of so many games that a seed makes.
 fn made_totals<R: Threads + Sync, G: Gate + Sync>(
     context: &RunContext<'_, R, G>,
     query: &TypedQuery,
@@ -76,7 +76,7 @@ fn made_totals<R: Threads + Sync, G: Gate + Sync>(
     totals
 }
 
-// Answers the query of `plan` over the games of one batch after the other, and counts what is found.
+// A visitor that searches one batch after the other for the query of `plan`, and adds up the totals.
 #[derive(Drop)]
 struct Counter<'a, F> {
     plan: &'a Plan,
@@ -106,7 +106,7 @@ impl<'a, F: Fn(&Batch) -> Result<Vec<GameAnswer>, NoMemory>> BatchVisitor<(), ()
     }
 }
 
-// What the query of a plan finds in an archive within the limit, batch by batch.
+// Returns the totals of the query of a plan in an archive within the limit, batch by batch.
 fn count_archive<R: Threads + Sync, G: Gate + Sync>(
     context: &RunContext<'_, R, G>,
     plan: &Plan,
@@ -141,7 +141,7 @@ fn count_archive<R: Threads + Sync, G: Gate + Sync>(
     }
 }
 
-// Of an archive of so many bytes, before the first game.
+// Returns the totals of an archive of so many bytes, before the first game.
 fn no_totals(bytes: u64) -> Totals
     ensures { (query : QueryTree) → result ≡ totals_of query bytes [] }
 {
@@ -156,7 +156,7 @@ fn no_totals(bytes: u64) -> Totals
     }
 }
 
-// The totals with the games of these answers, which follow those before.
+// Returns the totals with the games of these answers, which follow those before.
 fn count_answers(before: Totals, answers: Vec<GameAnswer>) -> Totals
     requires games { before.tally.games + length answers.items < 2 ^ 63 }
     requires matched { before.tally.matched ≤ before.tally.games }
@@ -174,7 +174,7 @@ fn count_answers(before: Totals, answers: Vec<GameAnswer>) -> Totals
     totals
 }
 
-// The totals with one game more.
+// Returns the totals with one game more.
 fn count_answer(before: Totals, answer: &GameAnswer) -> Totals
     requires games { before.tally.games < 2 ^ 63 }
     requires matched { before.tally.matched ≤ before.tally.games }
@@ -194,7 +194,7 @@ fn count_answer(before: Totals, answer: &GameAnswer) -> Totals
     }
 }
 
-// The totals with one game more, of which so many match and are refused, and whose export has so many bytes.
+// Returns the totals with one game more. Its matches and faults, 0 or 1, and the bytes of its export are given.
 fn one_more(before: Totals, matched: u64, refused: u64, written: u128) -> Totals
     requires games { before.tally.games < 2 ^ 63 }
     requires matched { before.tally.matched + matched ≤ before.tally.games + 1 }

@@ -6,7 +6,7 @@ ghost use Rattle.cq_search.specs.Sorts.{is_sort, have_sort as some_sort};
 
 use cql_syntax::{Filter, Filters, Form};
 
-/// Whether one of the filters is a `sort`.
+/// Returns true if one of the filters is a `sort`.
 pub fn have_sort(filters: &Filters) -> bool
     ensures { result ≡ some_sort (filters_tree filters.now) }
 {

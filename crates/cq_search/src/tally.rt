@@ -1,6 +1,6 @@
-//! How many games were answered.
+//! The counts of games.
 
-/// How many games were answered, and how many of them match and are refused.
+/// The numbers of the games that were searched, of those that match, and of the faulty ones.
 #[derive(Clone, Copy, Debug)]
 pub struct Tally {
     pub games: u64,

@@ -1,7 +1,7 @@
-//! What a query finds in an archive, in numbers.
+//! The totals of a query in an archive.
 use crate::tally::Tally;
 
-/// How many bytes an archive has, how many of its games match and are refused, and how many bytes the exports have together.
+/// The number of bytes of an archive, the counts of its games, and the length in bytes of the exports together.
 #[derive(Clone, Copy, Debug)]
 pub struct Totals {
     pub bytes: u64,

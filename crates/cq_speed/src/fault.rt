@@ -1,10 +1,10 @@
-//! Why nothing is measured.
+//! The causes for which nothing is measured.
 use cq_common::NoMemory;
 use std::alloc::{AllocError, AllocFailed};
 use std::io;
 use thiserror::Error;
 
-/// Why nothing, or no more, is measured.
+/// The causes for which nothing, or no more, is measured.
 #[derive(Clone, Copy, Debug, Error)]
 pub enum SpeedFault {
     #[error("usage: cq_speed moves ROUNDS < POSITIONS, or cq_speed games < ARCHIVE")]

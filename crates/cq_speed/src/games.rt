@@ -1,4 +1,4 @@
-//! Cutting an archive and reading its games.
+//! The cut of an archive and the reading of its games.
 use crate::fault::SpeedFault;
 use crate::rate::{a_second, nanos_each};
 use pgn_cut::{Span, cut_whole};
@@ -7,10 +7,10 @@ use std::alloc::Global;
 use std::io::Print;
 use std::time::CpuClock;
 
-/// An archive has fewer bytes.
+/// The number of bytes that no archive reaches.
 const LIMIT: usize = 1 << 40;
 
-/// Measures how many bytes a second are cut, and how long each position of a game takes to be read.
+/// Measures the bytes that are cut in a second, and the time for each position of the games that are read.
 pub(crate) fn measure(
     rt: &(impl CpuClock + Print),
     alloc: Global,
@@ -37,7 +37,7 @@ pub(crate) fn measure(
     Ok(())
 }
 
-// How many positions the games have; a faulty game has none.
+// Returns the number of positions of the games; a faulty game has none.
 fn read_all(alloc: Global, archive: &[u8], spans: &[Span]) -> u64 {
     let mut positions = 0u64;
     for span in spans {

@@ -1,5 +1,5 @@
-//! Measures by processor time how fast positions list, read and write moves, and how fast games are cut and read. What takes no time here
-//! is proved of the libraries; of this program it is proved that it ends and does nothing undefined.
+//! Measures by processor time the rate at which positions list, read and write moves, and games are cut and read. The claims that take no
+//! time here are proved of the libraries. Of this program it is proved that it ends and does nothing undefined.
 #![tactic(auto)]
 
 mod fault;
@@ -14,16 +14,16 @@ use std::io::Read;
 use std::process::ExitCode;
 use std::rt::Env;
 
-/// What is measured.
+/// The measurement of a call.
 #[derive(Clone, Copy)]
 enum SpeedJob {
-    /// Lists of moves, texts of moves and perft, of positions, so many times.
+    /// Lists of moves, texts of moves and perft, of positions, so many times over.
     Moves(u32),
     /// Cutting and reading an archive.
     Games,
 }
 
-// The words `moves ROUNDS` or `games`, after the program's name.
+// Returns the job of the words `moves ROUNDS` or `games`, after the program's name.
 fn read_job(rt: &(impl Env + AllocGlobal)) -> Result<SpeedJob, SpeedFault> {
     let mut args = env::args(rt)?.skip(1);
     let Some(word) = args.next() else {

@@ -9,7 +9,7 @@ use std::io::Print;
 use std::str;
 use std::time::CpuClock;
 
-// How many lines of so many legal moves lead on from a position.
+// Returns the number of lines of so many legal moves from a position.
 fn perft(position: &Position, depth: u32) -> u64 {
     let moves = legal_moves(position);
     if depth <= 1 {
@@ -59,7 +59,7 @@ fn write_all(position: &Position, rounds: u32) -> u64 {
     texts
 }
 
-// A line of the positions is a position, a bar and the texts of its legal moves, a space between two.
+// Returns the position and the moves of a line. A line is a position, a bar and the texts of its legal moves, a space between two.
 fn parts_of(line: &str) -> Result<(&str, &str), SpeedFault> {
     match line.split_once("|") {
         Some(parts) => Ok(parts),
@@ -74,7 +74,7 @@ fn position_of(fen: &str) -> Result<Position, SpeedFault> {
     }
 }
 
-// The positions of a text, one a line.
+// Returns the positions of a text, one a line.
 fn positions_of(alloc: Global, text: &str) -> Result<Vec<Position>, SpeedFault> {
     let mut positions = Vec::new(alloc);
     for line in text.lines() {
@@ -111,7 +111,8 @@ fn add_texts<'a>(line: &'a str, found: &mut MoveTexts<'a>) -> Result<(), SpeedFa
     Ok(())
 }
 
-/// Measures lists of legal moves, texts read and written, and perft, of the positions of a text, so many times over; none of them no times.
+/// Measures lists of legal moves, texts read and written, and perft, of the positions of a text, so many times over. With no round nothing
+/// is measured.
 pub(crate) fn measure(
     rt: &(impl CpuClock + Print),
     alloc: Global,

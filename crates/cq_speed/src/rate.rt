@@ -1,7 +1,7 @@
-//! How often something was done in a time.
+//! Rates of work in a time.
 use std::time::Duration;
 
-/// How often a second something was done that was done so often in so much time.
+/// Returns the number of things in a second, of so many in this time.
 pub(crate) fn a_second(count: u64, time: Duration) -> u64 {
     let micros = time
         .as_secs()
@@ -10,7 +10,7 @@ pub(crate) fn a_second(count: u64, time: Duration) -> u64 {
     count.saturating_mul(1_000_000) / micros.max(1)
 }
 
-/// How many nanoseconds each of so many things took.
+/// Returns the nanoseconds for each of so many things.
 pub(crate) fn nanos_each(count: u64, time: Duration) -> u64 {
     let nanos = time
         .as_secs()

@@ -5,7 +5,7 @@ use cq_position::{Man, Position, material, read_fen};
 use std::mem::size_of;
 use std::test::Fail;
 
-/// A square, and whether it is light: a1, h1, d1, e1 and h8.
+/// A square, and true if it is light: a1, h1, d1, e1 and h8.
 static LIGHT: [(u8, bool); 5] = [(0, false), (7, true), (3, true), (4, false), (63, false)];
 
 fn has_its_colour(number: u8, light: bool) -> bool {
@@ -19,20 +19,20 @@ fn light_squares_are_where_the_laws_of_chess_put_them(rt: HostRuntime) {
     }
 }
 
-// How far a knight on b1 and a king on e1 step, and a bishop on c1 goes up to h6.
+// Returns the numbers of steps of a knight on b1 and of a king on e1, and of squares from c1 up to h6.
 fn count_steps() -> (usize, usize, usize) {
     let knight = knight_steps(Square::new(1)).len();
     let king = king_steps(Square::new(4)).len();
     (knight, king, ray::<1, 1>(Square::new(2)).len())
 }
 
-// How many pawns White has at the start, and how many squares are empty.
+// Returns the number of White's pawns at the start, and of empty squares.
 fn count_men() -> (u32, u32) {
     let start = Position::start();
     (material(&start, Man::P), material(&start, Man::Empty))
 }
 
-// From a1, where all squares but d1 are empty, a rook slides to b1, c1 and d1.
+// A rook on a1 slides to b1, c1 and d1, if all squares but d1 are empty.
 #[test]
 fn steps_slides_and_men_are_as_many_as_at_the_start(rt: HostRuntime) {
     assert!(rt; count_steps() == (3, 5, 5));
@@ -44,7 +44,7 @@ fn attackers_at(fen: &[u8], squares: u64) -> Result<u64, Fail> {
     Ok(attackers(&read_fen(fen)?, squares))
 }
 
-// The queen on e2 and the pawn on d4 attack e5; the rook stands behind the queen.
+// The queen on e2 and the pawn on d4 attack e5; the rook is behind the queen.
 #[test]
 fn attackers_of_a_square_are_those_that_attack_it(rt: HostRuntime) -> Result<(), Fail> {
     let fen = b"4k3/8/8/8/3P4/2N5/4Q3/4R1K1 b - - 0 1";

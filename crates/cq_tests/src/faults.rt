@@ -1,4 +1,4 @@
-//! Why a text is no position and no move, by messages that no process tells.
+//! Texts that are no position and no move, by messages that no process tells.
 use cq_position::read_fen;
 use cq_san::read_san;
 use std::alloc::Global;

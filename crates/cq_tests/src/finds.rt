@@ -3,7 +3,7 @@ use cq_common::NoMemory;
 use cq_first::FirstBoard;
 use std::alloc::Global;
 
-// Finds 3 at the second of two seats: whether the first sees at 4 that a number below was found, and the least number found.
+// Finds 3 at the second of two seats. Returns true if the first sees at 4 that a number below was found, and the least number found.
 fn seen_and_found(alloc: Global) -> Result<(bool, u64), NoMemory> {
     let (board, mut seats) = FirstBoard::make(alloc, 5, 2)?;
     let mut second = seats.pop().unwrap();
@@ -15,7 +15,7 @@ fn seen_and_found(alloc: Global) -> Result<(bool, u64), NoMemory> {
     Ok((seen, board.close(seats)?))
 }
 
-// That a look sees what another seat found, no clause says.
+// No clause says that a look sees a number that another seat found.
 #[test]
 fn a_seat_sees_what_another_found(rt: HostRuntime) -> Result<(), NoMemory> {
     let (seen, least) = seen_and_found(rt.alloc())?;

@@ -1,4 +1,4 @@
-//! Laws of cuts, of readers and of lines, which nothing else calls, and what those of lines ask of a game.
+//! Laws of cuts, of readers and of lines, which nothing else calls, and the conditions of those of lines on a game.
 use cq_common::Refusal;
 use pgn_json::{
     games_have_valid_nodes, lines_are_json, lines_are_utf8, same_lines_have_the_same_game,
@@ -9,7 +9,7 @@ use pgn_pieces::pieces_cover_their_archive;
 use pgn_reader::{GameFault, read_game};
 use std::alloc::Global;
 
-/// A game with a tag that has to be escaped and is no UTF-8, comments, glyphs, a variation and a null move.
+/// A game with a tag that needs an escape and is no UTF-8, comments, glyphs, a variation and a null move.
 const GAME: &[u8] =
     b"[White \"a\\\"b\xe9\"] {at the start} 1. e4 $1 $3 {CQL} {x\xc3\xa9} (1. -- e5) 1... c5 1-0";
 

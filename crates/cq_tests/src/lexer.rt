@@ -131,7 +131,7 @@ fn are_tokens(found: &[Token], want: &[(u64, u32, TokenKind)]) -> bool {
     found.len() == want.len()
 }
 
-// Whether a text, which stands at byte 1000, has these tokens.
+// Returns true if a text, whose first byte is byte 1000, has these tokens.
 fn has_tokens(alloc: Global, text: &[u8], want: &[(u64, u32, TokenKind)]) -> Result<bool, Fail>
     requires { length text.now ≤ 64 }
 {

@@ -58,7 +58,7 @@ g4 Qb5 15. Rf4 g5 16. Kg3 Qb6 17. e4 Qg6 18. exf5 Ra7 19. Kf3 Ke7 20. d3 *
     ),
 ];
 
-// Whether the archive is made; no row has more than 100,000 games.
+// Returns true if the archive is that of the row; no row has more than 100,000 games.
 fn is_right(alloc: Global, row: &MakerCase<'_>) -> Result<bool, NoMemory> {
     if row.1 > 100_000 {
         return Ok(false);

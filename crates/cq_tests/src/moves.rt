@@ -3,7 +3,7 @@ use cq_moves::{is_legal, legal_moves, play};
 use cq_position::{Position, read_fen};
 use std::test::Fail;
 
-// How many lines of so many legal moves lead on from a position.
+// Returns the number of lines of so many legal moves from a position.
 fn perft(position: &Position, depth: u32) -> u64 {
     let moves = legal_moves(position);
     if depth <= 1 {

@@ -1,4 +1,4 @@
-//! What threads may share, and what one may hand to another, by its type.
+//! Types that threads may share, and types that one may hand to another.
 use arrayvec::ArrayVec;
 use cq_board::{Board, ClaimSeat};
 use cq_first::{FirstBoard, FirstSeat};

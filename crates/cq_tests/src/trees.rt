@@ -18,7 +18,7 @@ static PATHS: [PathCase<'static>; 5] = [
     (2, 0, None),
 ];
 
-// Whether this is the path; not so where the numbers are no nodes.
+// Returns true if this is the path, and false if the numbers are no nodes.
 fn has_path(game: &Game, path: &PathCase<'_>) -> Result<bool, NoMemory> {
     let (from, to, want) = *path;
     if from >= game.len() || to >= game.len() {

@@ -1,4 +1,4 @@
--- What the matches that `clap` gives say of the words.
+-- The words of which `clap` returns matches.
 use Rattle.std.proofs.Common.{◌≡◌, List, [], true, subst, ap}
 use Rattle.clap.specs.Words.{App, HasMatchesOf, Text, fault_of, found_of, is_simple, is_simple_and_free, matches_of, rows_of}
 use Rattle.clap.specs.declared.parser.matches.ArgMatches.{ArgMatches}

@@ -1,4 +1,4 @@
--- What an error of `clap` says of the words.
+-- The words of which `clap` returns an error.
 use Rattle.std.proofs.Common.{◌≡◌, List, [], ◌∷◌, true, sym, subst, ap, inl, inr}
 use Rattle.clap.specs.Words.{App, HasKind, Kinds, Text, fault_of, is_simple_and_free, kind_of, takes}
 use Rattle.clap.specs.declared.error.Error.{Error}

@@ -1,4 +1,4 @@
--- What the command words ask.
+-- The jobs that command words name.
 use Rattle.std.specs.Prelude.{◌≡◌, ◌≤◌, ◌||◌, ℕ, Bool, false, List, Option, Some, None, Result, Ok, Err, codes, is_some, if◌then◌else◌}
 use Rattle.std.specs.Prelude.{option_map, option_and_then, unwrap_or}
 use Rattle.std.specs.Str.{bytes_eq}
@@ -29,12 +29,12 @@ mode_of word =
     else (if bytes_eq word (codes "selfrun") then Some mode.SelfRun
     else (if bytes_eq word (codes "many") then Some mode.Many else None)))))
 
--- ---- what is given, of the matches
+-- ---- the matches that are given
 
 abbrev pub is_given : List Row → Text → Bool
 is_given rows id = is_some (first_of id rows)
 
--- whether an option without a value is given
+-- an option without a value is given
 abbrev pub is_set_by : Option Text → Bool
 is_set_by None = false
 is_set_by (Some text) = bytes_eq text (codes "true")
@@ -42,11 +42,11 @@ is_set_by (Some text) = bytes_eq text (codes "true")
 abbrev pub is_set : List Row → Text → Bool
 is_set rows id = is_set_by (first_of id rows)
 
--- the name of the archive, which is standard input where no word gives one
+-- the name of the archive, which is standard input if no word gives one
 abbrev pub archive_in : List Row → Text
 archive_in rows = unwrap_or (first_of (codes "archive") rows) (codes "-")
 
--- the number that a text writes; none of a text that writes no number of the range
+-- the number that a text spells; none if it spells no number of the range
 abbrev pub number_of : ℕ → ℕ → Text → Option ℕ
 number_of least most text = if is_unsigned_in least most text then Some (digits_value 10 (without_leading_plus text)) else None
 
@@ -67,7 +67,7 @@ games_in rows = number_or 100 0 100000 (first_of (codes "games") rows)
 abbrev pub limit_in : List Row → Option ℕ
 limit_in rows = number_or 1099511627776 1 1099511627776 (first_of (codes "limit") rows)
 
--- ---- what a mode allows
+-- ---- the options of each mode
 
 -- `run` and `eval` take `--workers`, `--limit` and `--first`
 abbrev pub settings_in : List Row → Option Settings
@@ -102,29 +102,29 @@ job_by mode.Explain query rows = if has_more rows then None else Some (job.Expla
 job_by mode.SelfRun query rows = option_map (λ s. job.SelfRun query s) (self_run_settings_in rows)
 job_by mode.Many queries rows = option_map (λ s. job.Many queries (archive_in rows) s) (many_settings_in rows)
 
--- the job of matches that keep the rules; none of others
+-- the job of matches that keep the rules; none if they break one
 abbrev pub job_in : List Row → Option Job
 job_in rows = option_and_then (λ word. option_and_then (λ query.
     option_and_then (λ mode. job_by mode query rows) (mode_of word)) (first_of (codes "query") rows)) (first_of (codes "mode") rows)
 
 -- ---- the words
 
--- the job of words of which `clap` promises matches that keep the rules; none of words that it promises to refuse, or
--- whose matches break a rule
+-- The job of words of which `clap` promises matches that keep the rules. There is none if `clap` promises a fault, or the matches break a
+-- rule.
 abbrev pub job_of_words : List Text → Option Job
 job_of_words words = if is_empty (fault_of line words) then job_in (matches_of line words) else None
 
--- what a call answers about a job that is asked, or about none: the job, a refusal of the words, or out of memory
+-- the result of a call on the words of a job, or of none: the job, `WordsRefused`, or out of memory
 abbrev pub Answers : {T : Type 0} → Option T → Result T (Refusal WordsRefused) → Type 0
 Answers asked (Ok found) = asked ≡ Some found
 Answers asked (Err (Fault refused)) = asked ≡ None
 Answers asked (Err NoMemory) = Unit {0}
 
--- each number of settings lies in its range
+-- each number of settings is in its range
 abbrev pub AreInRange : Settings → Type 0
 AreInRange s = (1 ≤ s.workers) × (s.workers ≤ 64) × (1 ≤ s.limit) × (s.limit ≤ 1099511627776)
 
--- each number of a job lies in its range
+-- each number of a job is in its range
 abbrev pub IsInRange : Job → Type 0
 IsInRange (job.Run query archive s) = AreInRange s
 IsInRange (job.Eval text archive s) = AreInRange s

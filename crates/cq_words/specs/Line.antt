@@ -1,11 +1,11 @@
--- The command line, as `clap` is told of it.
+-- The command line, as `clap` takes it.
 use Rattle.std.specs.Prelude.{ℕ, [], ◌∷◌, Some, true, codes}
 use Rattle.clap.specs.Walk.{Rule, Text}
 use Rattle.clap.specs.Simple.{App, new_rule, new_shape, with_rule}
 use Rattle.clap.specs.declared.builder.action.ArgAction.TheVariants.{SetTrue}
 use Rattle.clap.specs.declared.builder.value_parser.ValueParser.TheVariants as vp
 
--- a word that has to be there, by its place
+-- a required word, by its place
 abbrev pub required_word : Text → Rule
 required_word id = record (new_rule id) { required = true }
 

@@ -1,4 +1,4 @@
-//! What the command words may ask.
+//! The jobs that command words name.
 use cq_common::Bytes;
 
 /// The most workers.
@@ -13,45 +13,45 @@ pub(crate) const SEED_LIMIT: u64 = 4_294_967_295;
 /// The seed where none is given.
 pub(crate) const DEFAULT_SEED: u64 = 1;
 
-/// The most games that an archive is made of.
+/// The most games of a made archive.
 pub(crate) const GAMES_LIMIT: u64 = 100_000;
 
-/// How many games an archive is made of where no number is given.
+/// The number of games of a made archive where none is given.
 pub(crate) const DEFAULT_GAMES: u64 = 100;
 
-/// The greatest limit of an archive's bytes, which stands where no limit is given.
+/// The greatest limit of an archive's bytes, and the default.
 pub(crate) const BYTES_LIMIT: u64 = 1_099_511_627_776;
 
-/// What the words ask.
+/// The job that the words name.
 #[derive(Debug, PartialEq, Eq, Drop)]
 pub enum Job {
-    /// To answer the query in the file `query` over the archive in the file `archive`.
+    /// Searches the archive in the file `archive` for the query in the file `query`.
     Run {
         query: Bytes,
         archive: Bytes,
         settings: Settings,
     },
-    /// To answer the query `text` over the archive in the file `archive`.
+    /// Searches the archive in the file `archive` for the query `text`.
     Eval {
         text: Bytes,
         archive: Bytes,
         settings: Settings,
     },
-    /// To say whether the query in the file `query` is accepted.
+    /// Checks that the query in the file `query` is accepted.
     Check {
         query: Bytes,
     },
-    /// To write the flat form of the query in the file `query`.
+    /// Writes the flat form of the query in the file `query`.
     Explain {
         query: Bytes,
     },
-    /// To answer the query `text` over an archive that is made.
+    /// Searches a made archive for the query `text`.
     SelfRun {
         text: Bytes,
         settings: SelfRunSettings,
     },
-    /// To answer each query in the file of queries `queries` over one reading of the archive in the file `archive`, never up to the first
-    /// match alone.
+    /// Searches the archive in the file `archive`, in one reading, for each query in the file of queries `queries`. Never ends with the
+    /// first match.
     Many {
         queries: Bytes,
         archive: Bytes,
@@ -59,18 +59,18 @@ pub enum Job {
     },
 }
 
-/// How an archive is answered: by how many workers, up to how many bytes of it, and whether up to the first match alone.
+/// The settings of a search: the number of workers, the limit of bytes, and the end at the first match.
 #[derive(Clone, Copy, Debug, PartialEq, Eq)]
 pub struct Settings {
     /// From 1 to 64.
     pub workers: u32,
     /// From 1 to 2^40.
     pub limit: u64,
-    /// Whether the first game that matches is written alone, and nothing is read after the read that completes its batch.
+    /// True if the first game that matches is written alone. Nothing is read after the read that completes its batch.
     pub first: bool,
 }
 
-/// How an archive is made and answered: from which seed, of how many games, and by how many workers.
+/// The settings of a made archive and its search: the seed, the number of games, and the number of workers.
 #[derive(Clone, Copy, Debug, PartialEq, Eq)]
 pub struct SelfRunSettings {
     pub seed: u32,
@@ -80,6 +80,6 @@ pub struct SelfRunSettings {
     pub workers: u32,
 }
 
-/// The words ask for nothing that the program does.
+/// The words are no command of the program.
 #[derive(Clone, Copy, Debug, PartialEq, Eq)]
 pub struct WordsRefused;

@@ -1,5 +1,5 @@
-//! The command words: what they ask of the program, or that they are refused. `clap` reads them as one simple command, and the rules on
-//! the mode, the archive and the options that a mode allows stand here.
+//! The command words: the job that they name, or their refusal. `clap` reads them as one simple command. The rules on the mode, the archive
+//! and the options of each mode are here.
 #![tactic(auto)]
 
 mod job;

@@ -9,7 +9,7 @@ use clap::builder::ValueParser;
 use clap::{Arg, ArgAction, Command};
 use std::alloc::{AllocError, Global};
 
-// A word that has to be there, by its place.
+// A required word, by its place.
 fn required_word<'a>(alloc: Global, id: &'a str) -> Arg<'a>
     ensures rule { rule_of result ≡ required_word id.now }
     ensures local { result.global ≡ false }
@@ -35,7 +35,7 @@ fn flag<'a>(alloc: Global, id: &'a str) -> Arg<'a>
     Arg::new(alloc, id).long(id).action(ArgAction::SetTrue)
 }
 
-// A command with one argument more, where there was memory for it. A command is large: so nothing returns while the line is made.
+// Adds an argument to a command, unless out of memory. A command is large, so no function returns early while the line is made.
 fn with_arg<'a>(
     command: Result<Command<'a>, AllocError>,
     arg: Arg<'a>,

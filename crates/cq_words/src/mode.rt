@@ -2,7 +2,7 @@
 ghost use Rattle.std.specs.Prelude.{◌≡◌};
 ghost use Rattle.cq_words.specs.Jobs.{mode_of};
 
-// What the first word names.
+// The mode that the first word names.
 #[derive(Clone, Copy)]
 pub(crate) enum Mode {
     Run,
@@ -13,7 +13,7 @@ pub(crate) enum Mode {
     Many,
 }
 
-// The mode that a word names.
+// Returns the mode that a word names.
 pub(crate) fn mode_of(word: &str) -> Option<Mode>
     ensures { result ≡ mode_of word.now }
 {

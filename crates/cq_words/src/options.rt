@@ -1,4 +1,4 @@
-//! What the matches give of each argument.
+//! The values of each argument, from the matches.
 ghost use Rattle.std.specs.Prelude.{◌≡◌, ◌≤◌, IfSome, IfOk, option_map};
 ghost use Rattle.clap.specs.Words.{first_of, found_of, rows_of};
 ghost use Rattle.cq_words.specs.Jobs.{AreInRange, archive_in, has_more, is_given, is_set, many_settings_in, number_of, number_or, self_run_settings_in, settings_in, workers_in};
@@ -11,21 +11,21 @@ use clap::ArgMatches;
 use cq_common::{Bytes, NoMemory};
 use std::alloc::Global;
 
-// The text of an argument, where it is given.
+// Returns the text of an argument, if it is given.
 pub(crate) fn text_of<'a>(matches: &ArgMatches<'a>, id: &str) -> Option<&'a str>
     ensures { option_map (λ text. text.now) result ≡ first_of id.now (rows_of (found_of matches.now)) }
 {
     matches.get_str(id)
 }
 
-// Whether an argument is given.
+// Returns true if an argument is given.
 fn is_given(matches: &ArgMatches<'_>, id: &str) -> bool
     ensures { result ≡ is_given (rows_of (found_of matches.now)) id.now }
 {
     text_of(matches, id).is_some()
 }
 
-// Whether an option without a value is given.
+// Returns true if an option without a value is given.
 fn is_set(matches: &ArgMatches<'_>, id: &str) -> bool
     ensures { result ≡ is_set (rows_of (found_of matches.now)) id.now }
 {
@@ -35,7 +35,7 @@ fn is_set(matches: &ArgMatches<'_>, id: &str) -> bool
     }
 }
 
-// The number that a text writes; none where it writes no number from `least` to `most`.
+// Returns the number that a text spells, or none if it spells no number from `least` to `most`.
 fn number_of(text: &str, least: u64, most: u64) -> Option<u64>
     ensures value { result ≡ number_of least most text.now }
     ensures bounds { IfSome result (λ number. (least ≤ number) × (number ≤ most)) }
@@ -46,7 +46,7 @@ fn number_of(text: &str, least: u64, most: u64) -> Option<u64>
     }
 }
 
-// The number of an option, or its default; none where its text writes no number from `least` to `most`.
+// Returns the number of an option, or its default. Returns none if its text spells no number from `least` to `most`.
 fn number_in(matches: &ArgMatches<'_>, id: &str, least: u64, most: u64, default: u64) -> Option<u64>
     requires { (least ≤ default) × (default ≤ most) }
     ensures value { result ≡ number_or default least most (first_of id.now (rows_of (found_of matches.now))) }
@@ -58,7 +58,7 @@ fn number_in(matches: &ArgMatches<'_>, id: &str, least: u64, most: u64, default:
     }
 }
 
-// The number of workers.
+// Returns the number of workers.
 fn workers_in(matches: &ArgMatches<'_>) -> Option<u32>
     ensures value { result ≡ workers_in (rows_of (found_of matches.now)) }
     ensures bounds { IfSome result (λ number. (1 ≤ number) × (number ≤ 64)) }
@@ -66,7 +66,7 @@ fn workers_in(matches: &ArgMatches<'_>) -> Option<u32>
     Some(number_in(matches, "workers", 1, WORKERS_LIMIT, DEFAULT_WORKERS)? as u32)
 }
 
-// The settings of `run` and `eval`; none where an option is given that they don't take.
+// Returns the settings of `run` and `eval`, or none if an option is given that they don't take.
 pub(crate) fn settings_in(matches: &ArgMatches<'_>) -> Option<Settings>
     ensures value { result ≡ settings_in (rows_of (found_of matches.now)) }
     ensures bounds { IfSome result AreInRange }
@@ -84,7 +84,7 @@ pub(crate) fn settings_in(matches: &ArgMatches<'_>) -> Option<Settings>
     })
 }
 
-// The settings of `many`; none where an option is given that it doesn't take.
+// Returns the settings of `many`, or none if an option is given that it doesn't take.
 pub(crate) fn many_settings_in(matches: &ArgMatches<'_>) -> Option<Settings>
     ensures value { result ≡ many_settings_in (rows_of (found_of matches.now)) }
     ensures bounds { IfSome result AreInRange }
@@ -95,7 +95,7 @@ pub(crate) fn many_settings_in(matches: &ArgMatches<'_>) -> Option<Settings>
     settings_in(matches)
 }
 
-// The settings of `selfrun`; none where an archive is given, or an option that it doesn't take.
+// Returns the settings of `selfrun`, or none if an archive is given, or an option that it doesn't take.
 pub(crate) fn self_run_settings_in(matches: &ArgMatches<'_>) -> Option<SelfRunSettings>
     ensures value { result ≡ self_run_settings_in (rows_of (found_of matches.now)) }
     ensures bounds { IfSome result (λ m. (m.seed ≤ 4294967295) × (m.games ≤ 100000) × (1 ≤ m.workers) × (m.workers ≤ 64)) }
@@ -113,7 +113,7 @@ pub(crate) fn self_run_settings_in(matches: &ArgMatches<'_>) -> Option<SelfRunSe
     })
 }
 
-// Whether an archive or an option is given.
+// Returns true if an archive or an option is given.
 pub(crate) fn has_more(matches: &ArgMatches<'_>) -> bool
     ensures { result ≡ has_more (rows_of (found_of matches.now)) }
 {
@@ -125,7 +125,7 @@ pub(crate) fn has_more(matches: &ArgMatches<'_>) -> bool
         || is_set(matches, "first")
 }
 
-// The name of the archive, which is standard input where no word gives one.
+// Returns the name of the archive, which is standard input if no word gives one.
 pub(crate) fn archive_in(alloc: Global, matches: &ArgMatches<'_>) -> Result<Bytes, NoMemory>
     ensures { IfOk result (λ name. name ≡ archive_in (rows_of (found_of matches.now))) }
 {

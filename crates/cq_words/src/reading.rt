@@ -18,7 +18,7 @@ use clap::error::ErrorKind;
 use cq_common::{Bytes, Refusal};
 use std::alloc::Global;
 
-// The matches that `clap` gives of the words.
+// Returns the matches that `clap` finds in the words.
 fn matched<'a>(alloc: Global, words: &'a [String]) -> Result<ArgMatches<'a>, Refusal<WordsRefused>>
     ensures { MatchResult result (HasMatches (map string_bytes words.now)) (IsRefused (map string_bytes words.now)) }
 {
@@ -156,7 +156,7 @@ fn job_by(
     }
 }
 
-// The job of matches that keep the rules.
+// Returns the job of matches that keep the rules.
 fn job_in(alloc: Global, matches: &ArgMatches<'_>) -> Result<Job, Refusal<WordsRefused>>
     ensures value { Answers (job_in (rows_of (found_of matches.now))) result }
     ensures ranges { IfOk result IsInRange }
@@ -170,8 +170,12 @@ fn job_in(alloc: Global, matches: &ArgMatches<'_>) -> Result<Job, Refusal<WordsR
     }
 }
 
-/// What the words after the program's name ask. They are refused exactly where `clap` refuses them for another cause than memory, or
-/// gives matches that break a rule: on the mode, on the archive, or on the options that a mode allows.
+/// Returns the job of the words after the program's name.
+///
+/// # Errors
+///
+/// - `Fault`: `clap` finds a fault in the words, or its matches break a rule: on the mode, the archive, or the options of a mode.
+/// - `NoMemory`: out of memory.
 pub fn read_words(alloc: Global, words: &[String]) -> Result<Job, Refusal<WordsRefused>>
     ensures value { Answers (job_of_words (map string_bytes words.now)) result }
     ensures taken { takes line (map string_bytes words.now) ≡ true

@@ -24,7 +24,7 @@ const HEADED: &[u8] = b"query 1 bytes 108\n\
 
 const REPORT: &[u8] = b"games 1 matched 1 refused 0\n";
 
-// How a query is answered up to its first match. The contract of this call is a large one.
+// Returns the status of `answer` up to its first match. The contract of this call is a large one.
 fn status_of_answer<R: Threads + Sync>(
     rt: &R,
     alloc: Global,
@@ -41,7 +41,7 @@ fn status_of_answer<R: Threads + Sync>(
     answer(rt, alloc, query, settings, source, out, err, &OpenGate)
 }
 
-// How queries are answered at once. Its contract is as large.
+// Returns the status of `answer_many`. Its contract is as large.
 fn status_of_many<R: Threads + Sync>(
     rt: &R,
     alloc: Global,
@@ -60,7 +60,7 @@ fn status_of_many<R: Threads + Sync>(
     answer_many(rt, alloc, queries, settings, source, out, err, &OpenGate)
 }
 
-// How the one query is answered, by itself or as one of several.
+// Returns the status for the one query, by itself or as one of several.
 fn status_of_one<R: Threads + Sync>(
     rt: &R,
     alloc: Global,
@@ -79,7 +79,7 @@ fn status_of_one<R: Threads + Sync>(
     }
 }
 
-// Whether all is answered, with this text and the report of one match.
+// Returns true if the status is `Done`, with this text and the report of one match.
 fn is_done(status: Status, out: &SureSink, err: &SureSink, text: &[u8]) -> bool {
     status == Status::Done && out.taken() == Some(text) && err.taken() == Some(REPORT)
 }
@@ -113,7 +113,7 @@ fn is_answered_over<R: Threads + Sync>(
     is_answered_with(rt, alloc, queries, several, source, &mut out)
 }
 
-// Whether the answer of the one query over the game is as it should be.
+// Returns true if the output of the one query over the game is as it should be.
 fn is_answered<R: Threads + Sync>(
     rt: &R,
     alloc: Global,

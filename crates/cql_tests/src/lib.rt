@@ -1,6 +1,6 @@
-//! Tests of the crates of queries: what no program tells of trees and plans, a column beside the plain evaluator, workers at the gate, and
-//! the two calls that answer accepted queries over a source.
-//! A large value is dropped by a call, whose proof is shorter than that of the end of its scope.
+//! Tests of the crates of queries: trees and plans that no program tells, a column beside the plain evaluator, workers at the gate, and two
+//! calls. The calls are `answer` and `answer_many`, over a source. A large value is dropped by a call, whose proof is shorter than that of
+//! the end of its scope.
 #![tactic(auto)]
 
 #[cfg(test)]

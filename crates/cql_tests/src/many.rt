@@ -15,7 +15,7 @@ use std::alloc::Global;
 use std::process::Abort;
 use std::test::Fail;
 
-// The queries that some texts are.
+// Returns the queries that some texts spell.
 fn read_queries(alloc: Global, texts: &[&[u8]]) -> Result<Vec<TypedQuery>, Refusal<QueryFault>> {
     let mut queries = Vec::new(alloc);
     for text in texts {
@@ -24,7 +24,7 @@ fn read_queries(alloc: Global, texts: &[&[u8]]) -> Result<Vec<TypedQuery>, Refus
     Ok(queries)
 }
 
-// The plan of one to sixteen queries.
+// Returns the plan of one to sixteen queries.
 fn make_plan<R: Abort>(
     rt: &R,
     alloc: Global,
@@ -35,7 +35,7 @@ fn make_plan<R: Abort>(
     SharedPlan::make(alloc, queries)
 }
 
-// Their plan.
+// Returns the plan of the queries that some texts spell.
 fn plan_of<R: Abort>(
     rt: &R,
     alloc: Global,
@@ -49,7 +49,7 @@ const WTM: &[u8] = b"cql() wtm";
 
 const SIXTEEN: [&[u8]; 16] = [WTM; 16];
 
-/// Queries, and how many different parts they have. What they find is among the examples of `model/worked.py`.
+/// Queries, and the number of their different parts. Their matches are among the examples of `model/worked.py`.
 type PartsCase<'a> = (&'a [&'a [u8]], u32);
 
 static ROWS: [PartsCase<'static>; 7] = [
@@ -71,7 +71,7 @@ static ROWS: [PartsCase<'static>; 7] = [
     (&SIXTEEN, 1),
 ];
 
-// Whether a plan has the queries and the parts of a row.
+// Returns true if a plan has the queries and the parts of a row.
 fn has_parts(plan: &SharedPlan, row: &PartsCase<'_>) -> bool {
     plan.len() as usize == row.0.len() && plan.parts() == row.1
 }
@@ -84,7 +84,7 @@ fn expect<R: Abort>(rt: &R, alloc: Global, row: &PartsCase<'_>) -> Result<(), Fa
     Ok(())
 }
 
-// Queries without a part take no step, and those that have the one part `wtm`, however many they are, one a searched node.
+// Queries without a part take no step. Queries with the one part `wtm`, however many they are, take one step a searched node.
 #[tactic(auto, using(crate::proofs::Steps::wtm_cost))]
 fn a_part_costs_a_step_a_node()
     ensures none { (game : Game) → plan_cost game [] ≡ 0 }

@@ -44,7 +44,7 @@ fn found(alloc: Global, query: &FlatQuery, game: &Game) -> Result<Column, NoMemo
     counted::<Brand>(alloc, query, game, Blank::new(1))
 }
 
-// What the plain evaluator says at a node: whether an item holds, its squares, and the number of another filter.
+// Returns the values of the plain evaluator at a node: true if an item holds, its squares, and the number of another filter.
 fn said(
     alloc: Global,
     item: &Filter,
@@ -61,7 +61,7 @@ fn said(
     Ok((held, set, number))
 }
 
-// The value of the sort item at a node, where the column has one.
+// Returns the value of the sort item at a node, if the column has one.
 fn key_at(column: &Column, node: u32) -> Option<i64> {
     if column.sorts() == 0 {
         return None;
@@ -72,7 +72,7 @@ fn key_at(column: &Column, node: u32) -> Option<i64> {
     column.key(0, node)
 }
 
-// Whether the column says at a node what the plain evaluator does.
+// Returns true if the column has the values of the plain evaluator at a node.
 fn is_plain_at(
     alloc: Global,
     item: &Filter,
@@ -89,7 +89,7 @@ fn is_plain_at(
     Ok(column.hit(node) == held && held == (set != 0) && key_at(column, node) == number)
 }
 
-// Whether it does so at each node.
+// Returns true if it has them at each node.
 fn is_plain_everywhere(
     alloc: Global,
     item: &Filter,
@@ -123,7 +123,7 @@ fn is_plain_sorted(
     }
 }
 
-// Whether the column of a query is plain.
+// Returns true if the column of a query has the values of the plain evaluator.
 fn is_plain(alloc: Global, query: &FlatQuery, game: &Game) -> Result<bool, NoMemory> {
     let column = found(alloc, query, game)?;
     let items = query.items.as_slice();

@@ -1,4 +1,4 @@
-//! Queries from texts, and the form in which they are asked.
+//! Queries from texts, and the form in which they are evaluated.
 ghost use Rattle.std.specs.Prelude.{◌≡◌, false, IfOk};
 ghost use Rattle.cql_syntax.specs.TreeFaults.{has_any};
 ghost use Rattle.cql_syntax.specs.TreeOf.{query_tree};
@@ -13,7 +13,7 @@ use cql_syntax::{Chain, FlatQuery, Form, Query, QueryFault, TypedQuery};
 use std::alloc::Global;
 use std::test::Fail;
 
-// The query that a text is, before its kinds are looked at.
+// Returns the query that a text spells, before its kinds are checked.
 fn parsed(alloc: Global, text: &[u8]) -> Result<Query, Refusal<QueryFault>>
     ensures { IfOk result (λ query. has_any (query_tree query) ≡ false) }
 {
@@ -23,18 +23,18 @@ fn parsed(alloc: Global, text: &[u8]) -> Result<Query, Refusal<QueryFault>>
     parse(alloc, tokens.as_slice())
 }
 
-/// The query that a text is.
+/// Returns the query that a text spells.
 pub(crate) fn read_query(alloc: Global, text: &[u8]) -> Result<TypedQuery, Refusal<QueryFault>> {
     check(&parsed(alloc, text)?)
 }
 
-/// Its flat form.
+/// Returns its flat form.
 pub(crate) fn flat_query(alloc: Global, text: &[u8]) -> Result<FlatQuery, Refusal<QueryFault>> {
     let query = read_query(alloc, text)?;
     Ok(expand(alloc, &query)?)
 }
 
-/// Its plan.
+/// Returns its plan.
 pub(crate) fn plan_of(alloc: Global, text: &[u8]) -> Result<Plan, Refusal<QueryFault>> {
     let query = read_query(alloc, text)?;
     let plan = Plan::make(alloc, &query);
@@ -42,7 +42,7 @@ pub(crate) fn plan_of(alloc: Global, text: &[u8]) -> Result<Plan, Refusal<QueryF
     Ok(plan?)
 }
 
-/// A query, and how many parts its first item has in the form that is asked, where it is braces there.
+/// A query, and the number of parts of its first item in the form that is evaluated, if the item is braces there.
 type JoinedCase<'a> = (&'a [u8], usize);
 
 static JOINED: [JoinedCase<'static>; 3] = [
@@ -67,7 +67,7 @@ fn parts_joined(alloc: Global, flat: &FlatQuery) -> Result<usize, NoMemory> {
     Ok(parts_of_first(&joined))
 }
 
-// Whether the form in which a query is asked has so many parts first.
+// Returns true if the form in which a query is evaluated has so many parts first.
 fn has_parts(alloc: Global, query: &[u8], parts: usize) -> Result<bool, Fail> {
     let flat = flat_query(alloc, query)?;
     Ok(parts_joined(alloc, &flat)? == parts)

@@ -1,4 +1,4 @@
-//! A law that nothing else calls, and what threads may share of trees, by its type.
+//! A law that nothing else calls, and trees that threads may share, by their type.
 use cq_symmetry::{Family, Mapping, SquarePart};
 use cql_lexer::tokens_are_read;
 use cql_syntax::{Constituents, Filters, Terms};

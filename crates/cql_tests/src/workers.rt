@@ -11,20 +11,20 @@ use std::sync::atomic::{AtomicU32, Ordering};
 use std::test::Fail;
 use std::thread::Threads;
 
-/// How many games the batch has at which two workers are watched.
+/// The number of games of the batch at which two workers are watched.
 const WATCHED: u32 = 64;
 
-/// How often a call at the gate looks for the calls that it waits for.
+/// The most looks of a call at the gate for the calls that it waits for.
 const MOST_LOOKS: u32 = 1_000_000_000;
 
-// A game that has this number in its comment.
+// Adds a game that has this number in its comment.
 fn push_game(archive: &mut Bytes, number: u32) -> Result<(), NoMemory> {
     archive.push_all(b"{")?;
     archive.push_number(i64::from(number))?;
     archive.push_all(b"} *\n")
 }
 
-// Its export, marked at the root.
+// Adds its export, marked at the root.
 fn push_export(text: &mut Bytes, number: u32) -> Result<(), NoMemory> {
     text.push_all(b"[Event \"?\"]\n[Site \"?\"]\n[Date \"????.??.??\"]\n[Round \"?\"]\n")?;
     text.push_all(b"[White \"?\"]\n[Black \"?\"]\n[Result \"*\"]\n\n{")?;
@@ -32,7 +32,7 @@ fn push_export(text: &mut Bytes, number: u32) -> Result<(), NoMemory> {
     text.push_all(b"} {CQL} *\n\n")
 }
 
-// An archive of the games.
+// Returns an archive of the games.
 fn archive_of(alloc: Global) -> Result<Bytes, NoMemory> {
     let mut archive = Bytes::new(alloc);
     for number in 0..WATCHED {
@@ -45,20 +45,20 @@ fn archive_of(alloc: Global) -> Result<Bytes, NoMemory> {
 #[derive(Drop)]
 struct Watch {
     exports: Vec<Bytes>,
-    /// How often each game was entered or left.
+    /// The number of times that each game was entered or left.
     calls: Vec<AtomicU32>,
-    /// How many games each of the two workers left.
+    /// The number of games that each of the two workers left.
     by_worker: Vec<AtomicU32>,
     enters: AtomicU32,
     leaves: AtomicU32,
-    /// How many calls were not as they should be.
+    /// The number of calls that were not as they should be.
     wrong: AtomicU32,
-    /// Whether the first call of `enter` waits, until all other games are left. Else that of `leave` does, until the other worker
+    /// True if the first call of `enter` waits until all other games are left. Else the first call of `leave` waits until the other worker
     /// has left a game.
     at_enter: bool,
 }
 
-// Their exports.
+// Returns their exports.
 fn exports_of(alloc: Global) -> Result<Vec<Bytes>, NoMemory> {
     let mut exports = Vec::new(alloc);
     for number in 0..WATCHED {
@@ -69,7 +69,7 @@ fn exports_of(alloc: Global) -> Result<Vec<Bytes>, NoMemory> {
     Ok(exports)
 }
 
-// So many counts of nothing.
+// Returns so many counts of zero.
 fn counts(alloc: Global, places: u32) -> Result<Vec<AtomicU32>, NoMemory> {
     let mut counts = Vec::new(alloc);
     for _ in 0..places {
@@ -78,7 +78,7 @@ fn counts(alloc: Global, places: u32) -> Result<Vec<AtomicU32>, NoMemory> {
     Ok(counts)
 }
 
-// One more at a place: how many there were; none where there is no such place.
+// Adds one to the count at a place, and returns the count before it; none if there is no such place.
 fn count_at(counts: &[AtomicU32], place: u64) -> Option<u32> {
     match counts.get(place as usize) {
         Some(count) => Some(count.fetch_add(1, Ordering::Relaxed)),
@@ -86,7 +86,7 @@ fn count_at(counts: &[AtomicU32], place: u64) -> Option<u32> {
     }
 }
 
-// Looks until a count is so high; whether it came to be so.
+// Looks until a count is so high. Returns true if it came to be so.
 fn comes_to(count: &AtomicU32, high: u32) -> bool {
     for _look in 0..MOST_LOOKS {
         if count.load(Ordering::Relaxed) >= high {
@@ -118,7 +118,7 @@ impl Watch {
         }
     }
 
-    // Whether this is the export of a game.
+    // Returns true if this is the export of a game.
     fn is_export(&self, shard: u64, text: &[u8]) -> bool {
         match self.exports.get(shard as usize) {
             Some(export) => export.as_slice() == text,
@@ -126,7 +126,7 @@ impl Watch {
         }
     }
 
-    // Whether the other worker came to leave a game.
+    // Returns true if the other worker came to leave a game.
     fn meets_other(&self, worker: u64) -> bool {
         match self.by_worker.get((worker ^ 1) as usize) {
             Some(other) => comes_to(other, 1),
@@ -134,7 +134,7 @@ impl Watch {
         }
     }
 
-    // Whether there were as many calls of both kinds as games, none of which was wrong.
+    // Returns true if there were as many calls of both kinds as games, and none was wrong.
     fn has_seen_all(&self) -> bool {
         let enters = self.enters.load(Ordering::Relaxed);
         let leaves = self.leaves.load(Ordering::Relaxed);
@@ -163,7 +163,7 @@ impl Gate for Watch {
     }
 }
 
-// The batch of all games of an archive.
+// Returns the batch of all games of an archive.
 fn batch_of<R: Abort>(rt: &R, alloc: Global, archive: &[u8]) -> Result<Batch, NoMemory> {
     assert!(rt; archive.len() < 1 << 20);
     let spans = cut_whole(alloc, archive)?;
@@ -171,7 +171,7 @@ fn batch_of<R: Abort>(rt: &R, alloc: Global, archive: &[u8]) -> Result<Batch, No
     Batch::of(alloc, archive, spans.as_slice(), 0)
 }
 
-// How many answers a batch has. The contract of this call is a large one, so that it is made here alone.
+// Returns the number of answers of a batch. The contract of this call is a large one, so that it is made here alone.
 fn count_answers<R: Threads + Sync>(
     rt: &R,
     alloc: Global,
@@ -182,13 +182,13 @@ fn count_answers<R: Threads + Sync>(
     Ok(run_batch(rt, alloc, plan, batch, 2, gate)?.len())
 }
 
-// The batch of the games at which two workers are watched.
+// Returns the batch of the games at which two workers are watched.
 fn watched_batch<R: Abort>(rt: &R, alloc: Global) -> Result<Batch, NoMemory> {
     let archive = archive_of(alloc)?;
     batch_of(rt, alloc, archive.as_slice())
 }
 
-// Whether two workers enter and leave each game of a batch once.
+// Returns true if two workers enter and leave each game of a batch once.
 fn are_both_seen<R: Threads + Sync>(
     rt: &R,
     alloc: Global,
@@ -201,7 +201,7 @@ fn are_both_seen<R: Threads + Sync>(
     Ok(count == 64 && watch.has_seen_all())
 }
 
-// Asks that two workers enter and leave each game once.
+// Fails unless two workers enter and leave each game once.
 fn expect_both<R: Threads + Sync + Abort>(
     rt: &R,
     alloc: Global,

@@ -1,4 +1,4 @@
--- The games of a part of a batch, and what is written of them.
+-- The games of a part of a batch, and their texts.
 use Rattle.std.proofs.Common.{◌≡◌, ℕ, suc, ◌+◌, ◌<◌, ◌≤◌, List, [], ◌∷◌, ◌++◌, length, length-append, take, drop, append-nil, ◌^◌, Some, refl, ap, sym, ◌∙◌, subst, arith}
 use Rattle.std.specs.Prelude.{slice_get}
 use Rattle.std.proofs.lemmas.List.{get_or-drop, get_or-take, length-drop, length-take, length-take-le, take_all}
@@ -33,7 +33,7 @@ in_part games first number game at less =
     slice_get-get_or (take 128 (drop first games)) number game less
     ∙ ap Some (get_or-take 128 (drop first games) number game few ∙ get_or-drop first games number game ∙ get_or_from_slice_get games (first + number) game game at)
 
--- what is written of a game of a batch, as one of a part
+-- the texts of a game of a batch, as one of a part
 pub of_part : (mark : List ℕ) (batch : Batch) (first number : ℕ) (texts : Texts) → number < size (part_at mark batch first)
     → ((game : KeptGame) × (slice_get (games_of batch) (first + number) ≡ Some game)
     × AreTextsOf mark (number_of batch + (first + number) + 1) (game ∷ []) texts)
@@ -42,7 +42,7 @@ pub of_part : (mark : List ℕ) (batch : Batch) (first number : ℕ) (texts : Te
 of_part mark batch first number texts less (game, at, are) =
     (game, in_part (games_of batch) first number game at less, subst (λ k. AreTextsOf mark k (game ∷ []) texts) (omega arith) are)
 
--- ---- what is written of all of them
+-- ---- the texts of all of them
 
 abbrev joined : List Texts → Texts
 joined texts = record { lines = all_lines texts; faults = all_faults texts; faulty = all_faulty texts }
@@ -92,7 +92,7 @@ few_faulty_texts mark batch first places placed =
     let n = length-take 128 (drop first (games_of batch)) in
     omega (arith, few, n)
 
--- ---- what is written of a part
+-- ---- the texts of a part
 
 unfailed : (s : Sinks) → NoWriteFailed s s
 unfailed s = record { out = refl; err = refl }
@@ -122,7 +122,7 @@ part_written part places was now faults count placed writes unfailed is counts =
   unfailed = unfailed;
 }
 
--- fronts of the lines and of those of the faulty games
+-- prefixes of the lines and of those of the faulty games
 pub fronts_written : (part : Part) (places : List Texts) (was now : Sinks) (j k : ℕ) → ArePlaced part places
     → Grew was.out.taken now.out.taken (take j (all_lines places)) → Grew was.err.taken now.err.taken (take k (all_faults places)) → HasWrittenFront part was now
 fronts_written part places was now j k placed lines_ faults_ =
@@ -155,7 +155,7 @@ front_of_faults part places out now_out err now_err faults placed lines_ is (k, 
     (subst (Grew out.taken now_out.taken) (sym (take_all n (all_lines places) (omega arith))) lines_)
     (subst (λ l. Grew err.taken now_err.taken (take k l)) is grew)
 
--- ---- how many are faulty
+-- ---- the number of faulty games
 
 -- the games before a batch, and its own up to a part, were written
 pub record UpToPart : Type 0 where

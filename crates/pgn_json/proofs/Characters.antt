@@ -10,7 +10,7 @@ use lib.Utf8.{encode, encodes}
 use Rattle.pgn_json.specs.Internal.Bytes.{byte_text}
 use Rattle.pgn_json.specs.Strings.{character_text, characters, escape, is_escaped}
 
--- what is not ASCII needs no escape
+-- a character that is not ASCII needs no escape
 high_stays : (c : ℕ) → 128 ≤ c → is_escaped c ≡ false
 high_stays c high = rw (le-ltb c 32 (omega arith), ne_eqb c 34 (λ e. omega arith), ne_eqb c 92 (λ e. omega arith)) refl
 
@@ -19,7 +19,7 @@ high_bytes [] high = refl
 high_bytes (b ∷ bytes) high =
     ap₂ (λ (x y : List ℕ). x ++ y) (ap (λ e. if e then escape b else b ∷ []) (high_stays b (high 0 (omega arith)))) (high_bytes bytes (λ k below. high (suc k) (omega (arith, below))))
 
--- the bytes of a character stand as it does
+-- the bytes of a character are written as the character is
 one_character : (c : ℕ) → flat_map byte_text (encode c) ≡ character_text c
 one_character c = elim (cases_lt c 128) [
   | inl low ↦ rw (encode_ascii c low, append-nil (byte_text c)) refl
@@ -35,7 +35,7 @@ all_characters : (cs : List ℕ) → flat_map byte_text (encodes cs) ≡ flat_ma
 all_characters [] = refl
 all_characters (c ∷ cs) = flat_map-append byte_text (encode c) (encodes cs) ∙ ap₂ (λ (x y : List ℕ). x ++ y) (one_character c) (all_characters cs)
 
--- UTF-8 stands as its characters do
+-- UTF-8 is written as its characters are
 pub spelled : (text : List ℕ) → IsUtf8 text → flat_map byte_text text ≡ flat_map character_text (characters text)
 unfolding characters
 spelled text u =
@@ -47,7 +47,7 @@ pub latin : (text : List ℕ) → (IsUtf8 text → ⊥) → characters text ≡ 
 unfolding characters
 latin text not_so = ap (λ b. if b then chars text else text) (false_from_ne_true (is_utf8 text) (λ is. not_so (IsUtf8-from_is_utf8 text is)))
 
--- a text of which nothing is escaped stands as it is
+-- a text without an escape is written as it is
 pub unescaped : (text : List ℕ) → list_any is_escaped text ≡ false → flat_map byte_text text ≡ text
 unescaped [] none = refl
 unescaped (b ∷ text) none =

@@ -1,4 +1,4 @@
--- Games of an archive, and what is written of them, one after the other.
+-- Games of an archive, and their texts, one after the other.
 use Rattle.std.proofs.Common.{◌≡◌, ℕ, ◌+◌, ◌≤◌, List, [], ◌∷◌, ◌++◌, Bool, cond, length, append-nil, map, take, Some, refl, ap, ap₂, sym, ◌∙◌, subst, arith}
 use Rattle.std.specs.Prelude.{◌↔◌, slice_get, Result, Ok, Err}
 use Rattle.std.proofs.lemmas.Grind.{flat_map-append}

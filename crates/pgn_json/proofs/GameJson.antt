@@ -115,7 +115,7 @@ inner nodes =
     let at = other_at nodes i low in
     (omega (arith, at), omega (arith, at, low))))
 
--- a game, whose texts are of bytes if it says so
+-- a game; the condition is that its texts are of bytes
 pub game_written : (mark : List ℕ) (ordinal byte : ℕ) (g : Game) → HasValidNodes g.nodes → ordinal < 2 ^ 64 → byte < 2 ^ 64
     → Writes (HasByteTexts g) (json_of mark ordinal byte g) (game_text mark ordinal byte g)
 unfolding json_of game_text

@@ -1,4 +1,4 @@
--- What a text is read as, where it writes a number of a range.
+-- The value of a text that spells a number of a range.
 use Rattle.std.proofs.Common.{ℕ, List, Bool, true, false, Some, None, ◌≡◌, ◌≤◌, ◌<◌, ◌^◌, refl, ap, sym}
 use Rattle.std.specs.Prelude.{if◌then◌else◌}
 use Rattle.std.specs.Str.Parse.{IsNumeral, digits_value, without_leading_plus}
@@ -20,7 +20,7 @@ none_by : (b : Bool) (m : ℕ) → (b ≡ true → ⊥) → None ≡ (if b then 
 none_by true m never = absurd (never refl)
 none_by false m never = refl
 
--- a number that was read and lies in the range
+-- a number that was read and is in the range
 pub number_read : (least most : ℕ) (text : List ℕ) (n : ℕ) → IsNumber text × (n ≡ digits_value 10 (without_leading_plus text))
     → least ≤ n → n ≤ most → Some n ≡ number_of least most text
 number_read least most text n read low high =

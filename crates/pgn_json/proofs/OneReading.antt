@@ -5,7 +5,7 @@ use Rattle.std.specs.Char.{IsScalar, digit_value}
 use lib.Utf8.{scalar_cases}
 use Rattle.pgn_json.specs.Grammar.{is_unescaped, letter_meaning, IsCodeUnit, Spells, unescaped, by_letter, by_code_unit, by_surrogates, SpellsAll, IsString}
 
--- what does not begin with a backslash is no escape
+-- a text that does not begin with a backslash is no escape
 no_backslash : (c : ℕ) (r s : List ℕ) → is_unescaped c ≡ true → c ∷ r ≡ 92 ∷ s → ⊥
 no_backslash c r s plain same = let e : false ≡ true = sym (ap is_unescaped (ap (λ l. get_or l 0 0) same)) ∙ plain in cc
 

@@ -14,7 +14,7 @@ use Rattle.pgn_json.proofs.OneReading.{one_string}
 abbrev NoDigit : List ℕ → Type 0
 NoDigit text = digit_value (get_or text 0 0) < 10 → ⊥
 
--- which kind of value begins with a character
+-- the kind of value that begins with a character
 abbrev kind : ℕ → ℕ
 kind c =
     if nat_lt (digit_value c) 10 then 0 else if c == 34 then 1 else if c == 91 then 2 else if c == 123 then 3 else if c == 116 then 4 else 5
@@ -57,7 +57,7 @@ one_integer : (n m : ℕ) (f g r s : List ℕ) → IsInteger n f → IsInteger m
 one_integer n m f g r s a b i j same =
     let one = runs f g r s a.digits.1 b.digits.1 i j same in (sym a.value ∙ ap (digits_value 10) one.0 ∙ b.value, one.1)
 
--- what stands after values or members: neither another nor a comma
+-- the text after values or members: neither another nor a comma
 record Ends (text : List ℕ) : Type 0 where
   no_digit : NoDigit text
   no_value : kind (get_or text 0 0) ≡ 5

@@ -1,4 +1,4 @@
--- What a desk tells of an archive that was opened, or could not be.
+-- The telling of a desk on an archive that was opened, or could not be.
 use Rattle.std.proofs.Common.{◌≡◌, ℕ, List, Option, Some, None, ap, subst, ◌∙◌}
 use Rattle.std.specs.Option.{option_map}
 use Rattle.cq_outside.specs.DeskFiles.{DeskFiles, Opens, bytes_of}

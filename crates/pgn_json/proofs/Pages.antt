@@ -16,7 +16,7 @@ use Rattle.pgn_json.specs.Writing.{SinkView}
 use Rattle.pgn_json.specs.declared.texts.Texts.{Texts}
 use Rattle.pgn_json.proofs.Grown.{grew_none, grew_on, rose_on}
 
--- ---- what waits
+-- ---- the waiting bytes
 
 pub nothing_waits : (s : SinkView) → WaitsOf [] s s []
 nothing_waits s = record { written = []; all = refl; grew = grew_none s.taken; same = refl }
@@ -64,7 +64,7 @@ page_starved text more waiting was now waits =
       waits.same,
     )
 
--- ---- a front of a front
+-- ---- a prefix of a prefix
 
 front_of : (k : ℕ) (xs ys : List ℕ) → take (min k (length xs)) (xs ++ ys) ≡ take k xs
 front_of k xs ys = take-append-le (min k (length xs)) xs ys (min-le_right k (length xs)) ∙ take_min k xs

@@ -1,4 +1,4 @@
--- What workers make of the games of a part of a batch, put in its place.
+-- The texts that workers make of the games of a part of a batch, put in their places.
 use Rattle.std.proofs.Common.{◌==◌, ◌≡◌, ◌≢◌, ◌⊎◌, ℕ, ◌+◌, ◌<◌, true, false, List, [], ◌∷◌, ◌++◌, All, length, Some, ap, sym, ◌∙◌, subst, inl, inr, arith}
 use Rattle.std.specs.Prelude.{slice_get, set}
 use Rattle.std.proofs.lemmas.Bool.{cases_Bool}
@@ -27,7 +27,7 @@ texts_at part number made texts one number_is same = record {
 
 -- ---- each at its place
 
--- what is still to be placed, and what is placed
+-- the texts that are still to be placed, and those that are placed
 pub record ArePlacing (part : Part) (made : List GameTexts) (places : List Texts) : Type 0 where
   pub each : All (IsOfSome (IsTextsAt part)) made
   pub count : length places ≡ size part
@@ -56,7 +56,7 @@ last_within part was now one places more placing =
     let count = placing.count in
     omega (arith, within, same, count)
 
--- what stands at a place that was set, and at another one
+-- the value at a place that was set, and at another one
 set_here : {X : Type 0} (xs : List X) (i : ℕ) (x : X) → i < length xs → slice_get (set xs i x) i ≡ Some x
 set_here xs i x less =
     let long = length-set xs i x in

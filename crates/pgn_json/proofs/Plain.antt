@@ -1,4 +1,4 @@
--- Texts of characters that stand for themselves in a string.
+-- Texts of characters that need no escape in a string.
 use Rattle.std.proofs.Common.{◌≡◌, ℕ, zero, suc, ◌+◌, ◌/◌, ◌%◌, ◌^◌, ◌<◌, ◌≤◌, ◌&&◌, ◌||◌, not, nat_lt, Bool, true, false, List, [], ◌∷◌, ◌++◌, length, take, drop, Option, Some, None, refl, ap, ap₂, ◌∙◌, sym, arith}
 use Rattle.std.proofs.lemmas.Bool.{eqb-true, ltb-true, lt-ltb, le-ltb, ne_eqb}
 use Rattle.std.proofs.lemmas.Fmt.{decimal_by_steps}

@@ -1,4 +1,4 @@
--- Moves are written in characters that stand for themselves in a string.
+-- Moves are written in characters that need no escape in a string.
 use Rattle.std.proofs.Common.{ℕ, ◌+◌, ◌<◌, Bool, true, false, List, [], ◌∷◌, ◌++◌, Option, Some, None, refl, arith, codes}
 use Rattle.std.specs.Prelude.{if◌then◌else◌, IfSome}
 use Rattle.cq_geometry.specs.Squares.{file_of, rank_of}

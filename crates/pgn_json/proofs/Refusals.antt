@@ -1,4 +1,4 @@
--- What `clap` says of the words.
+-- The words of which `clap` returns an error.
 use Rattle.std.proofs.Common.{◌≡◌, List, [], ◌∷◌, true, sym, subst, ap, inl, inr}
 use Rattle.clap.specs.Words.{App, HasKind, HasMatchesOf, Kinds, Text, fault_of, found_of, is_simple, is_simple_and_free, kind_of, matches_of, rows_of}
 use Rattle.clap.specs.declared.error.Error.{Error}

@@ -30,7 +30,7 @@ use Rattle.pgn_json.proofs.ValueParts.{SameNotes, after_one, characters_in, map_
 use Rattle.pgn_json.proofs.SameBoards.{fen_same}
 use Rattle.pgn_json.proofs.Steps.{has_position, led_to, parent_low}
 
--- what is told of a node
+-- the members of a node
 record SameTold (nodes others : List Node) (k : ℕ) : Type 0 where
   parent : parent_of (node_at nodes k) ≡ parent_of (node_at others k)
   san :
@@ -60,7 +60,7 @@ same_told mark mark' nodes nodes' k same =
           (fen_size (is_marked mark' o) _ 8 (λ e. absurd (omega (arith, e))) (λ e. absurd (omega (arith, e)))) rest).0;
     }
 
--- what is told of a game
+-- the members of a game
 record SameValue (mark mark' : List ℕ) (ordinal ordinal' byte byte' : ℕ) (g h : Game) : Type 0 where
   counted : ordinal ≡ ordinal'
   begins : byte ≡ byte'

@@ -1,4 +1,4 @@
--- The parts of a JSON value, and those that stand only in some.
+-- The parts of a JSON value, and those that are only in some.
 use Rattle.std.proofs.Common.{◌≡◌, ℕ, Bool, true, false, List, [], ◌∷◌, ◌++◌, length, map, drop, get_or, refl, ap, ◌∙◌, sym, arith, append_assoc, codes}
 use Rattle.std.specs.Prelude.{if◌then◌else◌}
 use Rattle.cq_position.specs.Games.{Node}
@@ -54,7 +54,7 @@ members_back (m ∷ ms) = ap (λ l. m ∷ l) (members_back ms)
 abbrev pub member_at : List (List ℕ × Value) → ℕ → List ℕ × Value
 member_at ms i = get_or ms i ([], truth)
 
--- how long the first name is
+-- the length of the first name
 abbrev pub size : List (List ℕ × Value) → ℕ
 size ms = length (member_at ms 0).0
 
@@ -78,7 +78,7 @@ one_array name (v ∷ vs) (w ∷ ws) ms ns i j same = (
   ap (drop 1) same,
 )
 
--- what stands after a member that may be there
+-- the text after a member that may be there
 pub after_one : (b c : Bool) (x y : List ℕ × Value) (ms ns : List (List ℕ × Value)) → (size ms ≡ length y.0 → ⊥) → (size ns ≡ length x.0 → ⊥)
     → (if b then x ∷ [] else []) ++ ms ≡ (if c then y ∷ [] else []) ++ ns → ms ≡ ns
 after_one true true x y ms ns i j same = ap (drop 1) same
@@ -95,12 +95,12 @@ numbers_back : (ns : List ℕ) → map number_in (map number ns) ≡ ns
 numbers_back [] = refl
 numbers_back (n ∷ ns) = ap (λ l. n ∷ l) (numbers_back ns)
 
--- nodes of which the same is noted
+-- nodes with the same notes
 pub record SameNotes (a b : Node) : Type 0 where
   pub nags : a.nags ≡ b.nags
   pub comments : map characters a.comments ≡ map characters b.comments
 
--- the notes, and what stands after them, whose first name is another
+-- the notes, and the text after them, whose first name is another
 pub same_notes : (a b : Node) (ms ns : List (List ℕ × Value)) → (size ms ≡ 4 → ⊥) → (size ms ≡ 8 → ⊥) → (size ns ≡ 4 → ⊥) → (size ns ≡ 8 → ⊥)
     → note_members a ++ ms ≡ note_members b ++ ns → SameNotes a b × (ms ≡ ns)
 same_notes a b ms ns no_nags no_comments no_nags' no_comments' same =

@@ -1,4 +1,4 @@
--- What is written of batches, one after the other, and what it comes to.
+-- The texts of batches, one after the other, and their sum.
 use Rattle.std.proofs.Common.{◌≡◌, ◌⊎◌, ℕ, ◌+◌, ◌-◌, ◌<◌, ◌≤◌, List, [], ◌++◌, length, length-append, append-nil, append_assoc, map, take, drop, Option, None, Some, refl, ap, ap₂, sym, ◌∙◌, subst, inl, inr, Err, arith}
 use Rattle.std.proofs.Math.Seq.{take-add}
 use Rattle.std.proofs.lemmas.List.{length-take, length-take-le, take-append-drop, take_all}
@@ -113,7 +113,7 @@ batch_more at now more sum written adds =
       texts = written.are;
     }) written.writes written.unfailed (adds ∙ ap (λ n. at.count + n) written.count_is))
 
--- a front of a part
+-- a prefix of a part
 split_at : (batch : KeptGames) (first : ℕ) (games rest : KeptGames) → take 128 (drop first batch) ≡ games ++ rest
     → batch ≡ take first batch ++ (games ++ (rest ++ drop 128 (drop first batch)))
 split_at batch first games rest is =
@@ -181,7 +181,7 @@ first_by decide laws limit was now front gs es (inl (rest, split)) are =
     inl (entries_of decide front (closed front) gs (rest ++ left_over (closed_games front)) es (closed_are laws front gs rest split) are)
 first_by decide laws limit was now front gs es (inr (all, (rest, split))) are = inr (all.within, all.at_end, entries_of decide front (cut front) gs rest es split are)
 
--- so many games stand in the whole batches of all bytes but those of the last read
+-- so many games are in the whole batches of all bytes but those of the last read
 needed_by : Laws → (early : List ℕ) (games : KeptGames) (es : List Entry) → AreLeadingGames (whole early) games → AreKept 1 games es → length (whole_spans early) ≤ length es
 needed_by laws early games es (rest, split) are =
     let count = kept_count 1 games es are in
@@ -190,7 +190,7 @@ needed_by laws early games es (rest, split) are =
     let most = length-take (length (whole early)) (closed early) in
     omega (arith, count, sizes, parts, most)
 
--- ---- how the reading ends
+-- ---- the end of the reading
 
 -- the first games of those that were given
 first_part : {A : Type 0} (front : List ℕ) (games batch : KeptGames) → AreLeadingGames (games ++ batch) (whole front) ⊎ (A × AreLeadingGames (games ++ batch) (cut_games front))

@@ -1,6 +1,6 @@
--- JSON values (RFC 8259, section 3) of the kinds that the value of a game has: true, numbers without sign, fraction and exponent, strings
--- of characters, arrays, and objects, whose members have names. Members stand in an order, and nothing asks that their names differ; those
--- of a game's value do.
+-- JSON values (RFC 8259, section 3) of the kinds that the value of a game has: true, numbers, strings of characters, arrays, and objects.
+-- Numbers have no sign, fraction or exponent. The members of an object have names and an order. Names may be equal, but those of a game's
+-- value differ.
 use Rattle.std.specs.Prelude.{ℕ, List, [], ◌∷◌}
 
 mutual

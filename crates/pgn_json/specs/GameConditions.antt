@@ -1,9 +1,9 @@
--- What the laws of lines ask of a game.
+-- The conditions of the laws of lines on a game.
 use Rattle.std.specs.Prelude.{ℕ, ◌<◌, List, All}
 use Rattle.cq_position.specs.Games.{Node, Game, IsTree, HaveNotes, node_at}
 use Rattle.cq_position.specs.Position.{IsPosition}
 
--- what the type `Game` keeps of its nodes
+-- the invariant of the type `Game` on its nodes
 pub record HasValidNodes (nodes : List Node) : Type 0 where
   pub tree : IsTree nodes
   pub notes : HaveNotes nodes

@@ -1,4 +1,4 @@
--- What two games with the same line have in common: all but the spelling of their texts.
+-- The common parts of two games with the same line: all but the spelling of their texts.
 use Rattle.std.specs.Prelude.{ℕ, List, map}
 use Rattle.cq_position.specs.Games.{Node, Game}
 use Rattle.pgn_json.specs.Strings.{characters}

@@ -1,4 +1,4 @@
--- The JSON value of a game: what its line is read as.
+-- The JSON value of a game, as which its line is read.
 use Rattle.std.specs.Prelude.{ℕ, List, [], ◌∷◌, ◌++◌, codes, drop, map, if◌then◌else◌}
 use Rattle.cq_position.specs.FenText.{fen_of}
 use Rattle.cq_position.specs.Games.{Node, Game, node_at, numbers}
@@ -40,7 +40,7 @@ node_value mark nodes k = let n = node_at nodes k in object_of (
     ∷ (codes "san", string (san_text (node_at nodes (parent_of n)).position (move_of n)))
     ∷ (note_members n ++ fen_members mark n))
 
--- that the start is marked
+-- the member of a marked start
 abbrev pub mark_members : List ℕ → Node → List (List ℕ × Value)
 mark_members mark n = if is_marked mark n then (codes "marked", truth) ∷ [] else []
 

@@ -1,4 +1,4 @@
--- How a text spells a JSON value (RFC 8259, without white space). A text is the codes of its characters.
+-- The texts that spell a JSON value (RFC 8259, without white space). A text is the codes of its characters.
 use Rattle.std.specs.Prelude.{◌≡◌, ℕ, ◌+◌, ◌-◌, ◌*◌, ◌<◌, ◌≤◌, ◌==◌, ◌&&◌, not, nat_lt, Bool, true, List, [], ◌∷◌, ◌++◌, codes, get_or, length, Option, Some, None, if◌then◌else◌}
 use Rattle.std.specs.Char.{IsScalar, digit_value}
 use Rattle.std.specs.Str.{all_scalars, encode_utf8_all}
@@ -8,11 +8,11 @@ use Rattle.pgn_json.specs.Data.{Value, truth, number, string, array, object, Val
 -- Strings (section 7).
 
 -- %x20-21 / %x23-5B / %x5D-10FFFF: all but the control characters, the quote and the backslash
--- (that codes are those of characters is asked of the whole text)
+-- (the whole text has a condition that codes are those of characters)
 abbrev pub is_unescaped : ℕ → Bool
 is_unescaped c = not (nat_lt c 32) && (not (c == 34) && not (c == 92))
 
--- the character that a letter after a backslash stands for: a quote, a backslash, a slash, b, f, n, r or t
+-- the character that a letter after a backslash means: a quote, a backslash, a slash, b, f, n, r or t
 abbrev pub letter_meaning : ℕ → Option ℕ
 letter_meaning letter =
     if letter == 34 then Some 34 else if letter == 92 then Some 92 else if letter == 47 then Some 47 else if letter == 98 then Some 8
@@ -30,7 +30,7 @@ pub record IsCodeUnit (n : ℕ) (text : List ℕ) : Type 0 where
   pub number : n ≡ 4096 * digit_value first + 256 * digit_value second + 16 * digit_value third + digit_value fourth
 
 -- A text that spells a character: itself; a backslash and a letter; its code unit; or, from U+10000 on, those of its two surrogates. A
--- surrogate that stands alone, which the standard's grammar lets pass though it is no character, spells none.
+-- surrogate alone is in the standard's grammar, though it is no character; here it spells none.
 pub data Spells (c : ℕ) (text : List ℕ) : Type 0 where
   unescaped : is_unescaped c ≡ true → text ≡ c ∷ [] → Spells c text
   by_letter : (letter : ℕ) → letter_meaning letter ≡ Some c → text ≡ 92 ∷ letter ∷ [] → Spells c text
@@ -60,7 +60,7 @@ pub record IsInteger (n : ℕ) (text : List ℕ) : Type 0 where
   pub no_zero_first : get_or text 0 0 ≡ 48 → length text ≡ 1
   pub value : digits_value 10 text ≡ n
 
--- Values (sections 3 to 5): an array is its values between brackets, and an object its members between braces, with a comma between two; a
+-- Values (sections 3 to 5). An array is its values between brackets, and an object its members between braces, with a comma between two. A
 -- member is a string, its name, with a colon, and a value.
 unfoldable mutual
   pub IsValue : Value → List ℕ → Type 0

@@ -1,4 +1,4 @@
--- What the command words ask.
+-- The job that the command words name.
 use Rattle.std.specs.Prelude.{◌≡◌, ◌≤◌, ℕ, List, [], Option, Some, None, Result, Ok, Err, codes, if◌then◌else◌}
 use Rattle.std.specs.Prelude.{option_map, option_and_then, unwrap_or}
 use Rattle.std.specs.Str.Parse.{digits_value, without_leading_plus}
@@ -14,7 +14,7 @@ use Rattle.pgn_json.specs.declared.job.Job.{Job}
 use Rattle.pgn_json.specs.declared.job.WordsRefused.{WordsRefused}
 use Rattle.pgn_json.specs.Line.{line}
 
--- the number that a text writes; none of a text that writes no number of the range
+-- the number that a text spells; none if it spells no number of the range
 abbrev pub number_of : ℕ → ℕ → Text → Option ℕ
 number_of least most text = if is_unsigned_in least most text then Some (digits_value 10 (without_leading_plus text)) else None
 
@@ -23,7 +23,7 @@ abbrev pub number_or : ℕ → ℕ → Option Text → Option ℕ
 number_or default most None = Some default
 number_or default most (Some text) = number_of 1 most text
 
--- the name of the archive, which is standard input where no word gives one
+-- the name of the archive, which is standard input if no word gives one
 abbrev pub archive_in : List Row → Text
 archive_in rows = unwrap_or (first_of (codes "archive") rows) (codes "-")
 
@@ -37,17 +37,17 @@ job_in rows = option_and_then (λ workers. option_map (λ limit.
     record { archive = archive_in rows; mark = mark_in rows; workers = workers; limit = limit })
     (number_or 1099511627776 1099511627776 (first_of (codes "limit") rows))) (number_or 4 64 (first_of (codes "workers") rows))
 
--- the job of words of which `clap` promises matches; none of words that it promises to refuse
+-- the job of words of which `clap` promises matches; none if it promises a fault
 abbrev pub job_of_words : List Text → Option Job
 job_of_words words = if is_empty (fault_of line words) then job_in (matches_of line words) else None
 
--- what a call answers about a job that is asked, or about none: the job, a refusal of the words, or out of memory
+-- the result of a call on the words of a job, or of none: the job, `WordsRefused`, or out of memory
 abbrev pub Answers : Option Job → Result Job (Refusal WordsRefused) → Type 0
 Answers asked (Ok found) = asked ≡ Some found
 Answers asked (Err (Fault refused)) = asked ≡ None
 Answers asked (Err NoMemory) = Unit {0}
 
--- each number of a job lies in its range
+-- each number of a job is in its range
 abbrev pub IsInRange : Job → Type 0
 IsInRange job = (1 ≤ job.workers) × (job.workers ≤ 64) × (1 ≤ job.limit) × (job.limit ≤ 1099511627776)
 

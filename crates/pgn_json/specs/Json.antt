@@ -1,4 +1,4 @@
--- What is written of a game.
+-- The text of a game.
 use Rattle.std.specs.Prelude.{ℕ, ◌==◌, ◌||◌, Bool, List, [], ◌∷◌, ◌++◌, codes, decimal, drop, length, map, if◌then◌else◌}
 use Rattle.std.specs.List.{list_any}
 use Rattle.std.specs.Option.{unwrap_or}
@@ -18,7 +18,7 @@ use Rattle.pgn_tree.specs.Results.{result_text}
 abbrev pub tag_text : List ℕ × List ℕ → List ℕ
 tag_text t = array (string_text t.0 ∷ string_text t.1 ∷ [])
 
--- a node is marked that has the comment; where the comment has no bytes all are
+-- a node with the comment is marked; if the comment has no bytes all are
 abbrev pub is_marked : List ℕ → Node → Bool
 is_marked mark n = (length mark == 0) || list_any (λ c. bytes_eq c mark) n.comments
 
@@ -37,7 +37,7 @@ parent_of n = unwrap_or n.parent 0
 abbrev pub move_of : Node → Move
 move_of n = unwrap_or n.led_by null_move
 
--- a node but the start: the number of the node before it, how many moves lead to it, its move, what is noted there, and its position
+-- a node but the start: the number of its parent, its ply, its move, its notes, and its position
 unfoldable pub node_text : List ℕ → List Node → ℕ → List ℕ
 node_text mark nodes k = let n = node_at nodes k in object (
     member (codes "parent") (decimal (parent_of n))
@@ -46,12 +46,12 @@ node_text mark nodes k = let n = node_at nodes k in object (
     ∷ member (codes "san") (plain (san_text (node_at nodes (parent_of n)).position (move_of n)))
     ∷ (note_members n ++ fen_members mark n))
 
--- the start is told to be marked, as its position is always there
+-- the member of a marked start, whose position is always there
 abbrev pub mark_members : List ℕ → Node → List (List ℕ)
 mark_members mark n = if is_marked mark n then member (codes "marked") (codes "true") ∷ [] else []
 
--- a game: its number and the place of its first byte in its archive, its tags, its start, its result, what is noted at the start, and
--- the other nodes in their order
+-- a game: its number and the place of its first byte, its tags, its start, its result, the notes at the start, and its other nodes in their
+-- order
 unfoldable pub game_text : (mark : List ℕ) → (number byte : ℕ) → Game → List ℕ
 game_text mark number byte g = let start = node_at g.nodes 0 in object (
     member (codes "game") (decimal number)

@@ -1,4 +1,4 @@
--- The command line, as `clap` is told of it.
+-- The command line, as `clap` takes it.
 use Rattle.std.specs.Prelude.{ℕ, [], ◌∷◌, Some, true, codes}
 use Rattle.clap.specs.Walk.{Rule, Text}
 use Rattle.clap.specs.Simple.{App, new_rule, new_shape, with_rule}

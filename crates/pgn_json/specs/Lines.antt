@@ -1,4 +1,4 @@
--- What is written of the games of an archive.
+-- The lines of the games of an archive.
 use Rattle.std.specs.Prelude.{◌≡◌, ℕ, ◌+◌, ◌-◌, Bool, true, false, List, [], ◌∷◌, length, count_by, Result, Ok, Err}
 use Rattle.std.specs.List.{flat_map}
 use Rattle.cq_position.specs.Games.{Game}
@@ -10,7 +10,7 @@ use Rattle.pgn_json.specs.Json.{json_text}
 use Rattle.pgn_reader.specs.Verdict.{IsRead}
 use Rattle.pgn_reader.specs.declared.fault.GameFault.{GameFault}
 
--- a game of an archive: its number, from 1, the place of its first byte, from 0, and what it is read as: a game, or its first fault
+-- a game of an archive: its number, from 1, the place of its first byte, from 0, and the result of its reading: a game, or its first fault
 pub record Entry : Type 0 where
   pub number : ℕ
   pub byte : ℕ
@@ -50,10 +50,10 @@ lines mark entries = flat_map (λ e. line_of mark e.number e.byte e.outcome) ent
 abbrev pub fault_lines : List Entry → List ℕ
 fault_lines entries = flat_map (λ e. fault_of e.number e.outcome) entries
 
--- how many games are faulty
+-- the number of faulty games
 abbrev pub faulty : List Entry → ℕ
 faulty entries = count_by (λ e. is_faulty e.outcome) entries
 
--- the last line of the report: how many games there are, are written and are faulty
+-- the last line of the report: the numbers of all games, of those that are written, and of the faulty ones
 abbrev pub summary : List Entry → List ℕ
 summary entries = summary_line (length entries) (length entries - faulty entries) (faulty entries)

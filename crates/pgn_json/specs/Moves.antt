@@ -16,6 +16,6 @@ promotion_letter ToRook = codes "r"
 promotion_letter ToBishop = codes "b"
 promotion_letter ToKnight = codes "n"
 
--- the square that the man leaves, that to which it goes, and what it becomes; a null move is four zeros
+-- the square from which the man goes, the square to which it goes, and its promotion; a null move is four zeros
 abbrev pub uci_text : Move → List ℕ
 uci_text m = if m.null then codes "0000" else square_text m.from ++ (square_text m.to ++ promotion_letter m.promotion)

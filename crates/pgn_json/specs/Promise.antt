@@ -1,4 +1,4 @@
--- What `pgnjson` promises.
+-- The promise of `pgnjson`.
 use Rattle.std.specs.Prelude.{◌≡◌, ℕ, List, [], ◌∷◌, ◌++◌, take, Option, None, Some, codes}
 use Rattle.std.specs.List.{join_with_byte}
 use Rattle.std.specs.Option.{option_map}
@@ -14,8 +14,8 @@ use Rattle.pgn_json.specs.declared.job.Job.{Job}
 use Rattle.pgn_json.specs.declared.status.Status.{Status}
 use Rattle.pgn_json.specs.declared.status.Status.TheVariants.{WordsRefused, OpenFault, WriteFault, NoMemory}
 
--- What the program is lent, at one moment: what the desk tells of its files, how many could not be opened, its open file, and the sinks
--- for the lines and for the report.
+-- The desk and the sinks of the program, at one moment: the files that the desk tells, its count of failed opens, and the pipe. The pipe is
+-- its open file and the sinks for the lines and for the report.
 pub record Lent : Type 0 where
   pub told : Option DeskFiles
   pub open_faults : ℕ
@@ -28,7 +28,7 @@ lent told open_faults pipe_ desk = record { told = told desk; open_faults = open
 abbrev pub with_open : List ℕ → DeskFiles → DeskFiles
 with_open name told = record { files = told.files; opened = told.opened ++ name ∷ [] }
 
--- As far as the desk tells, this name was opened, once, and no other was. The pipe before the file was read.
+-- As far as the desk tells, this name was opened, once, and no other was. The pipe is that before the file was read.
 pub record Opened (name : List ℕ) (was now : Lent) (file : Pipe) : Type 0 where
   pub told : now.told ≡ option_map (with_open name) was.told
   pub bytes : (told : DeskFiles) → was.told ≡ Some told → file.left ≡ Some (bytes_of told.files name)
@@ -42,11 +42,11 @@ pub record FailsToOpen (was now : Lent) : Type 0 where
   pub told : now.told ≡ was.told
   pub pipe_ : now.pipe_ ≡ was.pipe_
 
--- the line that answers words that are refused
+-- the line for words that are no command
 abbrev pub usage_line : List ℕ
 usage_line = codes "usage: pgnjson [--mark TEXT] [--workers N] [--limit B] [ARCHIVE]\n"
 
--- a front of the usage line was written to the sink for the report, and nothing else changed
+-- a prefix of the usage line was written to the sink for the report, and nothing else changed
 pub record WritesUsage (was now : Lent) (text : List ℕ) : Type 0 where
   pub writes : Grew was.pipe_.sinks.err.taken now.pipe_.sinks.err.taken text
   pub out : now.pipe_.sinks.out ≡ was.pipe_.sinks.out
@@ -55,14 +55,14 @@ pub record WritesUsage (was now : Lent) (text : List ℕ) : Type 0 where
   pub left : now.pipe_.left ≡ was.pipe_.left
   pub reads : now.pipe_.read_faults ≡ was.pipe_.read_faults
 
--- words that are refused: the usage line is written
+-- words that are no command: the usage line is written
 abbrev pub RefusesWords : Status → Lent → Lent → Type 0
 RefusesWords WordsRefused was now = WritesUsage was now usage_line × (now.pipe_.sinks.err.faults ≡ was.pipe_.sinks.err.faults)
 RefusesWords WriteFault was now =
     ((k : ℕ) × WritesUsage was now (take k usage_line)) × Rose was.pipe_.sinks.err.faults now.pipe_.sinks.err.faults
 RefusesWords _ was now = ⊥
 
--- a pipe at a moment at which its sink for the report is this one, and what else the program is lent
+-- the desk and the sinks at a moment, with this sink for the report
 abbrev pub lent_with : Option DeskFiles → ℕ → Option (List ℕ) → ℕ → SinkView → SinkView → Lent
 lent_with told open_faults left read_faults out err = record {
   told = told;
@@ -74,7 +74,7 @@ lent_with told open_faults left read_faults out err = record {
   };
 }
 
--- words are refused, whatever else the program is lent
+-- words are no command, whatever the desk and the other sink are
 abbrev pub RefusesAnyWords : Status → SinkView → SinkView → Type 0
 RefusesAnyWords status was now = (told : Option DeskFiles) (open_faults : ℕ) (left : Option (List ℕ)) (read_faults : ℕ) (out : SinkView)
     → RefusesWords status (lent_with told open_faults left read_faults out was) (lent_with told open_faults left read_faults out now)
@@ -83,8 +83,8 @@ RefusesAnyWords status was now = (told : Option DeskFiles) (open_faults : ℕ) (
 abbrev pub comment_of : List ℕ → List ℕ
 comment_of text = join_with_byte space (words (without_braces text))
 
--- What `run` promises of its status: the words ask for the games of an archive, which is opened and read, or can't be opened; or they are
--- refused; or no memory was found, and nothing changed.
+-- The promise of `run` on its status: the words name a job, and the archive is opened and read, or can't be opened. Or the words are no
+-- command. Or the call was out of memory, and nothing changed.
 pub data Promise (given : List (List ℕ)) (status : Status) (was now : Lent) : Type 0 where
   games_written : (job : Job) → job_of_words given ≡ Some job → (file : Pipe) → Opened job.archive was now file
       → Says status job.limit (comment_of job.mark) file now.pipe_ → Promise given status was now
@@ -92,18 +92,18 @@ pub data Promise (given : List (List ℕ)) (status : Status) (was now : Lent) : 
   words_refused : job_of_words given ≡ None → RefusesWords status was now → Promise given status was now
   out_of_memory : status ≡ NoMemory → now ≡ was → Promise given status was now
 
--- the exit status is that of the status by which these words were answered
+-- the exit status is that of the status that `run` returns for these words
 pub record EndsWords (given : List (List ℕ)) (code : ℕ) (was now : Lent) : Type 0 where
   pub status : Status
   pub code_is : code ≡ exit_code status
   pub promise : Promise given status was now
 
--- there was no memory for the words: nothing was opened, read or written
+-- out of memory for the words: nothing was opened, read or written
 pub record EndsWithoutWords (code : ℕ) (was now : Lent) : Type 0 where
   pub code_is : code ≡ exit_code NoMemory
   pub unmoved : now ≡ was
 
--- the exit status is that of a status by which words are refused
+-- the exit status is that of a status for words that are no command
 pub record EndsRefused (code : ℕ) (was now : SinkView) : Type 0 where
   pub status : Status
   pub code_is : code ≡ exit_code status

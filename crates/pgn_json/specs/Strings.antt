@@ -8,11 +8,11 @@ use Rattle.std.specs.Str.{is_utf8}
 unfoldable pub characters : List ℕ → List ℕ
 characters text = if is_utf8 text then chars text else text
 
--- a quote, a backslash and the control characters U+0000 to U+001F have to be escaped
+-- a quote, a backslash and the control characters U+0000 to U+001F need an escape
 abbrev pub is_escaped : ℕ → Bool
 is_escaped c = nat_lt c 32 || (c == 34 || c == 92)
 
--- the letter after the backslash, where there is a short escape: a quote, a backslash, b, t, n, f or r; 0 where there is none
+-- the letter after the backslash, if there is a short escape: a quote, a backslash, b, t, n, f or r; 0 if there is none
 abbrev pub short_letter : ℕ → ℕ
 short_letter c =
     if c == 34 then 34 else if c == 92 then 92 else if c == 8 then 98 else if c == 9 then 116 else if c == 10 then 110
@@ -24,7 +24,7 @@ escape c =
     if short_letter c == 0 then 92 ∷ 117 ∷ 48 ∷ 48 ∷ digit_char (c / 16) ∷ digit_char (c % 16) ∷ []
     else 92 ∷ short_letter c ∷ []
 
--- a character as it stands in a string
+-- a character in a string, escaped if it has to be
 abbrev pub character_text : ℕ → List ℕ
 character_text c = if is_escaped c then escape c else encode_utf8 c
 

@@ -1,4 +1,4 @@
--- What is read of an archive, and what is written of its games.
+-- The bytes that are read of an archive, and the texts that are written of its games.
 use Rattle.std.specs.Prelude.{◌≡◌, ◌⊎◌, ℕ, ◌+◌, ◌-◌, ◌<◌, ◌≤◌, List, ◌++◌, length, take, Option}
 use Rattle.std.specs.Io.KnownBytes.{Consumes, IsAtEnd}
 use Rattle.pgn_batches.specs.Filling.{most_read}
@@ -10,7 +10,7 @@ use Rattle.pgn_json.specs.Lines.{AreEntries, Entry, HasEntries, fault_lines, fau
 use Rattle.pgn_json.specs.declared.status.Status.{Status}
 use Rattle.pgn_json.specs.declared.status.Status.TheVariants.{Done, DoneWithRefusals, ReadFault, WriteFault, NoMemory, ArchiveTooLong}
 
--- a sink at one moment: the bytes that it has taken, where it tells them, and how many writes failed
+-- a sink at one moment: the bytes that it has taken, if it tells them, and the count of failed writes
 pub record SinkView : Type 0 where
   pub taken : Option (List ℕ)
   pub faults : ℕ
@@ -43,7 +43,7 @@ OneWriteFailed was now =
     (Rose was.out.faults now.out.faults × (now.err.faults ≡ was.err.faults))
     ⊎ (Rose was.err.faults now.err.faults × (now.out.faults ≡ was.out.faults))
 
--- A source and the two sinks at one moment: the bytes that are left, where they are told, and how many reads failed.
+-- A source and the two sinks at one moment: the bytes that are left, if they are told, and the count of failed reads.
 pub record Pipe : Type 0 where
   pub left : Option (List ℕ)
   pub read_faults : ℕ
@@ -76,7 +76,7 @@ pub record WritesAll (limit : ℕ) (mark : List ℕ) (AreFaulty : ℕ → Type 0
   pub faulty_ : AreFaulty (faulty entries)
   pub writes : Writes was.sinks now.sinks (lines mark entries) (fault_lines entries ++ summary entries)
 
--- All games were written, and a front of the last line of the report.
+-- All games were written, and a prefix of the last line of the report.
 pub record WritesGames (limit : ℕ) (mark : List ℕ) (was now : Pipe) : Type 0 where
   pub archive : List ℕ
   pub entries : List Entry
@@ -100,9 +100,8 @@ AreFirstGames limit now front entries =
     AreEntries front 1 (take (length entries) (closed front)) entries
     ⊎ ((length front ≤ limit) × IsAtEnd now.left × AreEntries front 1 (take (length entries) (cut front)) entries)
 
--- These first bytes were read, at most one more than the limit, and games were written, and a front of what is to be written of the next
--- ones. Nothing was read once that began: the games of the whole batches of all bytes, but for as many at their end as one read gives,
--- were written before.
+-- These first bytes were read, at most one more than the limit. Games were written, and a prefix of the texts of the next ones. Nothing was
+-- read once that began. The games of the whole batches of all bytes, but for as many at their end as one read gives, were written before.
 pub record WritesSome (limit : ℕ) (mark : List ℕ) (was now : Pipe) : Type 0 where
   pub front : List ℕ
   pub entries : List Entry
@@ -119,7 +118,7 @@ pub record WritesSome (limit : ℕ) (mark : List ℕ) (was now : Pipe) : Type 0 
 abbrev pub WritesPart : ℕ → List ℕ → Pipe → Pipe → Type 0
 WritesPart limit mark was now = WritesSome limit mark was now ⊎ WritesGames limit mark was now
 
--- what each status says
+-- the promise of each status
 abbrev pub Says : Status → ℕ → List ℕ → Pipe → Pipe → Type 0
 Says Done limit mark was now =
     WritesAll limit mark (λ n. n ≡ 0) was now × NoReadFailed was now × NoWriteFailed was.sinks now.sinks

@@ -17,12 +17,16 @@ use cq_common::{Bytes, NoMemory};
 use pgn_tree::{Game, Tags, result_text};
 use std::alloc::Global;
 
-/// A game as a line of JSON (RFC 8259), in UTF-8 and with LF at its end: its number and the place of its first byte in its archive, its
-/// tags, its start, its result, what is noted at the start, and its other nodes in preorder.
+/// Returns a game as a line of JSON (RFC 8259), in UTF-8 and with LF at its end. The line has the number of the game and the place of its
+/// first byte in its archive, its tags, its start, its result, and the notes at the start. Its other nodes follow in preorder.
 ///
-/// A node that has the comment `mark` has its position, and the start is told to be marked; where `mark` has no bytes all nodes are.
-/// `specs/Json` says what is written. Texts of tags and comments that are UTF-8 stay as they are, and of others each byte is a letter of
-/// Latin-1.
+/// A node with the comment `mark` has its position. The start, if it has that comment, has a member that says so. If `mark` has no bytes,
+/// all nodes are marked. `specs/Json` defines the text. Texts of tags and comments that are UTF-8 stay as they are. Of others each byte is
+/// a letter of Latin-1.
+///
+/// # Errors
+///
+/// `NoMemory`: out of memory.
 pub fn json_line(
     alloc: Global,
     game: &Game,
@@ -111,7 +115,7 @@ fn push_start(line: &mut Bytes, alloc: Global, game: &Game) -> Result<(), NoMemo
     push_plain(line, b",\"result\":\"", result_text(game.result()))
 }
 
-// Adds that the start is marked, where it is.
+// Adds the mark of the start, if it is marked.
 fn push_mark(line: &mut Bytes, game: &Game, mark: &[u8]) -> Result<(), NoMemory>
     ensures { OnOk result (line.new ≡ line.old ++ flat_map next (json.mark_members mark.now (node_at game.now.nodes 0))) }
 {

@@ -1,4 +1,4 @@
-//! Writing what there is of each batch of games.
+//! The writer of the games of each batch.
 ghost use Rattle.std.specs.Prelude.{◌≡◌, ◌≤◌, length};
 ghost use Rattle.std.specs.Thread.{IsSync};
 ghost use Rattle.pgn_batches.specs.Games.{games_of, number_of};
@@ -28,7 +28,7 @@ pub(crate) struct GameWriter<'a, R> {
 impl<'a, R: Threads + Sync, O: Sink, E: Sink> BatchVisitor<O, E> for GameWriter<'a, R> {
     type Stop = Status;
 
-    // That threads may share the runtime stands here too, as `take` is not told of the bounds of its block.
+    // The bound that threads may share the runtime is repeated here, since `take` does not know the bounds of its block.
     ghost has_taken = { λ was now games. (IsSync R.row × (now.taker.mark ≡ was.taker.mark)) × HasTaken was.taker.mark.now
         (sinks_of O.taken O.faults E.taken E.faults was.out was.err) (sinks_of O.taken O.faults E.taken E.faults now.out now.err)
         now.taker.faulty games };
@@ -42,7 +42,7 @@ impl<'a, R: Threads + Sync, O: Sink, E: Sink> BatchVisitor<O, E> for GameWriter<
     }
 }
 
-// Writes what there is of a batch, a part at a time, so that little of it is held at once.
+// Writes the texts of a batch, a part at a time, so that few of them are held at once.
 fn write_batch<R: Threads + Sync, O: Sink, E: Sink>(
     writer: &mut GameWriter<'_, R>,
     batch: &Batch,

@@ -1,4 +1,4 @@
-//! What the command words ask.
+//! The job that the command words name.
 use cq_common::Bytes;
 
 /// The greatest number of workers.
@@ -7,8 +7,8 @@ pub(crate) const WORKERS_LIMIT: u64 = 64;
 /// The most bytes that an archive may have.
 pub(crate) const BYTES_LIMIT: u64 = 1_099_511_627_776;
 
-/// To write the games of the archive in the file `archive`, with the position of each node that has a comment of the words of `mark`, or
-/// of all nodes where `mark` has no word.
+/// Writes the games of the archive in the file `archive`. Each node with a comment of the words of `mark` has its position. If `mark` has
+/// no word, all nodes have.
 #[derive(Debug, PartialEq, Eq, Drop)]
 pub struct Job {
     pub archive: Bytes,
@@ -19,6 +19,6 @@ pub struct Job {
     pub limit: u64,
 }
 
-/// The words ask for nothing that the program does.
+/// The words are no command of the program.
 #[derive(Clone, Copy, Debug, PartialEq, Eq)]
 pub struct WordsRefused;

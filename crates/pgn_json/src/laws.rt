@@ -1,4 +1,4 @@
-//! Laws of the text of a game as JSON, for all texts, or for all games that have what every `Game` has; a call changes nothing.
+//! Laws of the text of a game as JSON, for all texts, or for all games that fulfil the invariant of `Game`; a call changes nothing.
 ghost use Rattle.std.specs.Prelude.{◌≡◌, ◌<◌, ◌^◌, ℕ, true, List, All, length};
 ghost use Rattle.std.specs.Str.{encode_utf8_all, IsUtf8};
 ghost use Rattle.cq_position.specs.Games.{Game as PlainGame, node_at};
@@ -11,13 +11,13 @@ ghost use Rattle.pgn_json.specs.Strings.{characters, string_text};
 
 use pgn_tree::{Game, Tags};
 
-/// The string that is written of a text is the UTF-8 of one that JSON reads as the characters of the text, and as no others.
+/// The string of a text is the UTF-8 of one that JSON reads as the characters of the text, and as no others.
 #[tactic(auto, using(crate::proofs::ReadBack::read_back))]
 pub fn strings_are_read_back()
     ensures { (text : List ℕ) → (json : List ℕ) × (encode_utf8_all json ≡ string_text text) × IsReadAs json (characters text) }
 {}
 
-/// Always true: every `Game` has what the laws of lines ask of its nodes.
+/// Always true: the nodes of every `Game` fulfil the conditions of the laws of lines.
 pub fn games_have_valid_nodes(game: &Game) -> bool
     ensures value { result ≡ true }
     ensures kept { HasValidNodes game.now.nodes }
@@ -39,21 +39,22 @@ pub fn texts_are_bytes(game: &Game) -> bool
     true
 }
 
-/// A line without its LF is JSON, of numbers and first bytes below 2^64: it is read as the value of its game, and as no other value of the
-/// kinds that `specs/Data` has.
+/// A line without its LF is JSON, for numbers and first bytes below 2^64. It is read as the value of its game, and as no other value of the
+/// kinds of `specs/Data`.
 pub fn lines_are_json()
     ensures { (mark : List ℕ) (number byte : ℕ) (g : PlainGame) → HasValidNodes g.nodes → HasByteTexts g → number < 2 ^ 64 → byte < 2 ^ 64 →
         IsReadAsValue (game_text mark number byte g) (json_of mark number byte g) }
 {}
 
-/// A line is UTF-8, of numbers and first bytes below 2^64.
+/// A line is UTF-8, for numbers and first bytes below 2^64.
 pub fn lines_are_utf8()
     ensures { (mark : List ℕ) (number byte : ℕ) (g : PlainGame) → HasValidNodes g.nodes → HasByteTexts g → number < 2 ^ 64 → byte < 2 ^ 64 →
         IsUtf8 (json_text mark number byte g) }
 {}
 
-/// Two lines, of numbers and first bytes below 2^64, are the same, whatever their marks, only if their games have the same number and first
-/// byte, the same result, and the same tags and nodes, but for the bytes that spell the characters of tags and comments.
+/// Two lines, for numbers and first bytes below 2^64, are the same, whatever their marks, only if their games agree. They have the same
+/// number and first byte, the same result, and the same tags and nodes. Only the bytes that spell the characters of tags and comments may
+/// differ.
 pub fn same_lines_have_the_same_game()
     ensures { (mark other_mark : List ℕ) (number other_number byte other_byte : ℕ) (g h : PlainGame) →
         HasValidNodes g.nodes → HasValidNodes h.nodes →

@@ -1,9 +1,9 @@
 //! The text of a game as JSON (RFC 8259), and the top call of `pgnjson`.
 //!
-//! `specs/Strings` defines how a text is written as a JSON string, `specs/Values` how objects and arrays are, and `specs/Json` the text of
-//! a game. `specs/Data` has JSON values, and `specs/Grammar` the texts that spell them. Laws say that a line is read as the value of its
-//! game (`specs/GameValue`), and that lines tell games apart but for the bytes of their texts (`specs/GameReading`). `specs/Promise` is the
-//! promise of the top call.
+//! `specs/Strings` defines the text of a JSON string, `specs/Values` that of objects and arrays, and `specs/Json` the text of a game.
+//! `specs/Data` has JSON values, and `specs/Grammar` the texts that spell them. Laws say that a line is read as the value of its game
+//! (`specs/GameValue`). They also say that lines tell games apart but for the bytes of their texts (`specs/GameReading`). `specs/Promise`
+//! is the promise of the top call.
 #![tactic(auto)]
 
 mod game;

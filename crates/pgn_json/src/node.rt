@@ -42,7 +42,7 @@ pub(crate) fn push_node(
     Ok(())
 }
 
-// The number of the node before a node, and the move that led from there.
+// Returns the number of a node's parent, and the move that led from there.
 fn step_to(game: &Game, k: u32) -> (u32, Move)
     requires start { 0 < k }
     requires node { k < length game.now.nodes }
@@ -78,7 +78,7 @@ fn push_place(line: &mut Bytes, parent: u32, ply: u32) -> Result<(), NoMemory>
     push_number(line, b",\"ply\":", u64::from(ply))
 }
 
-// Adds a move that leads from a position to another, as UCI and as Standard Algebraic Notation have it.
+// Adds a move that leads from a position to another, in UCI and in Standard Algebraic Notation.
 fn push_move(
     line: &mut Bytes,
     position: &Position,
@@ -94,7 +94,7 @@ fn push_move(
     push_plain(line, b",\"san\":\"", san.as_bytes())
 }
 
-// Adds a move as UCI has it.
+// Adds a move in UCI.
 fn push_uci(line: &mut Bytes, m: &Move) -> Result<(), NoMemory>
     ensures { OnOk result (line.new ≡ line.old ++ next (member (codes "uci") (plain (moves.uci_text m.now)))) }
 {
@@ -103,7 +103,7 @@ fn push_uci(line: &mut Bytes, m: &Move) -> Result<(), NoMemory>
     line.push_all(b"\"")
 }
 
-// Adds the squares of a move and what the man becomes; four zeros for a null move.
+// Adds the squares of a move and the letter of its promotion; four zeros for a null move.
 fn push_squares(line: &mut Bytes, m: &Move) -> Result<(), NoMemory>
     ensures { OnOk result (line.new ≡ line.old ++ moves.uci_text m.now) }
 {
@@ -121,7 +121,7 @@ fn push_square(line: &mut Bytes, square: Square) -> Result<(), NoMemory>
     line.push_all(&[b'a' + file(square), b'1' + rank(square)])
 }
 
-// The letter of what a man becomes.
+// Returns the letter of a promotion.
 fn promotion_letter(promotion: Promotion) -> &'static [u8]
     ensures { result.now ≡ moves.promotion_letter promotion }
 {
@@ -134,7 +134,7 @@ fn promotion_letter(promotion: Promotion) -> &'static [u8]
     }
 }
 
-// Adds the position of a node that is marked.
+// Adds the position of a node, if it is marked.
 fn push_fen(
     line: &mut Bytes,
     alloc: Global,

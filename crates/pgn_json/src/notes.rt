@@ -1,4 +1,4 @@
-//! What is noted at a node.
+//! The notes at a node.
 ghost use Rattle.std.specs.Prelude.{◌≡◌, ◌<◌, ◌==◌, ◌++◌, length, map, codes, decimal, OnOk};
 ghost use Rattle.std.specs.List.{flat_map, list_any};
 ghost use Rattle.std.specs.Str.{bytes_eq};
@@ -13,7 +13,7 @@ use cq_common::{Bytes, NoMemory};
 use itoa::Buffer;
 use pgn_tree::Game;
 
-/// Adds the glyphs and the comments of a node, where there are any.
+/// Adds the glyphs and the comments of a node, if there are any.
 pub(crate) fn push_notes(line: &mut Bytes, game: &Game, k: u32) -> Result<(), NoMemory>
     requires { k < length game.now.nodes }
     ensures { OnOk result (line.new ≡ line.old ++ flat_map next (json.note_members (node_at game.now.nodes k))) }
@@ -22,7 +22,7 @@ pub(crate) fn push_notes(line: &mut Bytes, game: &Game, k: u32) -> Result<(), No
     push_comments(line, game, k)
 }
 
-// Adds glyphs, where there are any.
+// Adds glyphs, if there are any.
 fn push_nags(line: &mut Bytes, nags: &[u8]) -> Result<(), NoMemory>
     ensures { OnOk result (line.new ≡ line.old ++ flat_map next (array_member (codes "nags") (map decimal nags.now))) }
 {
@@ -44,7 +44,7 @@ fn push_numbers(line: &mut Bytes, numbers: &[u8]) -> Result<(), NoMemory>
     Ok(())
 }
 
-// Adds the comments of a node, where there are any.
+// Adds the comments of a node, if there are any.
 fn push_comments(line: &mut Bytes, game: &Game, k: u32) -> Result<(), NoMemory>
     requires { k < length game.now.nodes }
     ensures { OnOk result (line.new ≡ line.old
@@ -59,7 +59,7 @@ fn push_comments(line: &mut Bytes, game: &Game, k: u32) -> Result<(), NoMemory>
     Ok(())
 }
 
-// Whether a node has no comments.
+// Returns true if a node has no comments.
 fn has_none(game: &Game, k: u32) -> bool
     requires { k < length game.now.nodes }
     ensures { result ≡ (length (node_at game.now.nodes k).comments == 0) }
@@ -86,7 +86,7 @@ fn push_text(line: &mut Bytes, i: usize, text: &[u8]) -> Result<(), NoMemory>
     push_string(line, text)
 }
 
-/// Whether a node has the comment that marks; where that has no bytes all nodes are marked.
+/// Returns true if a node has the comment that marks. If that has no bytes, all nodes are marked.
 pub(crate) fn is_marked(game: &Game, k: u32, mark: &[u8]) -> bool
     requires { k < length game.now.nodes }
     ensures { result ≡ json.is_marked mark.now (node_at game.now.nodes k) }
@@ -94,7 +94,7 @@ pub(crate) fn is_marked(game: &Game, k: u32, mark: &[u8]) -> bool
     mark.is_empty() || has_comment(game, k, mark)
 }
 
-// Whether a node has a comment.
+// Returns true if a node has a comment.
 fn has_comment(game: &Game, k: u32, text: &[u8]) -> bool
     requires { k < length game.now.nodes }
     ensures { result ≡ list_any (λ c. bytes_eq c text.now) (node_at game.now.nodes k).comments }
@@ -115,7 +115,7 @@ pub(crate) fn push_number(line: &mut Bytes, before: &[u8], number: u64) -> Resul
     line.push_all(Buffer::new().format(number).as_bytes())
 }
 
-/// What stands before a value after so many others.
+/// Returns the comma before a value after so many others, or nothing before the first.
 pub(crate) fn comma_after(others: usize) -> &'static [u8]
     ensures { result.now ≡ left_of.comma_after others }
 {

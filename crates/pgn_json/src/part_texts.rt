@@ -1,4 +1,4 @@
-//! What is written of some games of a batch, made by several workers.
+//! The texts of some games of a batch, made by several workers.
 ghost use Rattle.std.specs.Prelude.{◌≡◌, ◌≤◌, length, IfOk};
 ghost use Rattle.pgn_json.specs.Internal.PartTexts.{AreGameTexts, ArePlaced, HasMadeTexts};
 ghost use Rattle.pgn_json.specs.Internal.Parts.{part_at, size};
@@ -10,10 +10,10 @@ use pgn_batches::Batch;
 use std::alloc::Global;
 use std::thread::Threads;
 
-/// How many games of a batch, at most, are made before they are written.
+/// The most games of a batch that are made before they are written.
 pub(crate) const PART: u64 = 128;
 
-/// What is written of a game, and the game's number in its part of the batch, from 0.
+/// The texts of a game, and the game's number in its part of the batch, from 0.
 #[derive(Drop)]
 pub(crate) struct GameTexts {
     pub(crate) number: u64,
@@ -22,8 +22,8 @@ pub(crate) struct GameTexts {
 
 impl Shared for GameTexts {}
 
-/// Makes what is written of each game of a part of a batch: of the game with the number `first` in the batch, from 0, and of those after
-/// it, `PART` at most.
+/// Makes the texts of each game of a part of a batch. The part begins with the game with the number `first` in the batch, from 0, and has
+/// `PART` games at most.
 #[derive(Clone, Copy)]
 pub(crate) struct GameTextTask<'a> {
     pub(crate) mark: &'a [u8],
@@ -58,7 +58,7 @@ impl<'a> GameTask for GameTextTask<'a> {
     }
 }
 
-/// What is written of each game of a part of a batch, in their order, made by so many workers, from 1 to 64, which is a condition. They
+/// Returns the texts of each game of a part of a batch, in their order, made by so many workers, from 1 to 64, which is a condition. They
 /// draw the games one by one, in threads of `rt`.
 pub(crate) fn part_texts<R: Threads + Sync>(
     rt: &R,
@@ -74,7 +74,7 @@ pub(crate) fn part_texts<R: Threads + Sync>(
     in_places(alloc, task, made)
 }
 
-// The texts of each game at the place of its number.
+// Returns the texts of each game at the place of its number.
 fn in_places(
     alloc: Global,
     task: &GameTextTask<'_>,
@@ -91,7 +91,7 @@ fn in_places(
     Ok(places)
 }
 
-// A place for each of so many games.
+// Returns a place for each of so many games.
 fn no_texts(alloc: Global, games: u64) -> Result<Vec<Texts>, NoMemory>
     requires { games ≤ 128 }
     ensures { IfOk result (λ places. length places.items ≡ games) }

@@ -7,7 +7,7 @@ use cq_common::NoMemory;
 use pgn_tree::Game;
 use std::alloc::Global;
 
-/// How many moves lead to each node, null moves included.
+/// Returns the ply of each node: the number of moves that lead to it, null moves included.
 pub(crate) fn plies(alloc: Global, game: &Game) -> Result<Vec<u32>, NoMemory>
     ensures { IfOk result (λ plies. ArePlies game.now.nodes (length game.now.nodes) plies.items) }
 {
@@ -19,7 +19,7 @@ pub(crate) fn plies(alloc: Global, game: &Game) -> Result<Vec<u32>, NoMemory>
     Ok(plies)
 }
 
-// The ply of a node, given those of all nodes before it: its parent is one of them.
+// Returns the ply of a node, given those of all nodes before it: its parent is one of them.
 fn ply_at(game: &Game, before: &[u32], k: u32) -> u32
     requires node { k < length game.now.nodes }
     requires before { ArePlies game.now.nodes k before.now }

@@ -9,7 +9,7 @@ ghost use Rattle.pgn_json.specs.Strings.{character_text, characters, escape, is_
 use cq_common::{Bytes, NoMemory};
 use std::str;
 
-/// Adds a text as a string: its characters in UTF-8, those that have to be escaped after a backslash.
+/// Adds a text as a string: its characters in UTF-8, with a backslash before those that need an escape.
 pub(crate) fn push_string(line: &mut Bytes, text: &[u8]) -> Result<(), NoMemory>
     ensures { OnOk result (line.new ≡ line.old ++ string_text text.now) }
 {
@@ -29,7 +29,7 @@ fn push_characters(line: &mut Bytes, text: &[u8]) -> Result<(), NoMemory>
     }
 }
 
-// Adds the bytes of UTF-8. Most texts have none that have to be escaped.
+// Adds the bytes of UTF-8. Most texts have none that need an escape.
 #[tactic(auto, using(crate::proofs::Characters::unescaped))]
 fn push_utf8(line: &mut Bytes, text: &[u8]) -> Result<(), NoMemory>
     ensures { OnOk result (line.new ≡ line.old ++ flat_map byte_text text.now) }
@@ -41,7 +41,7 @@ fn push_utf8(line: &mut Bytes, text: &[u8]) -> Result<(), NoMemory>
     }
 }
 
-// Whether a byte has to be escaped.
+// Returns true if a byte of a text needs an escape.
 fn has_escaped(text: &[u8]) -> bool
     ensures { result ≡ list_any is_escaped text.now }
 {
@@ -93,7 +93,7 @@ fn push_letter(line: &mut Bytes, b: u8) -> Result<(), NoMemory>
     }
 }
 
-// Whether a character has to be escaped: a quote, a backslash, or a control character.
+// Returns true if a character needs an escape: a quote, a backslash, or a control character.
 fn is_escaped(b: u8) -> bool
     ensures { result ≡ is_escaped b }
 {
@@ -123,7 +123,7 @@ fn push_escape(line: &mut Bytes, b: u8) -> Result<(), NoMemory>
     }
 }
 
-// The hexadecimal digit of a number.
+// Returns the hexadecimal digit of a number.
 fn hex_digit(n: u8) -> u8
     requires { n < 16 }
     ensures { result ≡ digit_char n }

@@ -1,4 +1,4 @@
-//! What is written of a game.
+//! The texts of a game.
 ghost use Rattle.std.specs.Prelude.{◌≡◌, ◌+◌, ◌<◌, ◌∷◌, [], Some, length, slice_get, IfOk};
 ghost use Rattle.pgn_batches.specs.Games.{games_of, number_of};
 ghost use Rattle.pgn_batches.specs.declared.kept_game.KeptGame.{KeptGame as AGame};
@@ -11,7 +11,7 @@ use pgn_batches::Batch;
 use pgn_reader::read_game;
 use std::alloc::Global;
 
-/// What is written of some games: the lines of those that are read, the lines of the faulty ones, and how many games are faulty.
+/// The texts of some games: the lines of those that are read, the lines of the faulty ones, and the number of faulty games.
 #[derive(Drop)]
 pub(crate) struct Texts {
     pub(crate) lines: Bytes,
@@ -21,7 +21,7 @@ pub(crate) struct Texts {
 
 impl Shared for Texts {}
 
-/// What is written of the game with this number in a batch.
+/// Returns the texts of the game with this number in a batch.
 pub(crate) fn game_texts(
     alloc: Global,
     mark: &[u8],

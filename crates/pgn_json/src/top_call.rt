@@ -14,31 +14,30 @@ use pgn_tree::single_spaced;
 use std::alloc::Global;
 use std::thread::Threads;
 
-/// The line that answers words that are refused.
+/// The line for words that are no command.
 const USAGE: &[u8] = b"usage: pgnjson [--mark TEXT] [--workers N] [--limit B] [ARCHIVE]\n";
 
-/// Answers the words of a command, those after the program's name: `[--mark TEXT] [--workers N] [--limit B] [ARCHIVE]` writes the games
-/// of the archive in the file ARCHIVE to `out`, each that is read as a line of JSON (RFC 8259), in their order. Nothing or the name `-`
-/// is standard input.
+/// Does the job that the words of a command name, those after the program's name. `[--mark TEXT] [--workers N] [--limit B] [ARCHIVE]`
+/// writes the games of the archive in the file ARCHIVE to `out`. Each game that is read is a line of JSON (RFC 8259), in archive order. No
+/// name or the name `-` is standard input.
 ///
-/// Nodes with the comment TEXT, `CQL` if not said, have their position; a TEXT without a word stands for all nodes. The archive may have
-/// B bytes, from 1 to 2^40, which is also the limit if not said. N workers, from 1 to 64, 4 if not said, read the games of a batch, in
-/// threads of `rt`.
+/// Nodes with the comment TEXT, by default `CQL`, have their position. A TEXT without a word means all nodes. The archive may have B bytes,
+/// from 1 to 2^40, which is also the default. N workers, from 1 to 64 and by default 4, read the games of a batch, in threads of `rt`.
 ///
 /// `err` takes a line for each faulty game, `game N byte B: REASON`, and at the end `games G matched M refused R`: M are written, R are
 /// faulty.
 ///
-/// Answers:
+/// Returns:
 /// - `Done`: all games are read and written.
 /// - `DoneWithRefusals`: all games but the faulty ones are written.
-/// - `WordsRefused`: the words are others; the usage line is written to `err`.
+/// - `WordsRefused`: the words are no command; the usage line is written to `err`.
 /// - `OpenFault`: that count of the desk rose, and no other; nothing is written.
 /// - `ReadFault`: that count of the desk rose, and no other. The games of the batches that are full by then are written.
-/// - `WriteFault`: the count of one sink rose, and no other. Each sink has taken a front of its text, and nothing was read after it.
-/// - `NoMemory`: no memory was found, and no count rose; each sink has taken a front of its text.
-/// - `ArchiveTooLong`: one byte more than the limit was read; written is as much as after a failed read.
+/// - `WriteFault`: the count of one sink rose, and no other. Each sink has taken a prefix of its text, and nothing was read after it.
+/// - `NoMemory`: out of memory, and no count rose; each sink has taken a prefix of its text.
+/// - `ArchiveTooLong`: one byte more than the limit was read; as much is written as after a failed read.
 ///
-/// The clause `Promise` says of each what was read and written, and which count rose.
+/// The clause `Promise` defines for each the bytes that were read and written, and the count that rose.
 pub fn run<R: Threads + Sync, D: Desk, O: Sink, E: Sink>(
     rt: &R,
     alloc: Global,
@@ -85,8 +84,8 @@ fn refuse_words<E: Sink>(err: &mut E) -> Status
     }
 }
 
-/// Ends the program: answers the words after its name as `run` does, and gives the exit status. Words for which there was no memory
-/// end it with 7, and nothing is opened, read or written then.
+/// Ends the program: does the job of the words after its name as `run` does, and returns the exit status. Out of memory for the words, it
+/// is 7, and nothing is opened, read or written.
 pub fn answer_command<R: Threads + Sync, D: Desk, O: Sink, E: Sink>(
     rt: &R,
     alloc: Global,
@@ -107,8 +106,7 @@ pub fn answer_command<R: Threads + Sync, D: Desk, O: Sink, E: Sink>(
     }
 }
 
-/// Ends the program that has a word which is no text: writes the usage line to `err`, and gives the exit status, 3, or 6 where `err`
-/// failed.
+/// Ends the program for a word that is no text: writes the usage line to `err`, and returns the exit status, 3, or 6 if `err` failed.
 pub fn refuse_command<E: Sink>(err: &mut E) -> u8
     ensures { EndsRefused result (view_of E.taken E.faults err.old) (view_of E.taken E.faults err.new) }
 {

@@ -11,14 +11,14 @@ use clap::error::ErrorKind;
 use cq_common::{Bytes, NoMemory, Refusal};
 use std::alloc::Global;
 
-// The text of an argument, where it is given.
+// Returns the text of an argument, if it is given.
 fn text_of<'a>(matches: &ArgMatches<'a>, id: &str) -> Option<&'a str>
     ensures { option_map (λ text. text.now) result ≡ first_of id.now (rows_of (found_of matches.now)) }
 {
     matches.get_str(id)
 }
 
-// The number that a text writes; none where it writes no number from `least` to `most`.
+// Returns the number that a text spells, or none if it spells no number from `least` to `most`.
 fn number_of(text: &str, least: u64, most: u64) -> Option<u64>
     ensures value { result ≡ number_of least most text.now }
     ensures bounds { IfSome result (λ number. (least ≤ number) × (number ≤ most)) }
@@ -29,7 +29,7 @@ fn number_of(text: &str, least: u64, most: u64) -> Option<u64>
     }
 }
 
-// The number of an option, or its default; none where its text writes no number from 1 to `most`.
+// Returns the number of an option, or its default. Returns none if its text spells no number from 1 to `most`.
 fn number_in(matches: &ArgMatches<'_>, id: &str, most: u64, default: u64) -> Option<u64>
     requires { (1 ≤ default) × (default ≤ most) }
     ensures value { result ≡ number_or default most (first_of id.now (rows_of (found_of matches.now))) }
@@ -41,7 +41,7 @@ fn number_in(matches: &ArgMatches<'_>, id: &str, most: u64, default: u64) -> Opt
     }
 }
 
-// The name of the archive, which is standard input where no word gives one.
+// Returns the name of the archive, which is standard input if no word gives one.
 fn archive_in(alloc: Global, matches: &ArgMatches<'_>) -> Result<Bytes, NoMemory>
     ensures { IfOk result (λ name. name ≡ archive_in (rows_of (found_of matches.now))) }
 {
@@ -49,7 +49,7 @@ fn archive_in(alloc: Global, matches: &ArgMatches<'_>) -> Result<Bytes, NoMemory
     Bytes::from_slice(alloc, name.as_bytes())
 }
 
-// The comment that marks.
+// Returns the comment that marks.
 fn mark_in(alloc: Global, matches: &ArgMatches<'_>) -> Result<Bytes, NoMemory>
     ensures { IfOk result (λ mark. mark ≡ mark_in (rows_of (found_of matches.now))) }
 {
@@ -57,7 +57,7 @@ fn mark_in(alloc: Global, matches: &ArgMatches<'_>) -> Result<Bytes, NoMemory>
     Bytes::from_slice(alloc, mark.as_bytes())
 }
 
-// The matches that `clap` gives of the words.
+// Returns the matches that `clap` finds in the words.
 fn matched<'a>(alloc: Global, words: &'a [String]) -> Result<ArgMatches<'a>, Refusal<WordsRefused>>
     ensures { MatchResult result (HasMatches (map string_bytes words.now)) (IsRefused (map string_bytes words.now)) }
 {
@@ -68,7 +68,7 @@ fn matched<'a>(alloc: Global, words: &'a [String]) -> Result<ArgMatches<'a>, Ref
     }
 }
 
-// The job of matches.
+// Returns the job of matches.
 fn job_in(alloc: Global, matches: &ArgMatches<'_>) -> Result<Job, Refusal<WordsRefused>>
     ensures value { Answers (job_in (rows_of (found_of matches.now))) result }
     ensures range { IfOk result IsInRange }
@@ -87,7 +87,12 @@ fn job_in(alloc: Global, matches: &ArgMatches<'_>) -> Result<Job, Refusal<WordsR
     })
 }
 
-/// What the words after the program's name ask. They are refused exactly where `clap` refuses them for another cause than memory.
+/// Returns the job of the words after the program's name.
+///
+/// # Errors
+///
+/// - `Fault`: `clap` finds a fault in the words.
+/// - `NoMemory`: out of memory.
 pub fn read_words(alloc: Global, words: &[String]) -> Result<Job, Refusal<WordsRefused>>
     ensures value { Answers (job_of_words (map string_bytes words.now)) result }
     ensures range { IfOk result IsInRange }

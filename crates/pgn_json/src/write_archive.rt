@@ -14,8 +14,8 @@ use pgn_reader::first_bytes_decide;
 use std::alloc::Global;
 use std::thread::Threads;
 
-/// Has a writer of games write those of the archive that `source` has left, of which so many bytes are the limit, from 1 to 2^40, and
-/// writes a report over them.
+/// Reads the archive that `source` has left, writes its games by a writer of games, and then a report. The archive may have so many bytes
+/// as the limit, from 1 to 2^40.
 pub(crate) fn write_archive<R: Threads + Sync, S: Source, O: Sink, E: Sink>(
     writer: GameWriter<'_, R>,
     limit: u64,

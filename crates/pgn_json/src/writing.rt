@@ -1,5 +1,5 @@
-//! Writing what there is of some games of a batch. Lines go to the sink by pages, so that a short game is no call of its own, and a long
-//! one is not copied.
+//! The writer of the texts of some games of a batch. Lines go to the sink by pages, so that a short game needs no call of its own, and a
+//! long one is not copied.
 ghost use Rattle.std.specs.Prelude.{◌≡◌, ◌++◌, ◌≤◌, ◌^◌, [], ℕ, List, IfOk, OnOk};
 ghost use Rattle.pgn_json.specs.Internal.Pages.{Adds, WaitsOf, WritesText};
 ghost use Rattle.pgn_json.specs.Internal.Parts.{part_at};
@@ -14,11 +14,16 @@ use cq_outside::{Sink, write_all_of};
 use std::alloc::Global;
 use std::thread::Threads;
 
-/// From how many bytes on what waits is written.
+/// The number of waiting bytes from which on they are written.
 const PAGE: usize = 65_536;
 
-/// Writes what there is of a part of a batch, made by so many workers, from 1 to 64, which is a condition. Answers how many of its games
-/// are faulty. Refusals: `WriteFault`, `NoMemory`; a front of what is due may then be written.
+/// Writes the texts of a part of a batch, made by so many workers, from 1 to 64, which is a condition. Returns the number of its faulty
+/// games.
+///
+/// # Errors
+///
+/// - `WriteFault`: a write failed. A prefix of the texts may be written.
+/// - `NoMemory`: out of memory. A prefix of the texts may be written.
 pub(crate) fn write_part<R: Threads + Sync, O: Sink, E: Sink>(
     rt: &R,
     alloc: Global,
@@ -48,7 +53,7 @@ pub(crate) fn write_part<R: Threads + Sync, O: Sink, E: Sink>(
     }
 }
 
-// The lines of the faulty games, one after the other, and how many these are.
+// Returns the lines of the faulty games, one after the other, and the number of these games.
 fn joined_faults(alloc: Global, texts: &[Texts]) -> Result<(Bytes, u64), NoMemory>
     requires { all_faulty texts.now ≤ 2 ^ 32 }
     ensures { IfOk result (λ r. (r.0 ≡ all_faults texts.now) × (r.1 ≡ all_faulty texts.now)) }
@@ -76,7 +81,7 @@ fn write_lines<O: Sink>(alloc: Global, texts: &[Texts], out: &mut O) -> Result<(
     write_page(&mut page, out)
 }
 
-// Adds a text to what waits, which is written once it fills a page. A text that has as many bytes alone is not copied.
+// Adds a text to the waiting bytes, which are written once they fill a page. A text that fills a page alone is not copied.
 fn add_text<O: Sink>(page: &mut Vec<u8>, text: &[u8], out: &mut O) -> Result<(), Refusal<Failed>>
     ensures { (was : SinkView) (before : List ℕ) → WaitsOf before was (view_of O.taken O.faults out.old) page.old.items
         → Adds (before ++ text.now) was (view_of O.taken O.faults out.new) page.new.items result }
@@ -94,7 +99,7 @@ fn add_text<O: Sink>(page: &mut Vec<u8>, text: &[u8], out: &mut O) -> Result<(),
     write_page(page, out)
 }
 
-// Writes what waits, and then a text.
+// Writes the waiting bytes, and then a text.
 fn write_long<O: Sink>(page: &mut Vec<u8>, text: &[u8], out: &mut O) -> Result<(), Refusal<Failed>>
     ensures { (was : SinkView) (before : List ℕ) → WaitsOf before was (view_of O.taken O.faults out.old) page.old.items
         → Adds (before ++ text.now) was (view_of O.taken O.faults out.new) page.new.items result }
@@ -109,7 +114,7 @@ fn write_long<O: Sink>(page: &mut Vec<u8>, text: &[u8], out: &mut O) -> Result<(
     }
 }
 
-// Writes what waits.
+// Writes the waiting bytes.
 fn write_page<O: Sink>(page: &mut Vec<u8>, out: &mut O) -> Result<(), Refusal<Failed>>
     ensures adds { (was : SinkView) (before : List ℕ) → WaitsOf before was (view_of O.taken O.faults out.old) page.old.items
         → Adds before was (view_of O.taken O.faults out.new) page.new.items result }

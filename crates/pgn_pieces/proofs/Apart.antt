@@ -17,7 +17,7 @@ use Rattle.pgn_pieces.specs.declared.piece.PieceStart.{PieceStart}
 use Rattle.pgn_pieces.proofs.Fills.{end_append, long_end, next_from, full_end, order_after, end_not_before}
 use Rattle.pgn_pieces.proofs.Streams.{Order}
 
--- what the law of seams says
+-- the claim of the law of seams
 abbrev pub Seams : Type 0
 Seams = (archive : List ℕ) (before : List Span) (game : Span) (after : List Span) → cut archive ≡ before ++ game ∷ after → IsSeam archive before game after
 
@@ -54,13 +54,13 @@ last_of n here there (g ∷ games) (m ∷ fewer) last moved =
     let rest = last_of n here there games fewer last moved.1 in
     record { fewer = g ∷ rest.fewer; game = rest.game; are = ap (λ l. g ∷ l) rest.are; ends = rest.ends }
 
--- a part of a text's front is one of the text
+-- a part of a prefix of a text is one of the text
 part_of_front : (front more : List ℕ) (from to : ℕ) → from ≤ to → to ≤ length front → slice_range (front ++ more) from to ≡ slice_range front from to
 part_of_front front more from to low high =
     ap (take (to - from)) (drop-append-le from front more (omega (arith, low, high)))
     ∙ take-append-le (to - from) (drop from front) more (let len = length-drop from front in omega (arith, len, low, high))
 
--- games of a text's front are moved alike
+-- games of a prefix of a text are moved alike
 moved_in_front : (n : ℕ) (front more there : List ℕ) (from to : ℕ) (games others : List Span) → to ≤ length front → AreSpansInOrder from to games
     → AreMovedGames n (front ++ more) there games others → AreMovedGames n front there games others
 moved_in_front n front more there from to [] [] high order moved = tt
@@ -78,12 +78,12 @@ moved_in_front n front more there from to (g ∷ games) (m ∷ others) high orde
 
 -- ---- one piece
 
--- where the games before a piece end
+-- the end of the games before a piece
 abbrev IsBehind : List Span → ℕ → Type 0
 IsBehind before from = ((before ≡ []) × (from ≡ 0)) ⊎ ((xs : List Span) × (g : Span) × (before ≡ xs ++ g ∷ []) × (from ≡ g.end) × (0 < from))
 
 module _ (seams : Seams) (order : Order) (archive : List ℕ) where
-  -- what stands after a seam up to the end of one of its games, cut by itself
+  -- the bytes after a seam up to the end of one of its games, cut by itself
   between : (xs : List Span) (g : Span) (fewer : List Span) (last : Span) (others : List Span) → 0 < g.end → g.end < last.end
       → cut archive ≡ xs ++ g ∷ ((fewer ++ last ∷ []) ++ others)
       → AreMovedGames (g.end - 1) (space ∷ take (last.end - g.end) (drop g.end archive)) archive (cut (space ∷ take (last.end - g.end) (drop g.end archive))) (fewer ++ last ∷ [])
@@ -139,7 +139,7 @@ module _ (seams : Seams) (order : Order) (archive : List ℕ) where
   abbrev AreApart : List Piece → Type 0
   AreApart ps = AllByRecursion (HasItsGames archive) ps
 
-  -- the pieces after some games: the full ones, and then those that `later` gives of where they stop
+  -- the pieces after some games: the full ones, and then those that `later` gives of the place at which they stop
   full_apart : (least : ℕ) → 0 < least → (here : PieceStart) (games : List Span) (ps : List Piece) (stop : PieceStart) (before tail : List Span) (more : List Piece) → AreFull least here games ps stop
       → cut archive ≡ before ++ (games ++ tail) → here.first ≡ length before + 1 → IsBehind before here.from
       → ((behind : List Span) → cut archive ≡ behind ++ tail → stop.first ≡ length behind + 1 → IsBehind behind stop.from → AreApart more)
@@ -196,7 +196,7 @@ module _ (seams : Seams) (order : Order) (archive : List ℕ) where
   )
   last_apart stop behind rest are first is_behind (inr none) = rw (le-ltb stop.from (length archive) none) tt
 
-  -- pieces are asked to have a byte at least, since the last games would else be short of none
+  -- pieces have at least one byte, since the last games would else be short of none
   some_least : (least : ℕ) (pieces : List Piece) → ArePieces least archive pieces → 0 < least
   some_least least pieces are =
       let f = are.fill in

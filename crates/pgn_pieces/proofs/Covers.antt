@@ -11,12 +11,12 @@ use Rattle.pgn_pieces.specs.declared.piece.Piece.{Piece}
 use Rattle.pgn_pieces.specs.declared.piece.PieceStart.{PieceStart}
 use Rattle.pgn_pieces.proofs.Streams.{Order, both_none, no_games}
 
--- a piece and what stands after it
+-- a piece and the bytes after it
 piece_and_rest : (archive : List ℕ) (p : Piece) → piece_bytes archive p ++ drop (after p).from archive ≡ drop p.offset archive
 piece_and_rest archive p =
     ap (λ (l : List ℕ). piece_bytes archive p ++ l) (sym (drop-drop p.length p.offset archive)) ∙ take-append-drop p.length (drop p.offset archive)
 
--- full pieces are what stands before the place where they stop
+-- full pieces are the bytes before the place at which they stop
 full_cover : (least : ℕ) (archive : List ℕ) (here : PieceStart) (games : List Span) (ps : List Piece) (stop : PieceStart) → AreFull least here games ps stop
     → flat_map (piece_bytes archive) ps ++ drop stop.from archive ≡ drop here.from archive
 unfolding AreFull

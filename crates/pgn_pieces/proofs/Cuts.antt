@@ -1,4 +1,4 @@
--- One read more, and what it comes to.
+-- One read more, and its result.
 use Rattle.std.proofs.Common.{◌≡◌, ℕ, ◌+◌, ◌<◌, ◌≤◌, ◌^◌, List, [], ◌++◌, length, take, drop, Option, None, Some, refl, sym, subst, ap, ◌∙◌, arith, append_assoc, inl, inr}
 use Rattle.std.proofs.Math.Seq.{take-add, drop-append_seam}
 use Rattle.std.proofs.lemmas.List.{append-nil, length-append, take_all, take_at}
@@ -41,7 +41,7 @@ kept None b keeps = tt
 kept (Some xs) None keeps = absurd keeps
 kept (Some xs) (Some ys) keeps = sym keeps
 
--- a text, and a front of another after it
+-- a text, and a prefix of another after it
 take_on : (xs ys : List ℕ) (k : ℕ) → take (length xs + k) (xs ++ ys) ≡ xs ++ take k ys
 take_on xs ys k =
     take-add (length xs) k (xs ++ ys) ∙ ap (λ (l : List ℕ). l ++ take k (drop (length xs) (xs ++ ys))) (take_at xs ys (length xs) refl)
@@ -87,7 +87,7 @@ read_failed least count was mid now p cut keeps rose same writes =
       writes ∙ cut.writes,
     )
 
--- no memory for what was read
+-- out of memory for the bytes read
 pub read_lost : (least count : ℕ) (was mid now : Pipe) (p : Pieces) (bytes : List ℕ) → length bytes ≤ 65536 → HasCut least count was mid p → Consumes mid.left now.left bytes
     → now.read_faults ≡ mid.read_faults → now.taken ≡ mid.taken → now.write_faults ≡ mid.write_faults → Says NoMemory least was now
 read_lost least count was mid now p bytes few cut takes reads same writes = (
@@ -128,7 +128,7 @@ read_more least count n was mid now p q bytes text cut takes reads fed least_ lo
   writes = faults ∙ cut.writes;
 }
 
--- a front of the lines that were due was written
+-- a prefix of the lines that were due was written
 front_written : (was mid now : Option (List ℕ)) (pieces more : List Piece) (text : List ℕ) (k : ℕ) → Grew was mid (table pieces) → text ≡ table more → Grew mid now (take k text)
     → Grew was now (take (length (table pieces) + k) (table (pieces ++ more)))
 front_written was mid now pieces more text k before is after =

@@ -12,7 +12,7 @@ use Rattle.pgn_pieces.specs.declared.piece.Piece.{Piece}
 use Rattle.pgn_pieces.specs.declared.piece.PieceStart.{PieceStart}
 use Rattle.pgn_pieces.specs.declared.state.OpenPiece.{OpenPiece}
 
--- where games end after others
+-- the end of games after others
 pub end_append : (from : ℕ) (xs ys : List Span) → end_of from (xs ++ ys) ≡ end_of (end_of from xs) ys
 end_append from xs ys = fold-append (λ (place : ℕ) (game : Span). game.end) from xs ys
 

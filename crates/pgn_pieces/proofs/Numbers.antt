@@ -1,4 +1,4 @@
--- What a text is read as, where it writes a number from 1 to 2^40.
+-- The value of a text that spells a number from 1 to 2^40.
 use Rattle.std.proofs.Common.{ℕ, List, Bool, true, false, Some, None, ◌≡◌, ◌≤◌, ◌<◌, ◌^◌, refl, ap, sym}
 use Rattle.std.specs.Prelude.{if◌then◌else◌}
 use Rattle.std.specs.Str.Parse.{IsNumeral, digits_value, without_leading_plus}
@@ -20,7 +20,7 @@ none_by : (b : Bool) (m : ℕ) → (b ≡ true → ⊥) → None ≡ (if b then 
 none_by true m never = absurd (never refl)
 none_by false m never = refl
 
--- a number that was read and lies in the range
+-- a number that was read and is in the range
 pub number_read : (text : List ℕ) (n : ℕ) → IsNumber text × (n ≡ digits_value 10 (without_leading_plus text)) → 1 ≤ n → n ≤ 1099511627776
     → Some n ≡ number_of text
 number_read text n read low high =

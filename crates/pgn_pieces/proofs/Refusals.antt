@@ -1,4 +1,4 @@
--- What `clap` says of the words.
+-- The words of which `clap` returns an error.
 use Rattle.std.proofs.Common.{rules, ◌≡◌, ◌↔◌, List, [], ◌∷◌, true, Option, None, Err, if◌then◌else◌, refl, sym, subst, ap, inl, inr}
 use Rattle.clap.specs.Words.{App, HasKind, HasMatchesOf, Kinds, Text, fault_of, found_of, is_simple, is_simple_and_free, kind_of, matches_of, rows_of}
 use Rattle.clap.specs.Walk.{is_empty}
@@ -24,7 +24,7 @@ only_memory [] e (inl memory) empty = memory
 only_memory [] e (inr none) empty = absurd none
 only_memory (k ∷ ks) e h empty = cc
 
--- out of memory is answered of an error of that kind alone
+-- `NoMemory` is returned for an error of that kind alone
 pub refused_words : (a : App) (words : List Text) (e : Error) (refusal : Refusal WordsRefused) → a ≡ line
     → (is_simple_and_free a ≡ true → HasKind (fault_of a words) e) → ((refusal ≡ NoMemory) ↔ (kind_of e ≡ OutOfMemory)) → IsRefused words refusal
 refused_words a words e NoMemory is kinds memory = tt
@@ -36,7 +36,7 @@ none_asked : (faults : Kinds) (job : Option Job) → (faults ≡ [] → ⊥) →
 none_asked [] job never = absurd (never refl)
 none_asked (k ∷ ks) job never = search rules
 
--- words that are refused ask for no job
+-- words that are no command name no job
 pub asks_for_none : (words : List Text) (refusal : Refusal WordsRefused) → IsRefused words refusal → Answers (job_of_words words) (Err refusal)
 asks_for_none words NoMemory is = tt
 asks_for_none words (Fault refused) is = none_asked (fault_of line words) (job_in (matches_of line words)) is

@@ -16,7 +16,7 @@ use Rattle.pgn_pieces.specs.declared.state.OpenPiece.{OpenPiece}
 use Rattle.pgn_pieces.specs.declared.state.Pieces.{Pieces}
 use Rattle.pgn_pieces.proofs.Fills.{end_append, full_end, order_after, order_before}
 
--- what the laws of the cut say
+-- the claims of the laws of the cut
 
 abbrev pub Grow : Type 0
 Grow = (front more : List ℕ) → (rest : List Span) × (closed (front ++ more) ≡ closed front ++ rest)
@@ -88,7 +88,7 @@ stands_for_none whole_ order p cutter taken shows = record {
   shows = subst (λ (gs : List Span). Shows p.least p.open_piece gs []) (sym (closed_none whole_ order)) shows;
 }
 
--- what holds of a success
+-- the clause of a success
 pub on_ok : {T E : Type 0} {A B : Type 0} (result : Result T E) → (A → B) → OnOk result A → OnOk result B
 on_ok (Ok x) f a = f a
 on_ok (Err e) f a = tt

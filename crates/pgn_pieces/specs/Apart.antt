@@ -12,7 +12,7 @@ abbrev pub IsCutInto : List ℕ → (bytes : List ℕ) → (offset : ℕ) → Li
 IsCutInto archive bytes zero games = cut bytes ≡ games
 IsCutInto archive bytes (suc before) games = AreMovedGames before (space ∷ bytes) archive (cut (space ∷ bytes)) games
 
--- By itself a piece has exactly its games: as many as it says, from the number on that it says, among those of the archive.
+-- By itself a piece has exactly its games: so many as its count, from its first number on, among those of the archive.
 pub record HasItsGames (archive : List ℕ) (p : Piece) : Type 0 where
   pub before : List Span
   pub games : List Span

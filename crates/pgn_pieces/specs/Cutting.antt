@@ -1,4 +1,4 @@
--- What is read of an archive, and what is written of its pieces.
+-- The bytes that are read of an archive, and the lines that are written of its pieces.
 use Rattle.std.specs.Prelude.{◌≡◌, ◌⊎◌, ℕ, ◌<◌, ◌≤◌, ◌+◌, List, [], ◌++◌, length, take, Option, ◌^◌}
 use Rattle.std.specs.Io.KnownBytes.{Consumes, IsAtEnd}
 use Rattle.cq_outside.specs.Faults.{Rose}
@@ -11,8 +11,8 @@ use Rattle.pgn_pieces.specs.declared.state.Pieces.{Pieces}
 use Rattle.pgn_pieces.specs.declared.status.Status.{Status}
 use Rattle.pgn_pieces.specs.declared.status.Status.TheVariants.{Done, ReadFault, WriteFault, NoMemory, ArchiveTooLong}
 
--- A source and a sink at one moment: the bytes that are left and those that are taken, where these are told, and the counts of reads and
--- writes that failed.
+-- A source and a sink at one moment: the bytes that are left and those that are taken, if these are told, and the counts of failed reads
+-- and writes.
 pub record Pipe : Type 0 where
   pub left : Option (List ℕ)
   pub read_faults : ℕ
@@ -61,8 +61,8 @@ pub record WritesFirst (least : ℕ) (was now : Pipe) (front : List ℕ) : Type 
   pub are : ArePrefixPieces least front pieces
   pub moves : Moves was now front (table pieces)
 
--- Some first bytes were read, and then these; a front of the lines of the pieces that are full with the first ones was written, or of all
--- the lines of an archive that was read to its end.
+-- Some first bytes were read, and then these. A prefix was written of the lines of the pieces that are full with the first ones. Or the
+-- archive was read to its end, and a prefix of all its lines was written.
 pub record WritesPart (least : ℕ) (was now : Pipe) (later : List ℕ) : Type 0 where
   pub front : List ℕ
   pub pieces : List Piece
@@ -70,7 +70,7 @@ pub record WritesPart (least : ℕ) (was now : Pipe) (later : List ℕ) : Type 0
   pub count : ℕ
   pub moves : Moves was now (front ++ later) (take count (table pieces))
 
--- what each status says
+-- the promise of each status
 abbrev pub Says : Status → ℕ → Pipe → Pipe → Type 0
 Says Done least was now = WritesTable least was now × NoReadFailed was now × NoWriteFailed was now
 Says ReadFault least was now =

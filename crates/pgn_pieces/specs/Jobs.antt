@@ -1,4 +1,4 @@
--- What the command words ask.
+-- The job that the command words name.
 use Rattle.std.specs.Prelude.{◌≡◌, ℕ, List, [], Option, Some, None, Result, Ok, Err, codes, if◌then◌else◌}
 use Rattle.std.specs.Prelude.{option_map, option_and_then}
 use Rattle.std.specs.Str.Parse.{digits_value, without_leading_plus}
@@ -14,7 +14,7 @@ use Rattle.pgn_pieces.specs.declared.job.Job.{Job}
 use Rattle.pgn_pieces.specs.declared.job.WordsRefused.{WordsRefused}
 use Rattle.pgn_pieces.specs.Line.{line}
 
--- the number from 1 to 2^40 that a text writes; none of a text that writes none
+-- the number from 1 to 2^40 that a text spells; none if it spells none
 abbrev pub number_of : Text → Option ℕ
 number_of text = if is_unsigned_in 1 1099511627776 text then Some (digits_value 10 (without_leading_plus text)) else None
 
@@ -23,11 +23,11 @@ abbrev pub job_in : List Row → Option Job
 job_in rows = option_and_then (λ archive. option_map (λ least. record { archive = archive; least = least })
     (option_and_then number_of (first_of (codes "bytes") rows))) (first_of (codes "archive") rows)
 
--- the job of words of which `clap` promises matches; none of words that it promises to refuse
+-- the job of words of which `clap` promises matches; none if it promises a fault
 abbrev pub job_of_words : List Text → Option Job
 job_of_words words = if is_empty (fault_of line words) then job_in (matches_of line words) else None
 
--- what a call answers about a job that is asked, or about none: the job, a refusal of the words, or out of memory
+-- the result of a call on the words of a job, or of none: the job, `WordsRefused`, or out of memory
 abbrev pub Answers : Option Job → Result Job (Refusal WordsRefused) → Type 0
 Answers asked (Ok found) = asked ≡ Some found
 Answers asked (Err (Fault refused)) = asked ≡ None

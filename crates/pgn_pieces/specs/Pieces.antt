@@ -1,11 +1,11 @@
--- How an archive is cut into pieces, each of which ends with a game.
+-- The cut of an archive into pieces, each of which ends with a game.
 use Rattle.std.specs.Prelude.{◌≡◌, ℕ, ◌+◌, ◌-◌, ◌≤◌, ◌<◌, List, [], ◌∷◌, ◌++◌, length, take, drop, fold, nat_lt, if◌then◌else◌}
 use Rattle.pgn_cut.specs.Cut.{cut, closed}
 use Rattle.pgn_cut.specs.declared.span.Span.{Span}
 use Rattle.pgn_pieces.specs.declared.piece.Piece.{Piece}
 use Rattle.pgn_pieces.specs.declared.piece.PieceStart.{PieceStart}
 
--- where some games end of which the first begins at a place, or after it
+-- the end of some games of which the first begins at a place, or after it
 abbrev pub end_of : ℕ → List Span → ℕ
 end_of from games = fold (λ place game. game.end) from games
 
@@ -25,11 +25,11 @@ piece_to begin to games = record { number = begin.number; offset = begin.from; l
 abbrev pub piece_bytes : List ℕ → Piece → List ℕ
 piece_bytes archive p = take p.length (drop p.offset archive)
 
--- where the piece after a piece begins
+-- the start of the piece after a piece
 abbrev pub after : Piece → PieceStart
 after p = record { number = p.number + 1; from = p.offset + p.length; first = p.first + p.games }
 
--- where the first piece begins
+-- the start of the first piece
 abbrev pub start : PieceStart
 start = record { number = 1; from = 0; first = 1 }
 
@@ -52,7 +52,7 @@ pub record ArePrefixPieces (least : ℕ) (front : List ℕ) (pieces : List Piece
   pub stop : PieceStart
   pub fill : Fill least (closed front) pieces stop
 
--- What is left of an archive of so many bytes is one piece more, where it has a byte.
+-- The rest of an archive of so many bytes is one piece more, if it has a byte.
 abbrev pub last_piece : PieceStart → (total games : ℕ) → List Piece
 last_piece stop total games = if nat_lt stop.from total then piece_to stop total games ∷ [] else []
 

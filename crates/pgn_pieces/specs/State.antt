@@ -1,4 +1,4 @@
--- What is kept while an archive is cut into pieces.
+-- The state of a cut of an archive into pieces.
 use Rattle.std.specs.Prelude.{◌≡◌, ℕ, List, ◌++◌, length}
 use Rattle.pgn_cut.specs.Cut.{closed}
 use Rattle.pgn_cut.specs.Streams.{Stands as CutterStands}

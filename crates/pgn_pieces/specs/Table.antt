@@ -3,7 +3,7 @@ use Rattle.std.specs.Prelude.{ℕ, List, ◌++◌, codes, decimal}
 use Rattle.std.specs.List.{flat_map}
 use Rattle.pgn_pieces.specs.declared.piece.Piece.{Piece}
 
--- its number, its first byte, how many bytes it has, its first game, and how many games it has
+-- the line of a piece: its number, its first byte, the number of its bytes, its first game, and the number of its games
 abbrev pub line : Piece → List ℕ
 line p =
     decimal p.number ++ codes " " ++ decimal p.offset ++ codes " " ++ decimal p.length ++ codes " " ++ decimal p.first ++ codes " "

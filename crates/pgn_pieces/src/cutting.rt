@@ -1,4 +1,4 @@
-//! Cutting the archive that a source has left, and writing the table as its pieces come.
+//! The cut of the archive that a source has left, and the table of its pieces.
 ghost use Rattle.std.specs.Prelude.{◌≡◌, ◌+◌, ◌<◌, ◌≤◌, ◌^◌, ℕ, List, Option, length, IfOk, IfErr};
 ghost use Rattle.std.specs.Io.KnownBytes.{IsAtEnd};
 ghost use Rattle.pgn_pieces.specs.State.{Stands};
@@ -12,10 +12,10 @@ use cq_common::Bytes;
 use cq_outside::{Sink, Source, read_piece, write_all_of};
 use std::alloc::Global;
 
-/// How many bytes one read is given room for.
+/// The bytes of a buffer for one read.
 const ROOM: usize = 65_536;
 
-// One read, and the lines of the pieces that are full with it. Answers how many bytes it took, none only at the end.
+// Reads once, and writes the lines of the pieces that are full with it. Returns the number of bytes read, which is zero only at the end.
 fn turn<S: Source, O: Sink>(
     alloc: Global,
     source: &mut S,
@@ -51,7 +51,7 @@ fn turn<S: Source, O: Sink>(
     }
 }
 
-// The lines of the last pieces, at the archive's end.
+// Writes the lines of the last pieces, at the archive's end.
 fn end<O: Sink>(alloc: Global, pieces: Pieces, out: &mut O) -> Status
     requires { (front : List ℕ) × (before : List APiece) × Stands pieces front before × (length front < 2 ^ 62) }
     ensures { (least count faults : ℕ) (left : Option (List ℕ)) (was : Pipe) → IsAtEnd left → count ≤ 2 ^ 40
@@ -70,14 +70,14 @@ fn end<O: Sink>(alloc: Global, pieces: Pieces, out: &mut O) -> Status
     }
 }
 
-/// Writes the table of the pieces of the archive that `source` has left, each of at least `least` bytes but for the last, from 1 to 2^40.
-/// The lines of a piece are written once it is long enough, and none of the archive's bytes are kept.
+/// Writes the table of the pieces of the archive that `source` has left. Each piece but the last has at least `least` bytes, from 1 to
+/// 2^40. The lines of a piece are written once it is long enough. None of the archive's bytes are kept.
 ///
-/// Answers:
+/// Returns:
 /// - `Done`: the archive was read to its end, and the whole table is written.
 /// - `ReadFault`: a read failed, and no write. The lines of the pieces that are long enough by then are written.
-/// - `WriteFault`: a write failed, and no read. A front of the table is written.
-/// - `NoMemory`: no memory was found, and nothing failed. A front of the table is written.
+/// - `WriteFault`: a write failed, and no read. A prefix of the table is written.
+/// - `NoMemory`: out of memory, and nothing failed. A prefix of the table is written.
 /// - `ArchiveTooLong`: more than 2^40 bytes were read, at most 65,536 more, and nothing failed. The lines of the pieces that are long
 ///   enough are written.
 pub(crate) fn cut<S: Source, O: Sink>(

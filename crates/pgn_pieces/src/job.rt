@@ -1,10 +1,10 @@
-//! What the command words ask.
+//! The job that the command words name.
 use cq_common::Bytes;
 
-/// The greatest number of bytes that a piece may be asked to have, and the most that an archive may have.
+/// The greatest `least` number of bytes of a piece, and the most bytes of an archive.
 pub(crate) const BYTES_LIMIT: u64 = 1_099_511_627_776;
 
-/// To write the table of the pieces of the archive in the file `archive`, each of at least `least` bytes but for the last.
+/// Writes the table of the pieces of the archive in the file `archive`, each of at least `least` bytes but for the last.
 #[derive(Debug, PartialEq, Eq, Drop)]
 pub struct Job {
     pub archive: Bytes,
@@ -12,6 +12,6 @@ pub struct Job {
     pub least: u64,
 }
 
-/// The words ask for nothing that the program does.
+/// The words are no command of the program.
 #[derive(Clone, Copy, Debug, PartialEq, Eq)]
 pub struct WordsRefused;

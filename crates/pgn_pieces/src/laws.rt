@@ -1,4 +1,4 @@
-//! Laws of the pieces, for the crates above. Each is proved for all archives; to call one costs nothing.
+//! Laws of the pieces, for the crates above. Each is proved for all archives; a call has no cost.
 ghost use Rattle.std.specs.Prelude.{◌≡◌, ℕ, List, []};
 ghost use Rattle.std.specs.List.{flat_map, AllByRecursion};
 ghost use Rattle.pgn_pieces.specs.Apart.{HasItsGames};
@@ -16,7 +16,7 @@ pub fn pieces_cover_their_archive()
     games_stand_apart();
 }
 
-/// Each piece, cut by itself, has exactly its games, with the numbers that it says: the first as it is, any other after one space.
+/// Each piece, cut by itself, has exactly the games that its numbers say: the first piece as it is, any other after one space.
 pub fn pieces_have_their_games()
     ensures { (least : ℕ) (archive : List ℕ) (pieces : List APiece) → ArePieces least archive pieces →
         AllByRecursion (HasItsGames archive) pieces }

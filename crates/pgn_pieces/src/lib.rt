@@ -1,8 +1,8 @@
 //! The pieces of an archive, and the top call of `pgnpieces`. An archive is cut at ends of games, so each piece can be searched by itself.
 //!
-//! A piece begins where the one before ends, and ends with the first game with which it has at least the bytes that are asked for; the
-//! last one has the rest. The laws say that the pieces, one after the other, are the archive, and that each of them, cut by itself,
-//! has exactly its games: the first as it is, any other after one space.
+//! A piece begins at the end of the one before. It ends with the first game with which it has the required bytes; the last piece has the
+//! rest. The laws say that the pieces, one after the other, are the archive. Each of them, cut by itself, has exactly its games: the first
+//! piece as it is, any other after one space.
 #![tactic(auto)]
 
 mod cutting;

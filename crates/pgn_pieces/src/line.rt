@@ -8,7 +8,7 @@ use clap::builder::ValueParser;
 use clap::{Arg, Command};
 use std::alloc::{AllocError, Global};
 
-// A word that has to be there, by its place.
+// A required word, by its place.
 fn word<'a>(alloc: Global, id: &'a str) -> Arg<'a>
     ensures rule { rule_of result ≡ word id.now }
     ensures local { result.global ≡ false }

@@ -2,22 +2,22 @@
 ghost use Rattle.std.specs.Prelude.{◌≡◌, ◌≤◌, ◌<◌, ◌^◌};
 ghost use Rattle.pgn_pieces.specs.Pieces.{start, piece_to, after};
 
-/// A piece of an archive. Numbers count from 1, bytes from the archive's first one, at 0.
+/// A piece of an archive. Numbers count from 1, and bytes from 0, the archive's first byte.
 #[derive(Clone, Copy, Debug, PartialEq, Eq)]
 pub struct Piece {
     /// Its number.
     pub number: u64,
     /// The place of its first byte.
     pub offset: u64,
-    /// How many bytes it has.
+    /// The number of its bytes.
     pub length: u64,
-    /// The number of its first game, or of the next one where it has no game.
+    /// The number of its first game, or of the next one if it has no game.
     pub first: u64,
-    /// How many games it has.
+    /// The number of its games.
     pub games: u64,
 }
 
-/// Where a piece begins: its number, the place of its first byte, and the number of its first game.
+/// The start of a piece: its number, the place of its first byte, and the number of its first game.
 #[derive(Clone, Copy)]
 pub(crate) struct PieceStart {
     pub(crate) number: u64,
@@ -26,7 +26,7 @@ pub(crate) struct PieceStart {
 }
 
 impl PieceStart {
-    /// Where the first piece begins.
+    /// Returns the start of the first piece.
     pub(crate) fn start() -> PieceStart
         ensures { result ≡ start }
     {
@@ -37,7 +37,7 @@ impl PieceStart {
         }
     }
 
-    /// The piece that begins here, ends before the place `to` and has so many games.
+    /// Returns the piece that begins here, ends before the place `to` and has so many games.
     pub(crate) fn piece_to(self, to: u64, games: u64) -> Piece
         requires { self.from ≤ to }
         ensures { result ≡ piece_to self to games }
@@ -53,7 +53,7 @@ impl PieceStart {
 }
 
 impl Piece {
-    /// Where the piece after this one begins.
+    /// Returns the start of the piece after this one.
     pub(crate) fn after(self) -> PieceStart
         requires numbers { (self.number < 2 ^ 62) × (self.first < 2 ^ 62) × (self.games < 2 ^ 62) }
         requires bytes { (self.offset < 2 ^ 62) × (self.length < 2 ^ 62) }

@@ -1,4 +1,4 @@
-//! The pieces of an archive that comes bit by bit.
+//! The pieces of an archive that is fed in parts.
 ghost use Rattle.std.specs.Prelude.{◌≡◌, ◌+◌, ◌++◌, ◌<◌, ◌≤◌, ◌^◌, [], ◌∷◌, ℕ, List, length, OnOk, OnErr, IfOk};
 ghost use Rattle.pgn_cut.specs.Spans.{AreSpansInOrder};
 ghost use Rattle.pgn_pieces.specs.Pieces.{last_piece};
@@ -14,7 +14,7 @@ use pgn_cut::{Cutter, Span, closed_games_stay, games_stand_apart};
 use std::alloc::Global;
 
 impl OpenPiece {
-    // Nothing of an archive was taken.
+    // Returns the open piece before any byte was taken.
     fn new() -> OpenPiece
         ensures shows { (least : ℕ) → 0 < least → Shows least result [] [] }
         ensures end { result.end ≡ 0 }
@@ -26,7 +26,7 @@ impl OpenPiece {
         }
     }
 
-    // One game more, and the line of the piece where it is long enough with it.
+    // Returns the open piece with one game more. Adds the line of the piece if it is long enough with it.
     fn with(self, game: Span, least: u64, text: &mut Bytes) -> Result<OpenPiece, NoMemory>
         requires order { (self.end < game.end) × (game.end < 2 ^ 62) }
         ensures adds { IfOk result (λ now. AddsGames least self now (game ∷ []) text.old text.new) }
@@ -49,7 +49,7 @@ impl OpenPiece {
         })
     }
 
-    // Adds the line of what is left of an archive of so many bytes, where something is left.
+    // Adds the line of the rest of an archive of so many bytes, if there is a rest.
     fn push_last(self, total: u64, text: &mut Bytes) -> Result<(), NoMemory>
         ensures { OnOk result (text.new ≡ text.old ++ table (last_piece self.begin total self.games)) }
     {
@@ -60,7 +60,7 @@ impl OpenPiece {
     }
 }
 
-// The open piece after more games, and the lines of the pieces that are long enough with them.
+// Returns the open piece after more games. Adds the lines of the pieces that are long enough with them.
 fn add_all(
     open_piece: OpenPiece,
     games: &[Span],
@@ -78,7 +78,7 @@ fn add_all(
 }
 
 impl Pieces {
-    /// Nothing was taken of an archive whose pieces have at least `least` bytes, from 1 to 2^40.
+    /// Returns the pieces of an archive of which nothing was taken. Each is to have at least `least` bytes, from 1 to 2^40.
     pub fn new(alloc: Global, least: u64) -> Pieces
         requires { (1 ≤ least) × (least ≤ 2 ^ 40) }
         ensures stands { Stands result [] [] }
@@ -95,8 +95,12 @@ impl Pieces {
         }
     }
 
-    /// Takes the next bytes of the archive, and adds the lines of the pieces that are long enough with them. Fails only when out of
-    /// memory, and then nothing is taken or added. All bytes together are fewer than 2^62.
+    /// Takes the next bytes of the archive, and adds the lines of the pieces that are long enough with them. All bytes together are fewer
+    /// than 2^62.
+    ///
+    /// # Errors
+    ///
+    /// `NoMemory`: out of memory; nothing is taken or added.
     pub fn feed(&mut self, bytes: &[u8], text: &mut Bytes) -> Result<(), NoMemory>
         requires { (front : List ℕ) × (pieces : List APiece) × Stands self.old front pieces × (length front + length bytes.now < 2 ^ 62) }
         ensures takes { OnOk result (TakesBytes self.old self.new bytes.now text.old text.new) }
@@ -117,7 +121,11 @@ impl Pieces {
         Ok(())
     }
 
-    /// Adds the lines of the last pieces, at the archive's end. Fails only when out of memory, and then nothing is added.
+    /// Adds the lines of the last pieces, at the archive's end.
+    ///
+    /// # Errors
+    ///
+    /// `NoMemory`: out of memory; nothing is added.
     pub fn finish(mut self, text: &mut Bytes) -> Result<(), NoMemory>
         requires { (front : List ℕ) × (pieces : List APiece) × Stands self front pieces × (length front < 2 ^ 62) }
         ensures ends { OnOk result (ComesToEnd self text.old text.new) }

@@ -1,11 +1,11 @@
-//! What is kept while an archive is cut into pieces.
+//! The state of a cut of an archive into pieces.
 ghost use Rattle.std.specs.Prelude.{◌+◌, ◌-◌, ◌≤◌, ◌^◌};
 
 use crate::piece::PieceStart;
 use pgn_cut::Cutter;
 use std::alloc::Global;
 
-/// The piece that is not long enough yet: where it begins, how many closed games it has, and where the last of them ends.
+/// The piece that is not long enough yet: its start, the number of its closed games, and the end of the last of them.
 #[derive(Clone, Copy)]
 pub(crate) struct OpenPiece {
     pub(crate) begin: PieceStart,
@@ -16,7 +16,7 @@ pub(crate) struct OpenPiece {
     ghost few: { games ≤ end - begin.from },
 }
 
-/// The pieces of an archive that comes bit by bit, each of at least `least` bytes but for the last. None of the bytes are kept.
+/// The pieces of an archive that is fed in parts, each of at least `least` bytes but for the last. None of the bytes are kept.
 #[derive(Drop)]
 pub struct Pieces {
     pub(crate) alloc: Global,

@@ -1,13 +1,13 @@
-//! How a call of the program ends.
+//! The outcomes of a call of the program.
 ghost use Rattle.std.specs.Prelude.{◌≡◌};
 ghost use Rattle.pgn_pieces.specs.Status.{exit_code};
 
-/// How a call ended.
+/// The outcome of a call.
 #[derive(Clone, Copy, Debug, PartialEq, Eq)]
 pub enum Status {
     /// The whole table is written.
     Done,
-    /// The words are not those of a command.
+    /// The words are no command.
     WordsRefused,
     /// The archive could not be opened.
     OpenFault,
@@ -15,14 +15,14 @@ pub enum Status {
     ReadFault,
     /// A write failed.
     WriteFault,
-    /// No memory was found.
+    /// Out of memory.
     NoMemory,
     /// The archive has more than 2^40 bytes.
     ArchiveTooLong,
 }
 
 impl Status {
-    /// The program's exit status, by the numbers that `cqlpgn` has.
+    /// Returns the program's exit status, by the numbers of `cqlpgn`.
     pub fn exit_code(self) -> u8
         ensures { result ≡ exit_code self }
     {

@@ -6,7 +6,7 @@ use crate::piece::Piece;
 use cq_common::{Bytes, NoMemory};
 use itoa::Buffer;
 
-/// Adds the line of a piece: its number, its first byte, how many bytes it has, its first game, and how many games it has.
+/// Adds the line of a piece: its number, its first byte, the number of its bytes, its first game, and the number of its games.
 pub(crate) fn push_line(text: &mut Bytes, piece: Piece) -> Result<(), NoMemory>
     ensures { OnOk result (text.new ≡ text.old ++ line piece) }
 {
@@ -17,7 +17,7 @@ pub(crate) fn push_line(text: &mut Bytes, piece: Piece) -> Result<(), NoMemory>
     push_number(text, piece.games, b"\n")
 }
 
-// Adds a number and what separates it from the next.
+// Adds a number and its separator from the next.
 fn push_number(text: &mut Bytes, number: u64, separator: &[u8]) -> Result<(), NoMemory>
     ensures { OnOk result (text.new ≡ text.old ++ (decimal number ++ separator.now)) }
 {

@@ -12,28 +12,28 @@ use cq_common::{NoMemory, OpenFault, Refusal};
 use cq_outside::{Desk, Sink, write_all_of};
 use std::alloc::Global;
 
-/// The line that answers words that are refused.
+/// The line for words that are no command.
 const USAGE: &[u8] = b"usage: pgnpieces ARCHIVE BYTES\n";
 
-/// Answers the words of a command, those after the program's name: `ARCHIVE BYTES` writes the table of the pieces of the archive in the
-/// file ARCHIVE to `out`. Each piece ends with a game and has at least BYTES bytes, from 1 to 2^40, and at most one game more; the last one
-/// has what is left. The name `-` is standard input.
+/// Does the job that the words of a command name, those after the program's name. `ARCHIVE BYTES` writes the table of the pieces of the
+/// archive in the file ARCHIVE to `out`. Each piece ends with a game and has at least BYTES bytes, from 1 to 2^40, and at most one game
+/// more. The last piece has the rest. The name `-` is standard input.
 ///
-/// A line is `N OFFSET LENGTH FIRST GAMES`: the piece's number, from 1, its first byte, from 0, how many bytes it has, the number of its
-/// first game, from 1, and how many games it has. An archive without a byte has no line.
+/// A line is `N OFFSET LENGTH FIRST GAMES`. N is the piece's number, from 1, OFFSET its first byte, from 0, and LENGTH the number of its
+/// bytes. FIRST is the number of its first game, from 1, and GAMES the number of its games. An archive without a byte has no line.
 ///
-/// The archive is read in pieces of at most 65,536 bytes, of which none are kept, and a line is written once its piece is long enough.
+/// The archive is read in pieces of at most 65,536 bytes, of which none are kept. A line is written once its piece is long enough.
 ///
-/// Answers:
+/// Returns:
 /// - `Done`: the whole table is written.
-/// - `WordsRefused`: the words are others; the usage line is written to `err`.
+/// - `WordsRefused`: the words are no command; the usage line is written to `err`.
 /// - `OpenFault`: that count of the desk rose, and no other; nothing is written.
 /// - `ReadFault`: that count of the desk rose, and no other. The lines of the pieces that are long enough by then are written.
-/// - `WriteFault`: the count of one sink rose, and no other. It has taken a front of its text.
-/// - `NoMemory`: no memory was found, and no count rose; `out` has taken a front of the table.
-/// - `ArchiveTooLong`: more than 2^40 bytes were read, and at most 65,536 more; written is as much as after a failed read.
+/// - `WriteFault`: the count of one sink rose, and no other. It has taken a prefix of its text.
+/// - `NoMemory`: out of memory, and no count rose; `out` has taken a prefix of the table.
+/// - `ArchiveTooLong`: more than 2^40 bytes were read, and at most 65,536 more; as much is written as after a failed read.
 ///
-/// The clause `Promise` says of each what was read and written, and which count rose.
+/// The clause `Promise` defines for each the bytes that were read and written, and the count that rose.
 pub fn run<D: Desk, O: Sink, E: Sink>(
     alloc: Global,
     words: &[String],
@@ -69,8 +69,8 @@ fn refuse_words<E: Sink>(err: &mut E) -> Status
     }
 }
 
-/// Ends the program: answers the words after its name as `run` does, and gives the exit status. Words for which there was no memory
-/// end it with 7, and nothing is opened, read or written then.
+/// Ends the program: does the job of the words after its name as `run` does, and returns the exit status. Out of memory for the words, it
+/// is 7, and nothing is opened, read or written.
 pub fn answer_command<D: Desk, O: Sink, E: Sink>(
     alloc: Global,
     words: Result<Vec<String>, NoMemory>,

@@ -11,14 +11,14 @@ use clap::error::{Error, ErrorKind};
 use cq_common::{Bytes, Refusal};
 use std::alloc::Global;
 
-// The text of an argument, where it is given.
+// Returns the text of an argument, if it is given.
 fn text_of<'a>(matches: &ArgMatches<'a>, id: &str) -> Option<&'a str>
     ensures { option_map (λ text. text.now) result ≡ first_of id.now (rows_of (found_of matches.now)) }
 {
     matches.get_str(id)
 }
 
-// The number that a text writes; none where it writes no number from 1 to 2^40.
+// Returns the number that a text spells, or none if it spells no number from 1 to 2^40.
 fn number_of(text: &str) -> Option<u64>
     ensures value { result ≡ number_of text.now }
     ensures bounds { IfSome result (λ number. (1 ≤ number) × (number ≤ 1099511627776)) }
@@ -29,7 +29,7 @@ fn number_of(text: &str) -> Option<u64>
     }
 }
 
-// Why there are no matches: the words, unless memory was lacking.
+// Returns the cause of an error of `clap`: the words, unless out of memory.
 fn refusal_of(error: &Error) -> Refusal<WordsRefused>
     ensures { (result ≡ Refusal.NoMemory) ↔ (kind_of error.now ≡ ErrorKind.OutOfMemory) }
 {
@@ -39,7 +39,7 @@ fn refusal_of(error: &Error) -> Refusal<WordsRefused>
     }
 }
 
-// The matches that `clap` gives of the words.
+// Returns the matches that `clap` finds in the words.
 fn matched<'a>(alloc: Global, words: &'a [String]) -> Result<ArgMatches<'a>, Refusal<WordsRefused>>
     ensures { MatchResult result (HasMatches (map string_bytes words.now)) (IsRefused (map string_bytes words.now)) }
 {
@@ -49,7 +49,7 @@ fn matched<'a>(alloc: Global, words: &'a [String]) -> Result<ArgMatches<'a>, Ref
     }
 }
 
-// The job of matches.
+// Returns the job of matches.
 fn job_in(alloc: Global, matches: &ArgMatches<'_>) -> Result<Job, Refusal<WordsRefused>>
     ensures value { Answers (job_in (rows_of (found_of matches.now))) result }
     ensures range { IfOk result (λ job. (1 ≤ job.least) × (job.least ≤ 1099511627776)) }
@@ -65,7 +65,12 @@ fn job_in(alloc: Global, matches: &ArgMatches<'_>) -> Result<Job, Refusal<WordsR
     Ok(Job { archive, least })
 }
 
-/// What the words after the program's name ask. They are refused exactly where `clap` refuses them for another cause than memory.
+/// Returns the job of the words after the program's name.
+///
+/// # Errors
+///
+/// - `Fault`: `clap` finds a fault in the words.
+/// - `NoMemory`: out of memory.
 pub fn read_words(alloc: Global, words: &[String]) -> Result<Job, Refusal<WordsRefused>>
     ensures value { Answers (job_of_words (map string_bytes words.now)) result }
     ensures range { IfOk result (λ job. (1 ≤ job.least) × (job.least ≤ 1099511627776)) }

@@ -6,7 +6,7 @@ use cq_outside::{FileDesk, StdSink, command_words};
 use pgn_json::{answer_command, refuse_command};
 use std::process::ExitCode;
 
-// The real things are made here and handed over; what is done with them is the contract of `answer_command`.
+// The desk and the sinks of the system are made here and handed over. The contract of `answer_command` says the rest.
 fn main(rt: HostRuntime) -> ExitCode {
     let alloc = rt.alloc();
     let mut desk = FileDesk::new(alloc, rt, rt.stdin()).unwrap();

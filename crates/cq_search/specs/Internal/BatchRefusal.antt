@@ -1,4 +1,4 @@
--- How a refusal of the next batch ends a call.
+-- The status of a call that ends with the refusal of a batch.
 use Rattle.pgn_batches.specs.declared.state.BatchFault.{BatchFault}
 use Rattle.pgn_batches.specs.declared.state.BatchFault.TheVariants.{ReadFault as TheReadFault, ArchiveTooLong as TheArchiveTooLong}
 use Rattle.cq_common.specs.declared.faults.Refusal.{Refusal}

@@ -1,4 +1,4 @@
--- What answering batch by batch rests on: the laws of cuts and of batches, and those of reading.
+-- The laws on which the search batch by batch relies: those of cuts and of batches, and those of reading.
 use Rattle.std.specs.Prelude.{◌≡◌, ◌↔◌, ℕ, ◌+◌, Bool, List, take}
 use Rattle.pgn_batches.specs.Laws.{Laws as BatchLaws}
 use Rattle.pgn_reader.specs.Limits.{longest}

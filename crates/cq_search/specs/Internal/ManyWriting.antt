@@ -1,5 +1,5 @@
--- What answering several queries leaves, as the private functions give it. Of each query a row: its answers of a batch, or the matches
--- that are kept for it.
+-- The state after the search for several queries, as the private functions give it. Each query has a row: its answers of a batch, or the
+-- matches that are kept for it.
 use Rattle.std.specs.Prelude.{◌≡◌, ℕ, ◌+◌, ◌<◌, ◌≤◌, List, [], ◌∷◌, ◌++◌, length, take, map, filter, get_or, AllPairs, Result, Ok, Err}
 use Rattle.std.specs.List.{AllZip}
 use Rattle.std.specs.List.Sorted.{IsPermutation}
@@ -43,8 +43,8 @@ pub record KeepsRest (rows before after : List (List GameAnswer)) : Type 0 where
   pub first : get_or after 0 [] ≡ get_or before 0 []
   pub rest : (i : ℕ) → 1 ≤ i → i < length before → AddsMatches (get_or rows i []) (get_or before i []) (get_or after i [])
 
--- The games with these outcomes are answered: the lines of the faulty ones are written, the tally is that of the first query, and for each
--- query its matches are kept.
+-- The games with these outcomes were searched: the lines of the faulty ones are written, and the tally is that of the first query. The
+-- matches of each query are kept.
 pub record FoundByAll (queries : List QueryTree) (outcomes : List ReadResult) (sinks : Sinks) (tally : Tally)
     (kept : List (List GameAnswer)) : Type 0 where
   pub first : (q : QueryTree) (qs : List QueryTree) → queries ≡ q ∷ qs → tally ≡ tally_of q outcomes
@@ -52,19 +52,19 @@ pub record FoundByAll (queries : List QueryTree) (outcomes : List ReadResult) (s
   pub writes : Writes sinks (faults_alone outcomes)
   pub unfailed : NoWriteFailed sinks
 
--- the same after a call that may be refused
+-- the same after a call that may fail
 abbrev pub KeepsSome : List QueryTree → List ReadResult → Sinks → Tally → List (List GameAnswer)
     → Result (Unit {0}) (Refusal Failed) → Type 0
 KeepsSome queries outcomes sinks tally kept (Ok _) = FoundByAll queries outcomes sinks tally kept
 KeepsSome queries outcomes sinks tally kept (Err (Fault _)) = WritesPrefix sinks (faults_alone outcomes) × OneSinkFailed sinks
 KeepsSome queries outcomes sinks tally kept (Err IsNoMemory) = WritesPrefix sinks (faults_alone outcomes) × NoWriteFailed sinks
 
--- what is kept for each query is in its order
+-- the matches that are kept for each query are in its order
 pub record AreInOrder (queries : List QueryTree) (kept ordered : List (List GameAnswer)) : Type 0 where
   pub count : length ordered ≡ length kept
   pub each : (i : ℕ) (q : QueryTree) → i < length kept → InOrder (get_or queries i q) (get_or kept i []) (get_or ordered i [])
 
--- a text is written, or a part of it where a write fails or no memory is found
+-- a text is written, or a part of it if a write fails or the call is out of memory
 abbrev pub WritesOut : List ℕ → SinkView → SinkView → Result (Unit {0}) (Refusal Failed) → Type 0
 WritesOut text before after (Ok _) = Grew before.taken after.taken text × (after.faults ≡ before.faults)
 WritesOut text before after (Err (Fault _)) =

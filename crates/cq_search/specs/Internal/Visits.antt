@@ -1,4 +1,4 @@
--- What taking the batches of an archive leaves, from one moment to another, as the private functions give it.
+-- The state after the batches of an archive are taken, from one moment to another, as the private functions give it.
 use Rattle.std.specs.Prelude.{◌≡◌, ◌⊎◌, ℕ, ◌<◌, Bool, true, false, List, ◌++◌}
 use Rattle.pgn_batches.specs.KeptGames.{KeptGames}
 use Rattle.cql_syntax.specs.Trees.{QueryTree}
@@ -11,18 +11,18 @@ use Rattle.cq_search.specs.FirstGame.{first_texts_of, some_match, up_to_first}
 use Rattle.cq_queries.specs.Views.{Sinks, Texts, Writes, WritesPrefix, NoWriteFailed, OneSinkFailed}
 use Rattle.cq_search.specs.Internal.Writing.{FoundSoFar, SearchState}
 
--- some games are read so, and this holds of what they are read as
+-- these games have results of reading, and the predicate holds of them
 pub record HaveReadResults (games : KeptGames) (Holds : List ReadResult → Type 0) : Type 0 where
   pub outcomes : List ReadResult
   pub are_read : AreKeptRead games outcomes
   pub holds : Holds outcomes
 
--- what is asked is unchanged, and of what the games taken are read as, `Found` holds
+-- the visitor's task is unchanged, and `Found` holds of the results of reading the games taken
 pub record HasVisited {T : Type 0} (was now : T) (games : KeptGames) (Found : List ReadResult → Type 0) : Type 0 where
   pub same : now ≡ was
   pub reading : HaveReadResults games Found
 
--- each sink has taken a prefix of its text, since a write failed or no memory was found
+-- each sink has taken a prefix of its text, since a write failed or the call was out of memory
 abbrev pub StopsIn : Texts → Sinks → Status → Type 0
 StopsIn texts sinks WriteFault = WritesPrefix sinks texts × OneSinkFailed sinks
 StopsIn texts sinks NoMemory = WritesPrefix sinks texts × NoWriteFailed sinks
@@ -30,7 +30,7 @@ StopsIn texts sinks _ = ⊥
 
 -- ---- one query, over all games
 
--- what is asked of the games: a query, and whether its matches are kept
+-- the task for the games: a query, and true if its matches are kept
 pub record Task : Type 0 where
   pub query : QueryTree
   pub sorted : Bool
@@ -43,7 +43,7 @@ task_of query sorted = record { query = query; sorted = sorted }
 abbrev pub refused_of : QueryTree → List ReadResult → ℕ
 refused_of query outcomes = (tally_of query (up_to_first query outcomes)).refused
 
--- what each status says of the sinks, once the last line of the report was to be written
+-- the promise of each status on the sinks, once the last line of the report was due
 abbrev pub FirstWritten : (refused : ℕ) → Texts → Sinks → Status → Type 0
 FirstWritten refused texts sinks Done = (refused ≡ 0) × Writes sinks texts × NoWriteFailed sinks
 FirstWritten refused texts sinks DoneWithRefusals = (0 < refused) × Writes sinks texts × NoWriteFailed sinks
@@ -51,7 +51,7 @@ FirstWritten refused texts sinks WriteFault = WritesPrefix sinks texts × OneSin
 FirstWritten refused texts sinks NoMemory = WritesPrefix sinks texts × NoWriteFailed sinks
 FirstWritten refused texts sinks _ = ⊥
 
--- none of the games matches, and they are answered
+-- none of the games matches, and they were searched
 pub record FoundNone (query : QueryTree) (sinks : Sinks) (stand : SearchState) (outcomes : List ReadResult) : Type 0 where
   pub none : some_match query outcomes ≡ false
   pub found : FoundSoFar false query outcomes sinks stand
@@ -61,7 +61,7 @@ pub record FoundOne (query : QueryTree) (sinks : Sinks) (status : Status) (outco
   pub some : some_match query outcomes ≡ true
   pub writes : FirstWritten (refused_of query outcomes) (first_texts_of query outcomes) sinks status
 
--- none of the games matches, and it was stopped at the next batch
+-- none of the games matches, and the visit was stopped at the next batch
 pub record FirstStopped (query : QueryTree) (sinks : Sinks) (status : Status) (games batch : KeptGames) : Type 0 where
   pub before : HaveReadResults games (λ outcomes. some_match query outcomes ≡ false)
   pub after : HaveReadResults (games ++ batch) (λ outcomes. StopsIn (texts_so_far false query (up_to_first query outcomes)) sinks status

@@ -1,4 +1,4 @@
--- What answering an archive, and each game of it, leaves, as the private functions give it.
+-- The state after the search of an archive, and of each game of it, as the private functions give it.
 use Rattle.std.specs.Prelude.{◌≡◌, ℕ, ◌+◌, ◌<◌, Bool, List, [], ◌++◌, length, take, filter, All, AllPairs, Result, Ok, Err, if◌then◌else◌}
 use Rattle.std.specs.List.Sorted.{IsPermutation}
 use Rattle.cq_outside.specs.Faults.{Rose}
@@ -29,7 +29,7 @@ WritesText text before after (Err (Fault _)) =
     ((count : ℕ) × Grew before.taken after.taken (take count text)) × Rose before.faults after.faults
 WritesText text before after (Err IsNoMemory) = ⊥
 
--- writing the line of a faulty game, of which nothing is written out of memory
+-- writing the line of a faulty game; out of memory nothing of it is written
 abbrev pub WritesFault : ℕ → GameFault → SinkView → SinkView → Result (Unit {0}) (Refusal Failed) → Type 0
 WritesFault number fault before after (Ok _) =
     Grew before.taken after.taken (fault_line number fault) × (after.faults ≡ before.faults)
@@ -37,7 +37,7 @@ WritesFault number fault before after (Err (Fault _)) =
     ((count : ℕ) × Grew before.taken after.taken (take count (fault_line number fault))) × Rose before.faults after.faults
 WritesFault number fault before after (Err IsNoMemory) = after ≡ before
 
--- writing the last text of a report: the status tells whether a game is refused, or why not all of it is written
+-- writing the last text of a report: the status tells of a faulty game, or the cause why not all of it is written
 abbrev pub WritesLast : List ℕ → (refused : ℕ) → SinkView → SinkView → Status → Type 0
 WritesLast text refused before after Done = (refused ≡ 0) × Grew before.taken after.taken text × (after.faults ≡ before.faults)
 WritesLast text refused before after DoneWithRefusals =
@@ -47,7 +47,7 @@ WritesLast text refused before after WriteFault =
 WritesLast text refused before after NoMemory = after ≡ before
 WritesLast text refused before after _ = ⊥
 
--- the last line, where one query is answered
+-- the last line, for one query
 abbrev pub WritesSummary : Tally → SinkView → SinkView → Status → Type 0
 WritesSummary tally = WritesLast (summary_of tally) tally.refused
 
@@ -59,7 +59,7 @@ tallied query tally outcome = record {
   refused = tally.refused + (if is_refused outcome then 1 else 0);
 }
 
--- What is kept of a game until the games can be put in order: with a sort item the games that match.
+-- The game that is kept until the games can be put in order: with a sort item a game that matches.
 abbrev pub kept_if : (sorted : Bool) → QueryTree → ℕ → ReadResult → List GameAnswer
 kept_if sorted query number outcome = if sorted then match_if query number outcome else []
 
@@ -67,11 +67,11 @@ kept_if sorted query number outcome = if sorted then match_if query number outco
 abbrev pub kept_from : (sorted : Bool) → QueryTree → ℕ → List ReadResult → List GameAnswer
 kept_from sorted query number outcomes = if sorted then matches_from query number outcomes else []
 
--- what is written of the game that follows so many
+-- the texts of the game that follows so many
 abbrev pub texts_of_game : (sorted : Bool) → QueryTree → ℕ → ReadResult → Texts
 texts_of_game sorted query games outcome = record { out = written sorted query outcome; err = fault_if (games + 1) outcome }
 
--- how far games were answered: their numbers, and those that are kept
+-- the state of a search: its counts, and the games that are kept
 pub record SearchState : Type 0 where
   pub tally : Tally
   pub kept : List GameAnswer
@@ -79,14 +79,14 @@ pub record SearchState : Type 0 where
 abbrev pub search_state : Tally → List GameAnswer → SearchState
 search_state tally answers = record { tally = tally; kept = answers }
 
--- one game more: it is counted, and kept where it is to be
+-- one game more: it is counted, and kept if it is to be
 abbrev pub after_one_game : (sorted : Bool) → QueryTree → SearchState → ReadResult → SearchState
 after_one_game sorted query stand outcome = record {
   tally = tallied query stand.tally outcome;
   kept = stand.kept ++ kept_if sorted query stand.tally.games outcome;
 }
 
--- one game is answered: it is counted and written or kept, or a write fails, or out of memory nothing of it is written
+-- one game was searched: it is counted and written or kept, or a write fails, or out of memory nothing of it is written
 abbrev pub AnswersGame : (sorted : Bool) → QueryTree → ReadResult → SearchState → SearchState → Sinks
     → Result (Unit {0}) (Refusal Failed) → Type 0
 AnswersGame sorted query outcome before after sinks (Ok _) =
@@ -96,13 +96,13 @@ AnswersGame sorted query outcome before after sinks (Err (Fault _)) =
     WritesPrefix sinks (texts_of_game sorted query before.tally.games outcome) × OneSinkFailed sinks
 AnswersGame sorted query outcome before after sinks (Err IsNoMemory) = IsUnwritten sinks
 
--- the games with these outcomes are answered: counted and kept, and what is to be written of them is written
+-- the games with these outcomes were searched: they are counted and kept, and all that is due of them is written
 pub record FoundSoFar (sorted : Bool) (query : QueryTree) (outcomes : List ReadResult) (sinks : Sinks) (stand : SearchState) : Type 0 where
   pub is : stand ≡ search_state (tally_of query outcomes) (kept_from sorted query 0 outcomes)
   pub writes : Writes sinks (texts_so_far sorted query outcomes)
   pub unfailed : NoWriteFailed sinks
 
--- the same after a call that may be refused
+-- the same after a call that may fail
 abbrev pub AnswersSome : (sorted : Bool) → QueryTree → List ReadResult → Sinks → SearchState
     → Result (Unit {0}) (Refusal Failed) → Type 0
 AnswersSome sorted query outcomes sinks stand (Ok _) = FoundSoFar sorted query outcomes sinks stand
@@ -111,7 +111,7 @@ AnswersSome sorted query outcomes sinks stand (Err (Fault _)) =
 AnswersSome sorted query outcomes sinks stand (Err IsNoMemory) =
     WritesPrefix sinks (texts_so_far sorted query outcomes) × NoWriteFailed sinks
 
--- the matches that were kept are written in the order of a query, as far as is taken
+-- the matches that were kept, in the order of a query, and their exports, as far as they are taken
 pub record InOrder (query : QueryTree) (answers ordered : List GameAnswer) : Type 0 where
   pub same : IsPermutation (filter is_match_kept answers) ordered
   pub order : AreApart answers → All (HasKeys (directions query.items)) answers
@@ -126,7 +126,7 @@ WritesKept query answers before after (Err (Fault _)) =
     × ((count : ℕ) × Grew before.taken after.taken (take count (exports_of ordered))) × Rose before.faults after.faults
 WritesKept query answers before after (Err IsNoMemory) = after ≡ before
 
--- what each status says of the sinks, where all games have these outcomes
+-- the promise of each status on the sinks, if all games have these outcomes
 abbrev pub WritesAnswer : ExpectedOutput → List ReadResult → Sinks → Status → Type 0
 WritesAnswer expected_output outcomes sinks Done =
     WritesAll (expected_output.ended outcomes) (λ refused. refused ≡ 0) sinks × NoWriteFailed sinks

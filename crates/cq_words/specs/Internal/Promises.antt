@@ -1,4 +1,4 @@
--- What `clap` promises of the words.
+-- The promises of `clap` on the words.
 use Rattle.std.specs.Prelude.{◌≡◌, List, [], true}
 use Rattle.clap.specs.Walk.{Text, rows_of}
 use Rattle.clap.specs.Simple.{matches_of}
@@ -15,7 +15,7 @@ use Rattle.cq_words.specs.Line.{line}
 abbrev pub HasMatches : List Text → ArgMatches → Type 0
 HasMatches words found = (fault_of line words ≡ []) × (rows_of (found_of found) ≡ matches_of line words)
 
--- unless out of memory, the words have a fault, and are none that are refused only when out of memory
+-- unless out of memory, the words have a fault, and `clap` does not promise to take them
 abbrev pub IsRefused : List Text → Refusal WordsRefused → Type 0
 IsRefused words (Fault refused) = (fault_of line words ≡ [] → ⊥) × (takes line words ≡ true → ⊥)
 IsRefused words NoMemory = Unit {0}

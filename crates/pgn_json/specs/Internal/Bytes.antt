@@ -1,4 +1,4 @@
--- How the bytes of UTF-8 stand in a string, as the private functions give it.
+-- The bytes of UTF-8 in a string, as the private functions give them.
 use Rattle.std.specs.Prelude.{ℕ, List, [], ◌∷◌, if◌then◌else◌}
 use Rattle.pgn_json.specs.Strings.{escape, is_escaped}
 

@@ -14,7 +14,7 @@ pub record WaitsOf (text : List ℕ) (was now : SinkView) (waiting : List ℕ) :
   pub grew : Grew was.taken now.taken written
   pub same : now.faults ≡ was.faults
 
--- a front of a text was written, and then a write failed, or no memory was found
+-- a prefix of a text was written, and then a write failed, or the call was out of memory
 abbrev pub FailsIn : List ℕ → SinkView → SinkView → Refusal Failed → Type 0
 FailsIn text was now (Fault _) = ((count : ℕ) × Grew was.taken now.taken (take count text)) × Rose was.faults now.faults
 FailsIn text was now NoMemory = ((count : ℕ) × Grew was.taken now.taken (take count text)) × (now.faults ≡ was.faults)

@@ -1,4 +1,4 @@
--- What workers make of the games of a part of a batch, as the private functions give it.
+-- The texts that workers make of the games of a part of a batch, as the private functions give them.
 use Rattle.std.specs.Prelude.{◌≡◌, ℕ, ◌+◌, ◌<◌, List, [], ◌∷◌, length, slice_get, Some}
 use Rattle.pgn_batches.specs.declared.kept_game.KeptGame.{KeptGame}
 use Rattle.cq_workers.specs.NumberedOutputs.{AreMade, HasMade}
@@ -7,7 +7,7 @@ use Rattle.pgn_json.specs.Internal.Texts.{AreTextsOf}
 use Rattle.pgn_json.specs.declared.part_texts.GameTexts.{GameTexts}
 use Rattle.pgn_json.specs.declared.texts.Texts.{Texts}
 
--- what is written of the game with this number in a part
+-- the texts of the game with this number in a part
 pub record IsOfGame (part : Part) (number : ℕ) (texts : Texts) : Type 0 where
   pub game : KeptGame
   pub at : slice_get part.games number ≡ Some game
@@ -28,7 +28,7 @@ HasMadeTexts part numbers made = HasMade (IsTextsAt part) number_in 0 (size part
 abbrev pub AreGameTexts : Part → List GameTexts → Type 0
 AreGameTexts part made = AreMade (IsTextsAt part) number_in 0 (size part) made
 
--- those of a game stand at its number
+-- the texts of a game are at its number
 abbrev pub IsPlaced : Part → ℕ → List Texts → Type 0
 IsPlaced part number places = (texts : Texts) × (slice_get places number ≡ Some texts) × IsOfGame part number texts
 

@@ -4,7 +4,7 @@ use Rattle.pgn_batches.specs.Games.{games_of, number_of}
 use Rattle.pgn_batches.specs.KeptGames.{KeptGames}
 use Rattle.pgn_batches.specs.declared.batch.Batch.{Batch}
 
--- games that follow one another in an archive, how many come before them there, and the comment that marks
+-- games that follow one another in an archive, the number of games before them there, and the comment that marks
 pub record Part : Type 0 where
   pub mark : List ℕ
   pub before : ℕ

@@ -1,11 +1,11 @@
--- What is left to be written, as the private functions give it.
+-- The text that is left to be written, as the private functions give it.
 use Rattle.std.specs.Prelude.{◌≡◌, ℕ, zero, suc, ◌<◌, List, [], codes, get_or, length}
 use Rattle.std.specs.List.{flat_map}
 use Rattle.cq_position.specs.Games.{Node}
 use Rattle.cq_position.specs.Search.{ply}
 use Rattle.pgn_json.specs.Values.{next, separated}
 
--- what stands before a value after so many others
+-- the comma before a value after so many others
 abbrev pub comma_after : ℕ → List ℕ
 comma_after zero = []
 comma_after (suc i) = codes ","

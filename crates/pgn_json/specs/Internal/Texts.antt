@@ -1,4 +1,4 @@
--- What is written of the games of batches, as the private functions give it.
+-- The texts of the games of batches, as the private functions give them.
 use Rattle.std.specs.Prelude.{◌≡◌, ℕ, ◌+◌, ◌-◌, ◌<◌, List, [], ◌∷◌, ◌++◌, length, take, Option, None, Some, Result, Ok, Err}
 use Rattle.std.specs.List.{flat_map, sum_by}
 use Rattle.pgn_batches.specs.KeptGames.{KeptGames}
@@ -21,7 +21,7 @@ AreKept number (g ∷ gs) [] = ⊥
 AreKept number (g ∷ gs) (e ∷ es) =
     ((e.number ≡ number) × (e.byte ≡ g.start) × IsRead g.start g.first g.bytes e.outcome) × AreKept (number + 1) gs es
 
--- what is written of some games, the first having this number
+-- the texts of some games, the first having this number
 pub record AreTextsOf (mark : List ℕ) (number : ℕ) (games : KeptGames) (texts : Texts) : Type 0 where
   pub entries : List Entry
   pub are : AreKept number games entries
@@ -37,7 +37,7 @@ pub record HasTaken (mark : List ℕ) (was now : Sinks) (count : ℕ) (games : K
   pub writes : Writes was now (lines mark entries) (fault_lines entries)
   pub unfailed : NoWriteFailed was now
 
--- such games were written, then the first ones of the next batch, and of some after these a front of what is due
+-- such games were written, then the first ones of the next batch, and a prefix of the texts of some games after these
 pub record IsCutShort (mark : List ℕ) (was now : Sinks) (games batch : KeptGames) : Type 0 where
   pub first : KeptGames
   pub part : KeptGames
@@ -52,13 +52,13 @@ pub record IsCutShort (mark : List ℕ) (was now : Sinks) (games batch : KeptGam
   pub writes : Writes was now (lines mark entries ++ take out_count (lines mark next))
       (fault_lines entries ++ take err_count (fault_lines next))
 
--- it was stopped at the games of the next batch: a write failed, or no memory was found
+-- the visit was stopped at the games of the next batch: a write failed, or the call was out of memory
 abbrev pub HasStopped : List ℕ → Sinks → Sinks → KeptGames → KeptGames → Status → Type 0
 HasStopped mark was now games batch WriteFault = IsCutShort mark was now games batch × OneWriteFailed was now
 HasStopped mark was now games batch NoMemory = IsCutShort mark was now games batch × NoWriteFailed was now
 HasStopped mark was now games batch _ = ⊥
 
--- what is written of several games, one after the other, and how many of them are faulty
+-- the texts of several games, one after the other, and the number of faulty ones
 abbrev pub all_lines : List Texts → List ℕ
 all_lines texts = flat_map (λ t. t.lines) texts
 
@@ -76,7 +76,7 @@ pub record HasWritten (part : Part) (was now : Sinks) (count : ℕ) : Type 0 whe
   pub count_is : count ≡ texts.faulty
   pub unfailed : NoWriteFailed was now
 
--- a front of what is to be written of some first games of a part was written
+-- a prefix of the texts of some first games of a part was written
 pub record HasWrittenFront (part : Part) (was now : Sinks) : Type 0 where
   pub games : KeptGames
   pub rest : KeptGames
@@ -87,19 +87,19 @@ pub record HasWrittenFront (part : Part) (was now : Sinks) : Type 0 where
   pub err_count : ℕ
   pub writes : Writes was now (take out_count (lines part.mark next)) (take err_count (fault_lines next))
 
--- what a call answers that writes a part
+-- the result of a call that writes a part
 abbrev pub AnswersPart : Part → Sinks → Sinks → Result ℕ Status → Type 0
 AnswersPart part was now (Ok count) = HasWritten part was now count
 AnswersPart part was now (Err WriteFault) = HasWrittenFront part was now × OneWriteFailed was now
 AnswersPart part was now (Err NoMemory) = HasWrittenFront part was now × NoWriteFailed was now
 AnswersPart part was now (Err _) = ⊥
 
--- what a call answers that writes a batch: nothing, or why it was stopped
+-- the result of a call that writes a batch: nothing, or the cause why it was stopped
 abbrev pub AnswersBatch : List ℕ → Sinks → Sinks → ℕ → KeptGames → KeptGames → Option Status → Type 0
 AnswersBatch mark was now count games batch None = HasTaken mark was now count (games ++ batch)
 AnswersBatch mark was now count games batch (Some status) = HasStopped mark was now games batch status
 
--- the last line of a report was written, by which no game is faulty or some are, or a front of it
+-- the last line of a report was written, and tells of no faulty game or of some, or a prefix of it was written
 abbrev pub WritesSummary : (games faulty : ℕ) → SinkView → SinkView → Status → Type 0
 WritesSummary games count was now Done =
     (count ≡ 0) × Grew was.taken now.taken (summary_line games (games - count) count) × (now.faults ≡ was.faults)

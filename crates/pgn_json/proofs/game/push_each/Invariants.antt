@@ -5,7 +5,7 @@ use Rattle.pgn_json.specs.Internal.Remaining.{left}
 use Rattle.pgn_json.specs.Values.{separated}
 use Rattle.pgn_json.proofs.game.push_each.Given as goal
 
--- what is written, and what is left, is all
+-- the written nodes and the remaining ones are all
 abbrev pub invariant-loop-i : goal.invariant-loop-i
 invariant-loop-i l =
     l.line ++ left l.i (map (node_text l.mark l.game.nodes) (drop l.i (drop 1 (numbers l.game.nodes))))

@@ -5,7 +5,7 @@ use Rattle.pgn_json.specs.Strings.{string_text}
 use Rattle.pgn_json.specs.Values.{separated}
 use Rattle.pgn_json.proofs.notes.push_texts.Given as goal
 
--- what is written, and what is left, is all
+-- the written texts and the remaining ones are all
 abbrev pub invariant-loop-i : goal.invariant-loop-i
 invariant-loop-i l =
     l.line ++ left l.i (map string_text (drop l.i (node_at l.game.nodes l.k).comments))

@@ -3,7 +3,7 @@ use Rattle.pgn_cut.specs.declared.span.Span.{Span}
 use Rattle.pgn_pieces.proofs.Fills.{adds_none, adds_both, adds_next, end_next, ends_later}
 use Rattle.pgn_pieces.proofs.pieces.add_all.Goals as goal
 
--- what is read past the end
+-- the value read past the end
 abbrev none : Span
 none = record { start = 0; end = 0; first = false }
 
