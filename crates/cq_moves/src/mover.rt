@@ -14,9 +14,9 @@ ghost use Rattle.cq_position.specs.declared.men.Promotion.TheVariants.{None as N
 ghost use Rattle.cq_moves.specs.LegalMoves.{legal_between, move_of};
 ghost use Rattle.cq_moves.specs.Internal.Mover.{IsMover, IsOrigin, IsUnexposed};
 
-use crate::men_after::is_en_passant_capture;
 use crate::goals::free_squares;
 use crate::legality::is_safe;
+use crate::men_after::is_en_passant_capture;
 use crate::reach::{last_rank, promotion_is_right};
 use crate::sliders::has_slider_in_line;
 use cq_geometry::{Square, rank};

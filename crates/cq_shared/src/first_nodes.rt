@@ -17,7 +17,11 @@ use std::alloc::Global;
 /// # Errors
 ///
 /// `NoMemory` if out of memory.
-pub fn start_nodes(alloc: Global, owners: &[PartOwner], game: &Game) -> Result<Vec<NodeSet>, NoMemory>
+pub fn start_nodes(
+    alloc: Global,
+    owners: &[PartOwner],
+    game: &Game,
+) -> Result<Vec<NodeSet>, NoMemory>
     ensures { IfOk result (λ start_nodes. AreStartNodes game.now owners.now start_nodes.items) }
 {
     let mut start_nodes = Vec::with_capacity(alloc, owners.len())?;

@@ -183,7 +183,12 @@ fn is_known(occupancies: &[Occupancy], men: u16) -> bool {
 }
 
 // The squares of these men at the live nodes.
-fn occupancy_of(alloc: Global, men: u16, scope: &Scope, live: &[bool]) -> Result<Occupancy, NoMemory>
+fn occupancy_of(
+    alloc: Global,
+    men: u16,
+    scope: &Scope,
+    live: &[bool],
+) -> Result<Occupancy, NoMemory>
     requires asked { IsNodeSet (tree_in scope.now) live.now }
     ensures { IfOk result (IsOccupancy (tree_in scope.now) live.now) }
 {
