@@ -13,7 +13,7 @@ import sys
 from collections import Counter, defaultdict
 
 sys.dont_write_bytecode = True
-sys.path.insert(0, os.path.join(os.path.dirname(os.path.realpath(__file__)), "..", "python"))
+sys.path.insert(0, os.path.join(os.path.dirname(os.path.realpath(__file__)), "..", "python", "src"))
 
 from cqlpgn.problems.convert import BY_BLACK, Converter, Game, Left, stipulation
 from cqlpgn.problems.faults import BadDiagram, FairyCondition, FairyMan, NoSolution, OtherStipulation

@@ -1,10 +1,10 @@
 """A query as text after its families are opened: two filters with the same text mean the same."""
 
 
-from chess import MEN
-from pgn import RESULT_TEXTS
-from query import kind_of
-from meaning import COMPASS, MEMBERS, compass_image, exchanged, fits, image, light_changed
+from .chess import MEN
+from .pgn import RESULT_TEXTS
+from .query import kind_of
+from .meaning import COMPASS, MEMBERS, compass_image, exchanged, fits, image, light_changed
 
 
 def flat(f, g):

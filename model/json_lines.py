@@ -6,8 +6,8 @@
 import json
 import sys
 
-import pgn
-from chess import fen_text, san_text, square_name
+from . import pgn
+from .chess import fen_text, san_text, square_name
 
 
 def characters(b):

@@ -1,8 +1,8 @@
 """An archive made from a seed: python3 model/maker.py SEED GAMES writes it."""
 
 import sys
-from chess import START, is_mate, is_stalemate, legal_moves, play
-from pgn import Node, export, make_game
+from .chess import START, is_mate, is_stalemate, legal_moves, play
+from .pgn import Node, export, make_game
 
 
 class Draws:

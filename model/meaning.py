@@ -5,9 +5,9 @@ A filter is asked under a tuple of mappings (the innermost family first) and an 
 import functools
 import re
 
-from chess import EMPTY, PAWN, attacks_list, between, in_check, is_mate, is_stalemate, on_board
-from pgn import DIGITS
-from query import FAMILIES, kind_of, names_in, parts_of
+from .chess import EMPTY, PAWN, attacks_list, between, in_check, is_mate, is_stalemate, on_board
+from .pgn import DIGITS
+from .query import FAMILIES, kind_of, names_in, parts_of
 
 SYMMETRIES = {
     1: lambda f, r: (f, r),

@@ -2,7 +2,7 @@
 
 import re
 
-from chess import START, read_fen, read_san, san_text
+from .chess import START, read_fen, read_san, san_text
 
 WHITE_SPACE = frozenset([9, 10, 11, 12, 13, 32])
 DIGITS = frozenset(b"0123456789")

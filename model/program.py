@@ -2,11 +2,11 @@
 
 import re
 
-from explain import explain
-from maker import made
-from pgn import cut, export, read_game
-from query import QueryFault, fault_line, read_query
-from meaning import hits, keys
+from .explain import explain
+from .maker import made
+from .pgn import cut, export, read_game
+from .query import QueryFault, fault_line, read_query
+from .meaning import hits, keys
 
 _games = {}
 

@@ -3,8 +3,8 @@
 import re
 import sys
 
-from chess import MEN
-from pgn import ASCII_LETTERS, DIGITS, MARKERS, WHITE_SPACE
+from .chess import MEN
+from .pgn import ASCII_LETTERS, DIGITS, MARKERS, WHITE_SPACE
 
 # The parser enters a dozen functions for each open construct.
 sys.setrecursionlimit(20000)
