@@ -366,7 +366,8 @@ class Search:
         if k == "plain":
             return self.plain(a[0], g, n)
         if k == "result":
-            return self.game.result == ({"White": "Black", "Black": "White"}.get(a[0], a[0]) if exchanged(g) else a[0])
+            wanted: str = {"White": "Black", "Black": "White"}.get(a[0], a[0]) if exchanged(g) else a[0]
+            return self.game.result == wanted
         if k == "player":
             return any(a[1] in self.game.tags.get(t, b"") for t in tags_of(a[0], g, b"White", b"Black"))
         if k in ("event", "site"):

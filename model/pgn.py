@@ -319,7 +319,8 @@ class Reader:
             raise GameFault(at, "bad tag")
         if len(self.levels) > 1:
             raise GameFault(at, "unclosed variation")
-        return make_game(self.tags, self.result or MARKERS.get(self.tags.get(b"Result") or b"", "Open"), self.root)
+        said = MARKERS.get(self.tags.get(b"Result", b""), "Open")
+        return make_game(self.tags, said if self.result is None else self.result, self.root)
 
 
 def read_game(archive: bytes, span: Span) -> Game | Fault:
