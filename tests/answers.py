@@ -2,8 +2,8 @@
 
 from __future__ import annotations
 
-import importlib
-from typing import Any
+from model import meaning, program, query
+from model.pgn import Node
 
 ONE = b"1. e4 e5 2. Nf3 *\n1. f3 e5 2. g4 Qh4# 0-1\n1. d4 *\n"
 TWO = b"1. e4 *\n1. e4 e5 2. Ke3 *\n1. f3 e6 2. g4 Qh4# 0-1\n"
@@ -15,11 +15,12 @@ LINES = ["one.pgn: " + COUNTS_ONE, "two.pgn: " + FAULT_TWO, "two.pgn: " + COUNTS
 MANY = b"cql() check\n%%\ncql() initial\n%%\ncql() Pa8\n"
 
 
-def model() -> Any:
-    """The model's program, as functions."""
-    return importlib.import_module("model.program")
-
-
 def found(*archives: bytes, asking: str = QUERY) -> bytes:
     """The games that the model finds in archives, one after the other."""
-    return b"".join(model().run_eval(asking.encode(), archive)[1] for archive in archives)
+    return b"".join(program.run_eval(asking.encode(), archive)[1] for archive in archives)
+
+
+def nodes_found(asking: str, archive: bytes) -> list[tuple[int, list[Node]]]:
+    """Of each game that the model reads its number, and the nodes at which the query holds."""
+    read, games = query.read_query(asking.encode()), enumerate(program.games_of(archive), 1)
+    return [(number, meaning.hits(read, game)[0]) for number, game in games if not isinstance(game, tuple)]

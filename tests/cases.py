@@ -1,132 +1,117 @@
-#!/usr/bin/env python3
 """The cases: queries over archives with the answers that are wanted, each a folder of cases/.
 
-    python3 model/cases.py BINARY [NAME..]           runs all cases, or those named, over the program and the model
-    python3 model/cases.py BINARY --write NAME..     writes the out, err and status of these cases as they are answered
+    pytest tests -k NAME                           runs those whose names have NAME, over the program and the model
+    python3 -m tests.cases model NAME..            writes the out, err and status of these cases as the model answers them
+    python3 -m tests.cases PROGRAM NAME..          writes them as the program of this path does
 
-`model` in place of BINARY asks the model alone. CONTRIBUTING.md says what the folder of a case holds.
+CONTRIBUTING.md says what the folder of a case holds.
 """
 
-import difflib
+from __future__ import annotations
+
 import gzip
 import os
-import resource
-import subprocess
 import sys
-import tempfile
+from pathlib import Path
 
 from model import program
+from model.program import Answer
+from tests.processes import run
 
-TOP = os.path.join(os.path.dirname(os.path.abspath(__file__)), "..")
-CASES = os.path.join(TOP, "cases")
-EXAMPLES = os.path.join(TOP, "examples")
+TOP = Path(__file__).resolve().parent.parent
+CASES = TOP / "cases"
+EXAMPLES = TOP / "examples"
 
 
-def read(*path):
-    """the bytes of a file, or None where it is not there"""
+def read(path: Path) -> bytes | None:
+    """The bytes of a file, or None where it is not there."""
     try:
-        with open(os.path.join(*path), "rb") as f:
-            return f.read()
+        return path.read_bytes()
     except FileNotFoundError:
         return None
 
 
 class Case:
-    def __init__(self, name):
-        folder = os.path.join(CASES, name)
-        self.name, self.folder = name, folder
-        self.query = read(folder, "query.cql") or b""
-        packed = read(folder, "queries.cql.gz")
-        self.queries = gzip.decompress(packed) if packed is not None else read(folder, "queries.cql")
-        packed, named = read(folder, "archive.pgn.gz"), read(folder, "archive")
-        self.is_large = packed is not None
-        if packed is not None:
-            self.archive = gzip.decompress(packed)
-        elif named is not None:
-            self.archive = read(EXAMPLES, named.decode().strip())
-        else:
-            self.archive = read(folder, "archive.pgn") or b""
-        usual = "run\nquery.cql\narchive.pgn\n" if self.queries is None else "many\nqueries.cql\narchive.pgn\n"
-        self.words = (read(folder, "args") or usual.encode()).decode().splitlines()
-        self.under = dict(line.split() for line in (read(folder, "under") or b"").decode().splitlines())
+    """A folder of cases/."""
 
-    def wanted(self):
-        status = read(self.folder, "status")
-        return (int(status) if status else None, read(self.folder, "out") or b"", read(self.folder, "err") or b"")
+    def __init__(self, name: str) -> None:
+        self.name, self.folder = name, CASES / name
+        self.query = self.file("query.cql")
+        packed = self.file("queries.cql.gz")
+        self.queries = gzip.decompress(packed) if packed else read(self.folder / "queries.cql")
+        self.is_large = (self.folder / "archive.pgn.gz").exists()
+        usual = b"run\nquery.cql\narchive.pgn\n" if self.queries is None else b"many\nqueries.cql\narchive.pgn\n"
+        self.words = (self.file("args") or usual).decode().splitlines()
+        self.under = dict(line.split() for line in self.file("under").decode().splitlines())
 
-    def by_program(self, binary):
-        """the answer of the process; a stream that goes to the full device counts as empty"""
-        memory = int(self.under.get("memory", 0))
-        limits = (lambda: resource.setrlimit(resource.RLIMIT_AS, (memory, memory))) if memory else None
-        with tempfile.TemporaryDirectory() as room, open("/dev/full", "wb") as full:
-            files = {"query.cql": self.query, "queries.cql": self.queries or b"", "archive.pgn": self.archive}
-            for name, text in files.items():
-                with open(os.path.join(room, name), "wb") as f:
-                    f.write(text)
-            streams = {"stdout": subprocess.PIPE, "stderr": subprocess.PIPE}
-            if "full" in self.under:
-                streams["std" + self.under["full"]] = full
-            done = subprocess.run([binary] + self.words, input=b"", cwd=room, preexec_fn=limits, timeout=60, **streams)
-        return (done.returncode, done.stdout or b"", done.stderr or b"")
+    def file(self, name: str) -> bytes:
+        """A file of the case, empty where it is not there."""
+        return read(self.folder / name) or b""
 
-    def by_model(self):
-        """the answer of the model, or None where it has none: it opens no files, and a large archive takes it long"""
-        if self.is_large or self.under:
-            return None
-        if self.words == ["run", "query.cql", "archive.pgn"]:
-            return program.run_eval(self.query, self.archive)
-        if self.words == ["run", "query.cql", "archive.pgn", "--first"]:
-            return program.run_eval(self.query, self.archive, first=True)
-        if self.words == ["many", "queries.cql", "archive.pgn"]:
-            return program.run_many(self.queries, self.archive)
-        if self.words == ["check", "query.cql"]:
-            return program.run_check(self.query)
-        if self.words == ["explain", "query.cql"]:
-            return program.run_explain(self.query)
-        return None
+    @property
+    def archive(self) -> bytes:
+        if self.is_large:
+            return gzip.decompress(self.file("archive.pgn.gz"))
+        named = self.file("archive").decode().strip()
+        return (EXAMPLES / named).read_bytes() if named else self.file("archive.pgn")
 
-    def write(self, answer):
-        for name, text in zip(("status", "out", "err"), (b"%d\n" % answer[0],) + answer[1:]):
-            with open(os.path.join(self.folder, name), "wb") as f:
-                f.write(text)
+    def wanted(self) -> Answer:
+        return int(self.file("status") or -1), self.file("out"), self.file("err")
+
+    def by_program(self, path: str, room: Path) -> Answer:
+        """The answer of the process, whose files are put into a folder; a stream that goes to the full device counts as empty."""
+        for name, text in {"query.cql": self.query, "queries.cql": self.queries or b"", "archive.pgn": self.archive}.items():
+            (room / name).write_bytes(text)
+        with open("/dev/full", "wb") as full:
+            streams = {"std" + self.under["full"]: full} if "full" in self.under else {}
+            return run(path, *self.words, folder=room, memory=int(self.under.get("memory", 0)), **streams)
+
+    def is_for_the_model(self) -> bool:
+        """Whether the model can be asked: it opens no files, and a large archive takes it long."""
+        words = " ".join(self.words)
+        known = ("run query.cql archive.pgn", "run query.cql archive.pgn --first", "many queries.cql archive.pgn", "check query.cql")
+        return not self.is_large and not self.under and words in (*known, "explain query.cql")
+
+    def by_model(self) -> Answer:
+        if self.words[0] == "run":
+            return program.run_eval(self.query, self.archive, first=self.words[-1] == "--first")
+        if self.words[0] == "many":
+            return program.run_many(self.queries or b"", self.archive)
+        return (program.run_check if self.words[0] == "check" else program.run_explain)(self.query)
+
+    def write(self, answer: Answer) -> None:
+        status, out, err = answer
+        for name, text in {"status": b"%d\n" % status, "out": out, "err": err}.items():
+            (self.folder / name).write_bytes(text)
 
 
-def show_difference(got, wanted):
-    """the lines of the status and both streams in which an answer differs from what is wanted, forty at most"""
-    print("  status %s, wanted %s" % (got[0], wanted[0]))
-    for name, *streams in zip(("out", "err"), wanted[1:], got[1:]):
-        was, now = [stream.decode("utf-8", "backslashreplace").splitlines() for stream in streams]
-        for line in list(difflib.unified_diff(was, now, name + " wanted", name, lineterm=""))[:40]:
-            print("  " + line)
+def names() -> list[str]:
+    return sorted(path.name for path in CASES.iterdir())
 
 
-def all_cases():
-    return [Case(name) for name in sorted(os.listdir(CASES))]
+def all_cases() -> list[Case]:
+    return [Case(name) for name in names()]
 
 
-def main(binary, names, is_writing):
-    passed, failed = 0, 0
-    for case in [Case(name) for name in names] or all_cases():
-        answers = {"model": case.by_model()}
-        if binary != "model":
-            answers["program"] = case.by_program(os.path.abspath(binary))
-        answers = {side: answer for side, answer in answers.items() if answer is not None}
-        if is_writing and answers:
-            case.write(list(answers.values())[-1])
-        for side, answer in answers.items():
-            if answer == case.wanted():
-                passed += 1
-            else:
-                failed += 1
-                print("DIFFERS case", case.name, "by the", side)
-                show_difference(answer, case.wanted())
-    print("cases: %d passed, %d failed" % (passed, failed))
-    return 1 if failed else 0
+def main(words: list[str]) -> int:
+    """Writes the answers of cases."""
+    import tempfile
+
+    if len(words) < 2:
+        print(__doc__)
+        return 2
+    unknown = [name for name in words[1:] if name not in names()]
+    if unknown:
+        print(f"cases/ has no {unknown[0]}", file=sys.stderr)
+        return 2
+    for case in [Case(name) for name in words[1:]]:
+        if words[0] == "model" and not case.is_for_the_model():
+            print(f"{case.name}: the model can't be asked this", file=sys.stderr)
+            return 1
+        with tempfile.TemporaryDirectory() as room:
+            case.write(case.by_model() if words[0] == "model" else case.by_program(os.path.abspath(words[0]), Path(room)))
+    return 0
 
 
 if __name__ == "__main__":
-    words = [w for w in sys.argv[1:] if w != "--write"]
-    is_writing = "--write" in sys.argv
-    if not words or is_writing and len(words) == 1:
-        sys.exit(__doc__)
-    sys.exit(main(words[0], words[1:], is_writing))
+    sys.exit(main(sys.argv[1:]))

@@ -13,8 +13,8 @@ from collections.abc import Callable
 from dataclasses import dataclass
 from pathlib import Path
 
-from tests import answers
 import pytest
+from tests import answers
 from tests.processes import PATIENCE
 
 TOP = Path(__file__).resolve().parent.parent

@@ -2,11 +2,31 @@
 
 from __future__ import annotations
 
+import resource
+import subprocess
 import time
-from collections.abc import Callable
+from collections.abc import Callable, Sequence
+from os import PathLike
 from pathlib import Path
+from typing import IO, Any, Union
+
+from model.program import Answer
 
 PATIENCE = 300  # seconds that a test waits at most, on a machine that has much else to do
+Word = Union[str, bytes]
+Stream = Union[int, IO[bytes]]
+
+
+def run(program: str, *words: Word, data: bytes = b"", folder: PathLike[str] | None = None, memory: int = 0, **streams: Any) -> Answer:
+    """The status of a program and what it wrote: a stream that is given is not captured and counts as empty. `memory` bounds its bytes."""
+    how: dict[str, Any] = {"stdout": subprocess.PIPE, "stderr": subprocess.PIPE, "cwd": folder, "timeout": PATIENCE, **streams}
+    if memory:
+        how["preexec_fn"] = lambda: resource.setrlimit(resource.RLIMIT_AS, (memory, memory))
+    if "stdin" not in how:
+        how["input"] = data
+    call: Sequence[Word] = [program, *words]
+    done = subprocess.run(call, check=False, **how)
+    return done.returncode, done.stdout or b"", done.stderr or b""
 
 
 def becomes(told: Callable[[], object]) -> bool:

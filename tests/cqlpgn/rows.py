@@ -1,18 +1,14 @@
-#!/usr/bin/env python3
 """Worked rows: what the program answers to words over files, and each byte that it writes.
 
-    python3 rows.py [BINARY]
-
-A row has the status and both streams that are wanted, as a reader of the language knows them. With a binary the program answers each row,
-and the model answers those that it has a mode for. The last line counts: 'rows: N passed, M failed'.
+A row has the status and both streams that are wanted, as a reader of the language knows them.
 """
 
-import os
-import subprocess
-import sys
-import tempfile
+from __future__ import annotations
 
-from model import program
+from collections.abc import Iterator, Mapping
+from typing import NamedTuple, Union
+
+from model.program import Answer
 from tests.cqlpgn import query_rows
 
 USAGE = "usage: cqlpgn MODE QUERY [ARCHIVE] [--workers N] [--seed S] [--games G] [--limit B] [--first]\n"
@@ -422,194 +418,168 @@ FIRST = [
 ]
 
 
-def written(tags, movetext):
-    """the export text of a game whose roster has its defaults, with the lines of its other tags"""
+class Row(NamedTuple):
+    """Words, files by their names (`-` is standard input), and the status and both streams that are wanted."""
+
+    words: list[str]
+    files: dict[str, bytes]
+    want: Answer
+
+
+Text = Union[str, bytes]
+Rows = Iterator[Row]
+
+
+def as_bytes(text: Text) -> bytes:
+    return text.encode() if isinstance(text, str) else text
+
+
+def row(words: list[str], files: Mapping[str, Text], status: int, out: Text, err: Text) -> Row:
+    return Row(words, {name: as_bytes(text) for name, text in files.items()}, (status, as_bytes(out), as_bytes(err)))
+
+
+def written(tags: str, movetext: str) -> str:
+    """The export text of a game whose roster has its defaults, with the lines of its other tags."""
     roster = ['Event "?"', 'Site "?"', 'Date "????.??.??"', 'Round "?"', 'White "?"', 'Black "?"']
     roster.append('Result "%s"' % movetext.split()[-1])
     return "".join("[%s]\n" % tag for tag in roster) + tags + "\n" + movetext + "\n\n"
 
 
-def exported(movetext, fen=None):
-    """the export text of a game with no tags but its FEN"""
+def exported(movetext: str, fen: str | None = None) -> str:
+    """The export text of a game with no tags but its FEN."""
     return written('[FEN "%s"]\n[SetUp "1"]\n' % fen if fen else "", movetext)
 
 
-# ---- words, files by their names (`-` is standard input), and the status and both streams that are wanted
-
-
-def archives():
+def found() -> Rows:
+    """Games that are found."""
     for games, table in ((1, FOUND), (2, FOUND_OF_TWO)):
         for query, archive, movetext, *fen in table:
-            want = (0, exported(movetext, *fen), "games %d matched 1 refused 0\n" % games)
-            yield ["eval", query], {"-": archive}, want
+            report = "games %d matched 1 refused 0\n" % games
+            yield row(["eval", query], {"-": archive}, 0, exported(movetext, *fen), report)
+
+
+def missed() -> Rows:
+    """Games that are missed."""
     for query, archive in MISSED:
-        yield ["eval", query], {"-": archive}, (0, "", "games 1 matched 0 refused 0\n")
-    for fen, *ends in ENDS:
-        for query, is_so in zip(("cql() mate", "cql() stalemate"), ends):
-            want = (0, exported("{CQL} *", fen) if is_so else "", "games 1 matched %d refused 0\n" % is_so)
-            yield ["eval", query], {"-": '[FEN "%s"]\n*\n' % fen}, want
+        yield row(["eval", query], {"-": archive}, 0, "", "games 1 matched 0 refused 0\n")
+
+
+def ends() -> Rows:
+    """Positions that are a mate, a stalemate or neither."""
+    for fen, *truths in ENDS:
+        for query, is_so in zip(("cql() mate", "cql() stalemate"), truths):
+            report = "games 1 matched %d refused 0\n" % is_so
+            yield row(["eval", query], {"-": '[FEN "%s"]\n*\n' % fen}, 0, exported("{CQL} *", fen) if is_so else "", report)
+
+
+def reports() -> Rows:
+    """Faulty archives, and games at each limit and above it."""
     for archive, status, report in REPORTS:
-        yield ["eval", "cql() Kb4"], {"-": archive}, (status, "", report)
+        yield row(["eval", "cql() Kb4"], {"-": archive}, status, "", report)
+
+
+def orders() -> Rows:
+    """Places that are sorted."""
     for query, fens, order in ORDERS:
         archive = "".join('[FEN "%s"]\n*\n' % fen for fen in fens)
         report = "games %d matched %d refused 0\n" % (len(fens), len(fens))
-        yield ["eval", query], {"-": archive}, (0, "".join(exported("{CQL} *", fens[k]) for k in order), report)
+        yield row(["eval", query], {"-": archive}, 0, "".join(exported("{CQL} *", fens[k]) for k in order), report)
 
 
-def exports():
-    """games as they are written without a mark, and what is written once more"""
-    rows = [(archive, written(tags, movetext)) for archive, tags, movetext in EXPORTS]
-    for archive, text in [*rows, CLOCKS]:
+def exports() -> Rows:
+    """Games as they are written without a mark, and what is written once more."""
+    texts = [(archive, written(tags, movetext)) for archive, tags, movetext in EXPORTS]
+    for archive, text in [*texts, CLOCKS]:
         for given in (archive, text):
-            yield ["eval", 'cql(matchstring " ") initial'], {"-": given}, (0, text, "games 1 matched 1 refused 0\n")
+            yield row(["eval", 'cql(matchstring " ") initial'], {"-": given}, 0, text, "games 1 matched 1 refused 0\n")
 
 
-def moves():
-    """a move by its text at a position"""
+def moves() -> Rows:
+    """A move by its text at a position."""
     for fen, texts in MOVES:
         _, side, _, _, _, number = fen.split()
         begin = '[FEN "%s"]\n' % fen
         for text, move in texts:
+            words, files = ["eval", 'cql(matchstring " ") initial'], {"-": begin + text + " *"}
             if move in (ILLEGAL, AMBIGUOUS, NO_MOVE):
-                want = (1, "", "game 1 byte %d: %s\ngames 1 matched 0 refused 1\n" % (len(begin), move))
+                yield row(words, files, 1, "", "game 1 byte %d: %s\ngames 1 matched 0 refused 1\n" % (len(begin), move))
             else:
                 movetext = "%s%s %s *" % (number, "." if side == "w" else "...", move)
-                want = (0, exported(movetext, fen), "games 1 matched 1 refused 0\n")
-            yield ["eval", 'cql(matchstring " ") initial'], {"-": begin + text + " *"}, want
+                yield row(words, files, 0, exported(movetext, fen), "games 1 matched 1 refused 0\n")
 
 
-def words_and_files():
+def words_that_are_refused() -> Rows:
+    """Words that the program turns away, and queries that it does."""
     for mode, query, status, line in TURNED_AWAY:
-        yield [mode, query], {"-": "*"}, (status, "", line)
-    yield ["selfrun", "cql() echo", *GREATEST], {}, (2, "", "query byte 6: outside profile echo\n")
-    for words, line in MADE:
-        yield words, {"-": "*"}, (0, line, "")
+        yield row([mode, query], {"-": "*"}, status, "", line)
+    yield row(["selfrun", "cql() echo", *GREATEST], {}, 2, "", "query byte 6: outside profile echo\n")
     for words in REFUSED:
-        yield words, {"-": "*"}, (3, "", USAGE)
+        yield row(words, {"-": "*"}, 3, "", USAGE)
+
+
+def made() -> Rows:
+    """Archives that are made."""
+    for words, line in MADE:
+        yield row(words, {"-": "*"}, 0, line, "")
+
+
+def words_and_files() -> Rows:
+    """Limits that are met and not met, files by their names, and words in other orders."""
     initial = ["eval", "cql() initial", "--limit", "8"]
-    yield initial, {"-": "1. e4 *\n"}, (0, exported("{CQL} 1. e4 *"), "games 1 matched 1 refused 0\n")
-    yield initial, {"-": "1. e4 *\n\n"}, (8, "", "")
+    yield row(initial, {"-": "1. e4 *\n"}, 0, exported("{CQL} 1. e4 *"), "games 1 matched 1 refused 0\n")
+    yield row(initial, {"-": "1. e4 *\n\n"}, 8, "", "")
     files = {"q.cql": "// A knight.\r\ncql() Nf3\r\n", "echo.cql": "cql() echo", "a.pgn": "1. e4 e5 2. Nf3 *\n"}
-    found = (0, exported("1. e4 e5 2. Nf3 {CQL} *"), "games 1 matched 1 refused 0\n")
-    yield ["run", "q.cql", "a.pgn"], files, found
-    yield ["eval", "cql() Nf3", "a.pgn"], files, found
-    yield ["run", "echo.cql", "a.pgn"], files, (2, "", "query byte 6: outside profile echo\n")
+    for words in (["run", "q.cql", "a.pgn"], ["eval", "cql() Nf3", "a.pgn"]):
+        yield row(words, files, 0, exported("1. e4 e5 2. Nf3 {CQL} *"), "games 1 matched 1 refused 0\n")
+    yield row(["run", "echo.cql", "a.pgn"], files, 2, "", "query byte 6: outside profile echo\n")
     files = {"q.cql": "cql() initial", "a.pgn": "1. e4 *\n", "-": "1. e4 *\n"}
     for words in ORDERED:
-        yield words, files, (0, exported("{CQL} 1. e4 *"), "games 1 matched 1 refused 0\n")
+        yield row(words, files, 0, exported("{CQL} 1. e4 *"), "games 1 matched 1 refused 0\n")
 
 
-def malicious(workers):
-    for mode, query, archive, status, report in MALICIOUS:
-        asked, files = ("q.cql", {"q.cql": query, "-": archive}) if mode == "run" else (query, {"-": archive})
-        yield [mode, asked, "-", "--workers", workers], files, (status, "", report)
-
-
-def found_by(workers):
-    """a game that is found, from standard input by its name"""
-    query, archive, movetext, fen = FOUND[0]
-    words = ["eval", query, "-", "--workers", workers]
-    yield words, {"-": archive}, (0, exported(movetext, fen), "games 1 matched 1 refused 0\n")
-
-
-def first_matches(workers):
-    """the second of the games is faulty"""
-    for games, first, limit, status, is_written, last in FIRST:
-        archive = ["1. e4 *\n"] * games
-        if first:
-            archive[first - 1] = "1. d4 *\n"
-        archive[1] = "1. e5 *\n"
-        words = ["eval", "cql() Pd4", "--first", "--workers", workers, "--limit", str(limit)]
-        report = last if first == 1 else "game 2 byte 11: illegal move\n" + last
-        yield words, {"-": "".join(archive)}, (status, exported("1. d4 {CQL} *") if is_written else "", report)
-
-
-def queries():
-    for said in (query_rows.said(), query_rows.weighed()):
-        for text, fault in said:
-            yield ["check", "q.cql"], {"q.cql": text}, (2, "", b"query byte %s\n" % fault) if fault else (0, "ok\n", "")
-    for text, lines in query_rows.flat():
-        yield ["explain", "q.cql"], {"q.cql": text}, (0, lines, "")
-
-
-def rows():
-    yield from archives()
-    yield from exports()
-    yield from moves()
-    yield from words_and_files()
+def malicious() -> Rows:
+    """Input that means harm, and a game that is found beside it."""
     for workers in ("1", "4"):
-        yield from found_by(workers)
-        yield from malicious(workers)
-        yield from first_matches(workers)
-    yield from queries()
+        query, archive, movetext, fen = FOUND[0]
+        words = ["eval", query, "-", "--workers", workers]
+        yield row(words, {"-": archive}, 0, exported(movetext, fen), "games 1 matched 1 refused 0\n")
+        for mode, query, archive, status, report in MALICIOUS:
+            asked, files = ("q.cql", {"q.cql": query, "-": archive}) if mode == "run" else (query, {"-": archive})
+            yield row([mode, asked, "-", "--workers", workers], files, status, "", report)
 
 
-# ---- the answers
-
-OPTIONS = ("--workers", "--limit", "--seed", "--games")
-
-
-def by_program(binary, words, files):
-    with tempfile.TemporaryDirectory() as folder:
-        for name, text in files.items():
-            if name != "-":
-                with open(os.path.join(folder, name), "wb") as f:
-                    f.write(text)
-        done = subprocess.run([binary] + words, input=files.get("-", b""), capture_output=True, cwd=folder, timeout=120)
-    return done.returncode, done.stdout, done.stderr
+def first_matches() -> Rows:
+    """Answers up to the first match; the second of the games is faulty."""
+    for workers in ("1", "4"):
+        for games, first, limit, status, is_written, last in FIRST:
+            archive = ["1. e4 *\n"] * games
+            if first:
+                archive[first - 1] = "1. d4 *\n"
+            archive[1] = "1. e5 *\n"
+            words = ["eval", "cql() Pd4", "--first", "--workers", workers, "--limit", str(limit)]
+            report = last if first == 1 else "game 2 byte 11: illegal move\n" + last
+            yield row(words, {"-": "".join(archive)}, status, exported("1. d4 {CQL} *") if is_written else "", report)
 
 
-def by_model(words, files):
-    """the answer of the model, which reads neither words that are refused nor limits"""
-    asked, given = [], []
-    for before, word in zip(["", *words], words):
-        (given if word.startswith("--") or before in OPTIONS else asked).append(word)
-    mode, query, *names = asked
-    text = query.encode() if mode in ("eval", "selfrun") else files.get(query, b"-")
-    options = dict(zip(given, given[1:]))
-    if mode == "selfrun":
-        return program.run_selfrun(text, int(options.get("--seed", 1)), int(options.get("--games", 100)))
-    if mode in ("check", "explain"):
-        return (program.run_check if mode == "check" else program.run_explain)(text)
-    archive = files[names[0] if names else "-"]
-    return program.run_eval(text, archive, first="--first" in given)
+def queries() -> Rows:
+    """Queries and what is said of their faults."""
+    for text, fault in [*query_rows.said(), *query_rows.weighed()]:
+        words, files = ["check", "q.cql"], {"q.cql": text}
+        yield row(words, files, 2, "", b"query byte %s\n" % fault) if fault else row(words, files, 0, "ok\n", "")
 
 
-def as_bytes(text):
-    return text.encode() if isinstance(text, str) else text
+def flat_forms() -> Rows:
+    """Queries and their flat forms."""
+    for text, lines in query_rows.flat():
+        yield row(["explain", "q.cql"], {"q.cql": text}, 0, lines, "")
 
 
-def shown(answer):
-    return tuple(x if isinstance(x, int) or len(x) < 2000 else (len(x), x[:200]) for x in answer)
+KINDS = (found, missed, ends, reports, orders, exports, moves, words_that_are_refused, made, words_and_files)
+KINDS += (malicious, first_matches, queries, flat_forms)
 
 
-def main(binary):
-    passed, failed = 0, 0
-
-    def compare(side, words, got, want):
-        nonlocal passed, failed
-        if got == want:
-            passed += 1
-        else:
-            failed += 1
-            print("DIFFERS", side, [word[:200] for word in words], "\n got ", shown(got), "\n want", shown(want))
-
-    for words, files, (status, out, err) in rows():
-        files = {name: as_bytes(text) for name, text in files.items()}
-        want = (status, as_bytes(out), as_bytes(err))
-        if status not in (3, 8):
-            compare("model", words, by_model(words, files), want)
-        if binary:
-            compare("program", words, by_program(binary, words, files), want)
-    for items, count, _ in query_rows.WEIGHED:
-        text = b"cql() " + items
-        compare("model", ["explain", text], program.run_explain(text)[1].count(b"\n"), count)
-        if binary:
-            answer = by_program(binary, ["explain", "q.cql"], {"q.cql": text})
-            compare("program", ["explain", text], answer[1].count(b"\n"), count)
-    print("rows: %d passed, %d failed" % (passed, failed))
-    return 1 if failed else 0
-
-
-if __name__ == "__main__":
-    sys.exit(main(os.path.abspath(sys.argv[1]) if len(sys.argv) > 1 else None))
+def rows() -> Iterator[tuple[str, Row]]:
+    """Each row with its name: what it shows, and its number among those."""
+    for kind in KINDS:
+        for number, one in enumerate(kind(), 1):
+            yield f"{kind.__name__}-{number}", one

@@ -14,10 +14,10 @@ import os
 import subprocess
 import sys
 
-from tests.drawn import fuzz
 from model import json_lines
-from tests.drawn import mutants
 from model import pgn
+from tests.drawn import fuzz
+from tests.drawn import mutants
 
 HERE = os.path.dirname(os.path.abspath(__file__))
 RANDOM = fuzz.RANDOM

@@ -20,10 +20,10 @@ import signal
 import sys
 import tempfile
 
-from tests.drawn import fuzz
 from model import pgn
 from model import program
 from model import query
+from tests.drawn import fuzz
 
 HERE = os.path.dirname(os.path.abspath(__file__))
 RANDOM = fuzz.RANDOM

@@ -12,8 +12,8 @@ from typing import Any
 import pytest
 from tests.answers import found
 from tests.conftest import TOP, Asking
-from tests.processes import PATIENCE, becomes
 from tests.package.test_diagrams import HOSTILE
+from tests.processes import PATIENCE, becomes
 
 pytestmark = [
     pytest.mark.usefixtures("pgnjson"),

@@ -8,8 +8,8 @@ from pathlib import Path
 
 import cqlpgn as package
 import pytest
-from tests.conftest import TOP, Answer, Asking
 from cqlpgn import faults, hints
+from tests.conftest import TOP, Answer, Asking
 
 pytestmark = pytest.mark.usefixtures("cqlpgn")
 

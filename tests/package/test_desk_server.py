@@ -18,8 +18,8 @@ from collections.abc import Iterator
 from pathlib import Path
 
 import pytest
-from tests.conftest import TOP, program
 from cqlpgn.desk.found import Found, Room, has_text, tags_of
+from tests.conftest import TOP, program
 from tests.desks import GAME, Line, Served
 from tests.processes import PATIENCE, all_end
 

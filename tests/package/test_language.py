@@ -2,11 +2,10 @@
 
 from __future__ import annotations
 
-import importlib
 import subprocess
 import sys
-from typing import Any
 
+from model import query
 from tests.conftest import TOP
 
 
@@ -18,7 +17,6 @@ def words(kind: str) -> set[str]:
 
 
 def test_the_words_of_vim() -> None:
-    query: Any = importlib.import_module("query")
     assert (words("cqlWord"), words("cqlReserved")) == (query.WORDS, query.RESERVED)
 
 

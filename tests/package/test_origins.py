@@ -8,7 +8,8 @@ from typing import Any
 
 import cqlpgn as package
 import pytest
-from tests.answers import ONE, QUERY, TWO, model
+from model import program
+from tests.answers import ONE, QUERY, TWO, nodes_found
 from tests.conftest import Asking
 
 pytestmark = pytest.mark.usefixtures("cqlpgn", "archives")
@@ -19,9 +20,7 @@ EQUAL = MATE + QUIET + MATE + BAD + MATE + QUIET * 2 + LONG + BAD + MATE + LONG
 
 def by_model(query: str, archive: bytes) -> list[int]:
     """The numbers of the games that match, in the archive's order: each game is asked alone."""
-    games = model().games_of(archive)
-    read = model().read_query(query.encode())
-    return [number for number, game in enumerate(games, 1) if not isinstance(game, tuple) and model().hits(read, game)[0]]
+    return [number for number, nodes in nodes_found(query, archive) if nodes]
 
 
 @pytest.mark.parametrize(
@@ -91,7 +90,7 @@ def test_what_found_raises(room: Path) -> None:
         list(package.found(QUERY, "cut.pgn.gz"))
     games = list(package.found(QUERY, [room / "one.pgn", room / "two.pgn"]))
     assert [(Path(game.archive).name, game.game_number) for game in games] == [("one.pgn", 2), ("two.pgn", 3)]
-    want: list[Any] = [model().run_eval(QUERY.encode(), data)[1] for data in (ONE, TWO)]
+    want: list[Any] = [program.run_eval(QUERY.encode(), data)[1] for data in (ONE, TWO)]
     assert [game.pgn for game in games] == want
 
 

@@ -10,7 +10,8 @@ from collections.abc import Callable
 from pathlib import Path
 
 import pytest
-from tests.answers import COUNTS_ONE, COUNTS_TWO, FAULT_TWO, LINES, MANY, ONE, QUERY, TOTAL, TWO, found, model
+from model import program
+from tests.answers import COUNTS_ONE, COUNTS_TWO, FAULT_TWO, LINES, MANY, ONE, QUERY, TOTAL, TWO, found
 from tests.conftest import Answer, Asking
 
 pytestmark = pytest.mark.usefixtures("cqlpgn", "archives")
@@ -229,7 +230,7 @@ def test_a_table_at_the_end(over: Over) -> None:
 def test_a_file_for_each_query(over: Over, room: Path, options: list[str]) -> None:
     (room / "many.cql").write_bytes(MANY)
     answer = over(*options, "--many", "many.cql", "-o", "found-", "one.pgn", "two.pgn")
-    texts = [piece.decode() for piece in model().pieces_of(MANY)]
+    texts = [piece.decode() for piece in program.pieces_of(MANY)]
     assert [(room / f"found-0{n}.pgn").read_bytes() for n in (1, 2, 3)] == [found(ONE, TWO, asking=text) for text in texts]
     assert (answer.status, answer.out) == (1, b"")
     assert answer.lines[:3] == ["one.pgn: query 1: " + COUNTS_ONE, "one.pgn: query 2: games 3 matched 3 refused 0"] + [

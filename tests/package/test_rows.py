@@ -14,9 +14,11 @@ from typing import Any
 
 import cqlpgn as package
 import pytest
-from tests.answers import model
-from tests.conftest import TOP, Answer, Asking
 from cqlpgn import archives, games
+from model.chess import fen_text
+from model.pgn import Node
+from tests.answers import nodes_found
+from tests.conftest import TOP, Answer, Asking
 from tests.processes import children, has_ended
 
 pytestmark = pytest.mark.usefixtures("cqlpgn", "pgnjson", "room")
@@ -28,18 +30,12 @@ EMPTY = "-: no position has the comment {CQL}; --mark names another one"
 
 def by_model(query: str, archive: bytes) -> list[tuple[int, int, str]]:
     """Game, ply and position (without its clocks) of each match, in the order of the tree."""
-    import importlib
 
-    chess: Any = importlib.import_module("chess")
-    read, found = model().read_query(query.encode()), []
-    for number, game in enumerate(model().games_of(archive), 1):
-        nodes = [] if isinstance(game, tuple) else model().hits(read, game)[0]
+    def ply(node: Node) -> int:
+        return 0 if node.parent is None else 1 + ply(node.parent)
 
-        def ply(node: Any) -> int:
-            return 0 if node.parent is None else 1 + ply(node.parent)
-
-        found += [(number, ply(node), " ".join(chess.fen_text(node.pos).split()[:4])) for node in nodes]
-    return found
+    found = nodes_found(query, archive)
+    return [(number, ply(node), " ".join(fen_text(node.pos).split()[:4])) for number, nodes in found for node in nodes]
 
 
 @pytest.mark.parametrize("name", ARCHIVES)

@@ -5,7 +5,8 @@ from __future__ import annotations
 from pathlib import Path
 
 import pytest
-from tests.answers import ONE, found, model
+from model import program
+from tests.answers import ONE, found
 from tests.conftest import Answer, Asking
 
 
@@ -26,7 +27,7 @@ def joint(room: Path) -> tuple[bytes, list[bytes]]:
     archive = '[White "Müller"]\n'.encode() + ONE
     texts = ["cql() check", "cql() Pa8", 'cql(matchstring "für") initial']
     (room / "found").mkdir()
-    return model().run_many("\n%%\n".join(texts).encode(), archive)[1], [model().run_eval(text.encode(), archive)[1] for text in texts]
+    return program.run_many("\n%%\n".join(texts).encode(), archive)[1], [program.run_eval(text.encode(), archive)[1] for text in texts]
 
 
 def test_three_queries_apart(asked: Asking, joint: tuple[bytes, list[bytes]]) -> None:
