@@ -1,30 +1,18 @@
 """Wrong programs: how their texts are read, and which answers of the prover count as a refusal of what a function does."""
 
-import importlib.machinery
-import importlib.util
+from __future__ import annotations
+
 import os
 import time
 from pathlib import Path
-from types import ModuleType
-from typing import Any
 
 import pytest
+from tests.scripts.loading import SCRIPTS, loaded
 
-SCRIPT = Path(__file__).resolve().parents[2] / "scripts" / "wrong-programs"
 CODE = "fn sign() -> u8 {\n    1\n}\n\nfn other() -> u8 {\n    2\n}\n"
 
 
-def loaded() -> ModuleType:
-    """The script as a module."""
-    loader = importlib.machinery.SourceFileLoader("wrong_programs", str(SCRIPT))
-    spec = importlib.util.spec_from_loader("wrong_programs", loader)
-    assert spec is not None
-    module = importlib.util.module_from_spec(spec)
-    loader.exec_module(module)
-    return module
-
-
-WRONG: Any = loaded()
+WRONG = loaded("wrong-programs")
 
 
 @pytest.fixture(name="crate")
@@ -140,7 +128,7 @@ def test_a_library_counts_once_this_run_has_made_it_and_it_stands(tmp_path: Path
 
 
 def test_each_wrong_program_of_the_repository_can_be_applied() -> None:
-    edits = sorted(SCRIPT.parent.parent.glob("crates/*/wrong/*.edit"))
+    edits = sorted(SCRIPTS.parent.glob("crates/*/wrong/*.edit"))
     assert edits
     for edit in edits:
         WRONG.read_wrong(edit.read_text(encoding="utf-8"), edit.parent.parent)
