@@ -38,6 +38,24 @@ class Answer:
 Asking = Callable[..., Answer]
 
 
+def pytest_addoption(parser: pytest.Parser) -> None:
+    parser.addoption("--archive", metavar="FILE", help="a large archive for the tests of many machines that are marked long")
+
+
+def pytest_collection_modifyitems(items: list[pytest.Item]) -> None:
+    """Where tests run beside each other, those of a file of the package stay together: they have a browser or a desk in common."""
+    for item in items:
+        if item.path.parent.name == "package":
+            item.add_marker(pytest.mark.xdist_group(item.path.stem))
+
+
+def pytest_collection_finish(session: pytest.Session) -> None:
+    """A name that no test has is an error."""
+    named = session.config.getoption("keyword")
+    if named and not session.items and not hasattr(session.config, "workerinput"):
+        raise pytest.UsageError(f"no test has the name {named}")
+
+
 def program(variable: str, name: str) -> str:
     """The path of a program; the test is skipped where it is not there."""
     path = os.environ.get(variable) or str(TOP / "crates" / name / "out" / name)
