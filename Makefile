@@ -12,7 +12,7 @@ MODULES ?= $(shell $(PYTHON) -c 'import site; wanted = "$(PREFIX)/lib/"; \
 COMMANDS = $(notdir $(wildcard python/bin/*))
 ZSH ?= site-functions
 
-.PHONY: demo build install uninstall deb test cases clean
+.PHONY: demo build install uninstall deb test test-tools cases clean
 
 # The games of the sample archive with a white queen on f7, by a program that is compiled without its proofs.
 demo:
@@ -92,13 +92,18 @@ deb:
 	mv out/deb/cqlpgn*.deb out/
 	rm -rf out/deb
 
+# All proofs, wrong programs and tests. It changes nothing on the machine, and names what it skips for want of a package of Debian.
 test:
-	bash .ci/run
+	bash .ci/run --as-is
 
-# The cases, recipes and pages alone, over the program that is built.
+# Installs what the tests want of Debian.
+test-tools:
+	scripts/test-tools
+
+# What asks cqlpgn, the cases among it, and what the pages show, over the programs that are built.
 cases:
-	@test -x $(PROGRAM) || { echo "make build comes first"; exit 1; }
-	python3 -m tests.cqlpgn.process $(PROGRAM)
+	@test -x $(PROGRAM) -a -x $(PIECES) -a -x $(JSON) || { echo "make build comes first"; exit 1; }
+	CQLPGN=$(PROGRAM) PGNPIECES=$(PIECES) PGNJSON=$(JSON) scripts/tests tests/cqlpgn tests/pages
 
 # Removes what checks and builds have kept; the next ones take as long as the first.
 clean:
