@@ -4,10 +4,19 @@ In the first step each piece is asked the query without its texts of `matchstrin
 nothing to them; the second one asks the query as it is of the games that were found.
 """
 
-import re
-from collections import namedtuple
+from __future__ import annotations
 
-Asked = namedtuple("Asked", "silent sorts sees_missing_tags")
+import re
+from typing import NamedTuple
+
+
+class Asked(NamedTuple):
+    """what a query asks: it without its texts, whether it sorts, and whether it asks for the text of a tag that is missing"""
+
+    silent: bytes
+    sorts: bool
+    sees_missing_tags: bool
+
 
 MOST_BYTES = 65536
 MEN = rb"(?:[KQRBNPkqrbnpAa_.]|\[[KQRBNPkqrbnpAa_.]+\])"
@@ -20,20 +29,22 @@ NAME = re.compile(rb"[A-Za-z_][A-Za-z0-9_]*")
 DESIGNATORS = [re.compile(MEN + SQUARES), re.compile(SQUARES), re.compile(MEN)]
 
 
-def token_at(query, at, before):
+def token_at(query: bytes, at: int, before: bytes) -> bytes:
     """the bytes of the token at a place: a designator where it is at least as long as a name, and a file's name after `input`, `output`"""
     file = FILE.match(query, at) if before in (b"input", b"output") else None
     text = TEXT.match(query, at)
-    if file or text:
-        return (file or text).group()
+    whole = file or text
+    if whole:
+        return whole.group()
     found = [match.group() for match in (NAME.match(query, at), *(form.match(query, at) for form in DESIGNATORS)) if match]
     return max(found, key=len, default=query[at : at + 1])
 
 
-def asked(query):
+def asked(query: bytes) -> Asked:
     """What a query without faults asks: the same query without its texts of `matchstring` and `comment`; whether it sorts; and whether it
     asks for a text that a game may have only as it is written, since a tag that is missing is written as `?`."""
-    out, at, head, given = bytearray(), 0, None, False
+    out, at, given = bytearray(), 0, False
+    head: int | None = None
     sorts, missing = False, False
     before = [b"", b""]
     while at < len(query):
@@ -57,6 +68,6 @@ def asked(query):
         if head is None and token == b"(":
             head = len(out)
         before = [before[-1], b"a file" if is_file else token]
-    if not given:
+    if not given and head is not None:
         out[head:head] = b'matchstring "" '
     return Asked(bytes(out), sorts, missing)

@@ -13,6 +13,7 @@ import gzip
 import os
 import sys
 from pathlib import Path
+from typing import Any
 
 from model import program
 from model.program import Answer
@@ -63,7 +64,7 @@ class Case:
         for name, text in {"query.cql": self.query, "queries.cql": self.queries or b"", "archive.pgn": self.archive}.items():
             (room / name).write_bytes(text)
         with open("/dev/full", "wb") as full:
-            streams = {"std" + self.under["full"]: full} if "full" in self.under else {}
+            streams: dict[str, Any] = {"std" + self.under["full"]: full} if "full" in self.under else {}
             return run(path, *self.words, folder=room, memory=int(self.under.get("memory", 0)), **streams)
 
     def is_for_the_model(self) -> bool:

@@ -3,7 +3,8 @@
     python3 -m tests.checks_of_comments            tells what this tree has against them
 
 A re-export is `pub use OTHER_CRATE::..` in a file of crates/*/src. A comment is a line that begins with `//`, `///`, `//!` or `--` in a
-file of crates/*/src or crates/*/specs; lines beside each other are one text, whose sentences end with `.`, `?`, `!` or `:` before white space.
+file of crates/*/src or crates/*/specs; lines beside each other are one text, whose sentences end with `.`, `?`, `!` or `:` before white
+space.
 """
 
 from __future__ import annotations

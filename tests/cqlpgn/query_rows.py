@@ -1,5 +1,10 @@
 """Rows of queries: what `check` says of them, what they weigh, and their flat form."""
 
+from __future__ import annotations
+
+from collections.abc import Iterator
+from typing import Tuple
+
 # A query, and what is said of its fault; nothing where it is accepted.
 SAID = [
     (b"cql() flipcolor Ka1", b""),
@@ -317,10 +322,11 @@ FLAT = [
     (b"shiftvertical (Ka1 | Ka8)", b"(union (| [K]:0000000000000001 [K]:0100000000000000))"),
 ]
 
+Said = Iterator[Tuple[bytes, bytes]]
 HEAVY = b" flip flip flip flip flip check"
 
 
-def repeated():
+def repeated() -> Said:
     """queries that are long, deep or heavy, and what is said of their faults"""
     yield b" " * 65536, b"65536: unexpected end"
     yield b" " * 65537, b"65536: query too long"
@@ -333,7 +339,7 @@ def repeated():
         yield b"cql() " + b"shift " * depth + b"check", b"6: too many members"
 
 
-def said():
+def said() -> Said:
     """each query with what is said of its fault"""
     yield from SAID
     yield from repeated()
@@ -345,21 +351,21 @@ def said():
         yield b"cql() " + word * 64 + rest, fault
 
 
-def padding(weight):
+def padding(weight: int) -> bytes:
     """items of this weight, the first of them a family: a fifth flip weighs 37,449, and a shift 226"""
     heavy, rest = divmod(weight, 37449)
     shifts, rest = divmod(rest, 226)
     return b"flip flip flip flip flip check " * heavy + b"shift check " * shifts + b"check " * rest
 
 
-def weighed():
+def weighed() -> Said:
     """queries brought to the limit of weight, which are accepted, and one above it, which are not"""
     for items, _, weight in WEIGHED:
         yield b"cql() " + padding(262144 - weight) + items, b""
         yield b"cql() " + padding(262145 - weight) + items, b"6: too many members"
 
 
-def flat():
+def flat() -> Said:
     """each query with its flat form, a line an item"""
     for items, text in FLAT:
         yield b"cql() " + items, text + b"\n"

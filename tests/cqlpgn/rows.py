@@ -5,7 +5,7 @@ A row has the status and both streams that are wanted, as a reader of the langua
 
 from __future__ import annotations
 
-from collections.abc import Iterator, Mapping
+from collections.abc import Callable, Iterator, Mapping
 from typing import NamedTuple, Union
 
 from model.program import Answer
@@ -19,7 +19,7 @@ OPENED = "1. e4 e5 2. Nf3 *"
 # ---- the rows
 
 # A query, an archive of one game that it finds, and how this is written: its movetext, and its FEN text where it has one.
-FOUND = [
+FOUND: list[tuple[str, ...]] = [
     ("cql() Ka1", '[FEN "8/8/8/8/8/8/8/K1k5 w - - 0 1"]\n*\n', "{CQL} *", "8/8/8/8/8/8/8/K1k5 w - - 0 1"),
     ("cql() Nf3", OPENED, "1. e4 e5 2. Nf3 {CQL} *"),
     ("cql() Pe4 pe7", "1. e4 e5 *", "1. e4 {CQL} 1... e5 *"),
@@ -214,7 +214,7 @@ MOVES = [
 ]
 
 # The same with an archive of two games.
-FOUND_OF_TWO = [
+FOUND_OF_TWO: list[tuple[str, ...]] = [
     (
         "cql() shift { Pa2 not Pb3 }",
         '[FEN "4k3/8/8/8/7P/8/8/4K3 w - - 0 1"]\n*\n[FEN "4k3/8/8/8/2P5/8/8/4K3 w - - 0 1"]\n*\n',
@@ -303,7 +303,7 @@ TURNED_AWAY = [
 GREATEST = ["--seed", "4294967295", "--games", "100000", "--workers", "64"]
 
 # Words that ask for a made archive, and the line that is written.
-MADE = [
+MADE: list[tuple[list[str], str]] = [
     (["selfrun", "cql() mate", "--games", "0"], "bytes 0 games 0 matched 0 refused 0 written 0\n"),
     (["selfrun", "cql() mate", "--games", "5", "--workers", "1"], "bytes 1774 games 5 matched 0 refused 0 written 0\n"),
     (["selfrun", "cql() mate", "--games", "5", "--workers", "64"], "bytes 1774 games 5 matched 0 refused 0 written 0\n"),
@@ -574,8 +574,8 @@ def flat_forms() -> Rows:
         yield row(["explain", "q.cql"], {"q.cql": text}, 0, lines, "")
 
 
-KINDS = (found, missed, ends, reports, orders, exports, moves, words_that_are_refused, made, words_and_files)
-KINDS += (malicious, first_matches, queries, flat_forms)
+KINDS: list[Callable[[], Rows]] = [found, missed, ends, reports, orders, exports, moves, words_that_are_refused, made, words_and_files]
+KINDS += [malicious, first_matches, queries, flat_forms]
 
 
 def rows() -> Iterator[tuple[str, Row]]:

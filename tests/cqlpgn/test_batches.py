@@ -74,7 +74,7 @@ def test_as_it_is_read(cqlpgn: str) -> None:
 
 @pytest.mark.parametrize(("query", "matched"), [("cql() initial %s == 64", 1), ("cql() %s > 64", 0)])
 def test_most_places(ask: Asks, query: str, matched: int) -> None:
-    """A line of 64 parts, each of which may stand any number of times, over as many positions as a game may have: the longest row has 64."""
+    """A line of 64 parts, each of which may stand any number of times, over as many positions as a game may have: the longest has 64."""
     line = "(line" + " --> wtm* --> btm*" * 32 + ")"
     knights = b"Nf3 Nf6 Ng1 Ng8 " * 16383 + b"Nf3 Nf6 Ng1 *"
     status, out, err = ask("eval", query % line, data=knights)

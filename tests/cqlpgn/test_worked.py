@@ -173,7 +173,7 @@ SEVERAL = [
 ]
 PROMOTED = "7k/P7/8/8/8/8/8/K7 w - - 0 1"
 # Queries that share parts, and how each writes the game in which a pawn promotes, where it finds it.
-SHARED = [
+SHARED: list[tuple[list[str], list[str | None]]] = [
     (["cql() wtm check", "cql() check wtm"], [None, None]),
     (["cql() wtm", "cql(variations) wtm"], ["{CQL} 1. a8=Q+ Kh7 {CQL} *"] * 2),
     (["cql() {btm check}", "cql() (check and btm)  Qa8"], ["1. a8=Q+ {CQL} 1... Kh7 *"] * 2),

@@ -10,7 +10,6 @@ import os
 import subprocess
 import zipfile
 from pathlib import Path
-from typing import Any
 
 import cqlpgn as package
 import pytest

@@ -7,6 +7,7 @@ import gzip
 import json
 from collections.abc import Iterator
 from pathlib import Path
+from typing import Any
 
 import pytest
 from model import json_lines, pgn
@@ -196,7 +197,8 @@ def test_no_memory_for_a_game(pgnjson: str) -> None:
 @pytest.mark.parametrize(("stream", "words"), [("stdout", []), ("stdout", ["-"]), ("stderr", ["--help"])])
 def test_a_full_device(pgnjson: str, stream: str, words: list[Word]) -> None:
     with open("/dev/full", "wb") as full:
-        assert run(pgnjson, *words, data=b"*", **{stream: full}) == (6, b"", b"")
+        streams: dict[str, Any] = {stream: full}
+        assert run(pgnjson, *words, data=b"*", **streams) == (6, b"", b"")
 
 
 def test_a_full_device_takes_no_report(pgnjson: str) -> None:

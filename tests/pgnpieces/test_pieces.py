@@ -5,6 +5,7 @@ from __future__ import annotations
 import functools
 import random
 from pathlib import Path
+from typing import Any
 
 import pytest
 from model import pgn
@@ -218,7 +219,8 @@ def test_a_folder(pgnpieces: str, tmp_path: Path) -> None:
 @pytest.mark.parametrize(("stream", "words"), [("stdout", ["-", "1"]), ("stderr", [])])
 def test_a_full_device(pgnpieces: str, stream: str, words: list[Word]) -> None:
     with open("/dev/full", "wb") as full:
-        assert run(pgnpieces, *words, data=b"*", **{stream: full}) == (6, b"", b"")
+        streams: dict[str, Any] = {stream: full}
+        assert run(pgnpieces, *words, data=b"*", **streams) == (6, b"", b"")
 
 
 # Reads and writes that fail after some bytes: the lines of the pieces that are long enough by then, or a front of the table.
