@@ -56,12 +56,17 @@ def pytest_collection_finish(session: pytest.Session) -> None:
         raise pytest.UsageError(f"no test has the name {named}")
 
 
+def path_of(variable: str, name: str) -> str:
+    """Where a program is: as the variable says, or where `make build` puts it."""
+    return os.path.abspath(os.environ.get(variable) or TOP / "crates" / name / "out" / name)
+
+
 def program(variable: str, name: str) -> str:
     """The path of a program; the test is skipped where it is not there."""
-    path = os.environ.get(variable) or str(TOP / "crates" / name / "out" / name)
+    path = path_of(variable, name)
     if not os.access(path, os.X_OK):
         pytest.skip(f"there is no program {name}")
-    return os.path.abspath(path)
+    return path
 
 
 @pytest.fixture

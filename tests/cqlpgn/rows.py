@@ -316,7 +316,7 @@ MADE: list[tuple[list[str], str]] = [
 ]
 
 # Words that are refused.
-REFUSED = [
+REFUSED: list[list[str]] = [
     [],
     ["eval"],
     ["eval", "cql() check", "--workers", "0"],

@@ -1,12 +1,13 @@
-#!/usr/bin/env python3
 """Random archives, queries and query texts: the built program is compared with the model.
 
-    python3 fuzz.py BINARY MODE SEED COUNT
+    python3 -m tests.drawn.fuzz BINARY MODE SEED COUNT
 
 MODE is `archives` (random and mutated archives), `queries` (random queries over small games), `squares` (queries with one to three
 `square`, as players write them, with `find`, `child`, `parent` and families around them, five over each archive), `explained` (the same
 queries as `queries` by `explain`), `many` (files of such queries, which have parts in common) or `texts` (mutated query texts and texts
 near the limits, by `check`). Differences land in the folder out/ beside this file. pypy3 is several times faster than python3 here."""
+
+from __future__ import annotations
 
 
 import os
@@ -15,21 +16,20 @@ import re
 import subprocess
 import sys
 import tempfile
+from typing import Callable
 
-from model import chess
-from model import query
-from model import meaning
-from model import program
+from model import chess, meaning, program, query
+from model.pgn import Fault, Game
 
 RANDOM = random.Random()
 
 
-def chance(p):
+def chance(p: float) -> bool:
     return RANDOM.random() < p
 
 
 # Archives.
-def san(p, mv):
+def san(p: chess.Position, mv: chess.Move | None) -> str:
     if mv is None:
         return RANDOM.choice(["--", "Z0", "--"])
     t = chess.san_text(p, mv)
@@ -79,7 +79,7 @@ COMMENT_WORDS = [
 ]
 
 
-def comment():
+def comment() -> str:
     if chance(0.25):
         return ";" + " ".join(RANDOM.choice(COMMENT_WORDS + ["}"]) for _ in range(RANDOM.randint(0, 5))) + "\n"
     sep = RANDOM.choice([" ", " ", "\n", "  ", "\t", "\r\n"])
@@ -92,21 +92,20 @@ def comment():
     )
 
 
-def nag():
+def nag() -> str:
     return RANDOM.choice("! ? !! ?? !? ?! $1 $0 $14 $255 $007 $139".split())
 
 
-def gen_line(p, depth, n, cfg, first=True):
+def gen_line(p: chess.Position, depth: int, n: int, cfg: dict[str, float], first: bool = True) -> list[str]:
     out = []
 
-    def extras():
+    def extras() -> None:
         while chance(cfg["extra"]):
             out.append(comment() if chance(0.5) else nag())
 
     if depth:
         extras()
-    due = True
-    for i in range(n):
+    for _ in range(n):
         ms = chess.legal_moves(p)
         mv = None
         if ms and not chance(cfg["null"]):
@@ -161,12 +160,12 @@ FENS = [
 ]
 
 
-def random_fen():
+def random_fen() -> str:
     c = RANDOM.random()
     if c < 0.4:
         return RANDOM.choice(FENS).decode()
     if c < 0.8:
-        p = chess.START if chance(0.5) else chess.read_fen(RANDOM.choice(FENS))
+        p = chess.START if chance(0.5) else chess.position_of(RANDOM.choice(FENS))
         for _ in range(RANDOM.randint(0, 30)):
             ms = chess.legal_moves(p)
             if not ms:
@@ -176,8 +175,7 @@ def random_fen():
     else:
         board = [chess.EMPTY] * 64
         for man in [chess.KING, chess.KING + 6] + [
-            RANDOM.randrange(12) if chance(0.15) else RANDOM.choice([1, 2, 3, 4, 5, 7, 8, 9, 10, 11])
-            for _ in range(RANDOM.randint(0, 12))
+            RANDOM.randrange(12) if chance(0.15) else RANDOM.choice([1, 2, 3, 4, 5, 7, 8, 9, 10, 11]) for _ in range(RANDOM.randint(0, 12))
         ]:
             board[RANDOM.randrange(64)] = man
         t = chess.fen_text(
@@ -208,11 +206,11 @@ def random_fen():
     return t
 
 
-def escaped(v):
+def escaped(v: str) -> str:
     return v.replace("\\", "\\\\").replace('"', '\\"')
 
 
-def gen_game():
+def gen_game() -> str:
     tags = []
     p = chess.START
     if chance(0.5):
@@ -220,13 +218,13 @@ def gen_game():
             "Event Site Date Round White Black Result WhiteElo BlackElo SetUp ECO aa Z_1 9x Event".split(),
             RANDOM.randint(0, 7),
         ):
-            v = {
+            values = {
                 "Date": ["2023.05.14", "1999", "??", "", "12", "abcd"],
                 "Result": ["1-0", "0-1", "1/2-1/2", "*", "?", ""],
                 "WhiteElo": ["1850", "?", "", "0", "999999999", "1000000000", "12a"],
                 "BlackElo": ["1799", "2100", "-", ""],
             }.get(n, ["x", 'a "quoted" b', "back\\slash", "\\\\", "", "Müller", "x" * 90, "]", "{a}", "tab\tx"])
-            v = RANDOM.choice(v)
+            v = RANDOM.choice(values)
             tags.append(
                 '[%s%s"%s"%s]'
                 % (
@@ -330,13 +328,11 @@ SOUP = [
 ]
 
 
-def random_bytes():
-    return "".join(RANDOM.choice(SOUP) + RANDOM.choice(["", " ", ""]) for _ in range(RANDOM.randint(1, 25))).encode(
-        "utf-8"
-    )
+def random_bytes() -> bytes:
+    return "".join(RANDOM.choice(SOUP) + RANDOM.choice(["", " ", ""]) for _ in range(RANDOM.randint(1, 25))).encode("utf-8")
 
 
-def mutate(b, n):
+def mutate(b: bytes, n: int) -> bytes:
     b = bytearray(b)
     for _ in range(n):
         if not b:
@@ -361,15 +357,13 @@ def mutate(b, n):
     return bytes(b)
 
 
-def random_archive():
+def random_archive() -> bytes:
     k = RANDOM.random()
     if k < 0.12:
         return random_bytes()
     gs = [gen_game() for _ in range(RANDOM.choice([1, 1, 1, 2, 3, 5]))]
     if chance(0.1):
-        gs.insert(
-            RANDOM.randint(0, len(gs)), RANDOM.choice(["{only a comment}", "*", "*\n*\n", ";x\n", "%y\n", "\n\n"])
-        )
+        gs.insert(RANDOM.randint(0, len(gs)), RANDOM.choice(["{only a comment}", "*", "*\n*\n", ";x\n", "%y\n", "\n\n"]))
     b = "".join(gs).encode("utf-8")
     if chance(0.05):
         b = b"\xef\xbb\xbf" + b
@@ -380,20 +374,21 @@ def random_archive():
     return b
 
 
-def small_archive():
+def small_archive() -> bytes:
     if chance(0.04):
         return random_archive()[:1500]
     for _ in range(50):
         b = "".join(gen_game() for _ in range(RANDOM.choice([1, 1, 2, 3]))).encode("utf-8")
         gs = program.games_of(b)
-        if len(b) <= 2500 and not any(isinstance(g, tuple) for g in gs) and sum(len(g.nodes) for g in gs) >= 4:
+        sound = [g for g in gs if not isinstance(g, tuple)]
+        if len(b) <= 2500 and len(sound) == len(gs) and sum(len(g.nodes) for g in sound) >= 4:
             break
     return b
 
 
-def answers_at(q, games):
+def answers_at(q: query.Query, games: list[Game | Fault]) -> set[bool]:
     """what a query says of the nodes of games, up to the first of which it says another thing than before"""
-    found = set()
+    found: set[bool] = set()
     for g in games:
         if not isinstance(g, tuple):
             s = meaning.Search(g, q["variations"])
@@ -404,35 +399,36 @@ def answers_at(q, games):
     return found
 
 
-def good_query(arch, draw=None):
+def good_query(arch: bytes, draw: Callable[[], str] | None = None) -> str:
     """a query that tells nodes apart, where one is found soon"""
     draw = draw or random_query
     if chance(0.12):
         return draw()
-    best = None
+    best = ""
     for _ in range(8):
         t = draw()
         found = answers_at(query.read_query(t.encode("utf-8")), program.games_of(arch))
         if len(found) == 2:
             return t
-        if best is None or True in found:
+        if not best or True in found:
             best = t
     return best
 
 
 # Queries.
-def one_of(*xs):
+def one_of(*xs: str) -> str:
     return RANDOM.choice(xs)
 
 
-def random_squares():
-    f = lambda: RANDOM.choice("abcdefgh")
-    r = lambda: RANDOM.choice("12345678")
-    spec = lambda: f() + ("-" + f() if chance(0.3) else "") + r() + ("-" + r() if chance(0.3) else "")
+def random_squares() -> str:
+    def spec() -> str:
+        files = RANDOM.choice("abcdefgh") + ("-" + RANDOM.choice("abcdefgh") if chance(0.3) else "")
+        return files + RANDOM.choice("12345678") + ("-" + RANDOM.choice("12345678") if chance(0.3) else "")
+
     return "[" + ",".join(spec() for _ in range(RANDOM.randint(1, 3))) + "]" if chance(0.15) else spec()
 
 
-def random_designator():
+def random_designator() -> str:
     if chance(0.03):
         return "a-h" + RANDOM.choice("1234567") + RANDOM.choice(["", "-8"])
     if chance(0.03):
@@ -506,10 +502,10 @@ NUMBER_TEXTS = [
 class FilterGenerator:
     """text of a filter; budget keeps it small; names bound"""
 
-    def __init__(self):
+    def __init__(self) -> None:
         self.weight = 1
 
-    def set(self, d, names):
+    def set(self, d: int, names: list[str]) -> str:
         if d <= 0 or chance(0.35):
             if names and chance(0.4):
                 return RANDOM.choice(names)
@@ -538,7 +534,7 @@ class FilterGenerator:
             return self.fam(lambda: self.set(D, names))
         return random_designator()
 
-    def fam(self, part):
+    def fam(self, part: Callable[[], str]) -> str:
         f = RANDOM.choice(query.FAMILIES)
         z = query.size(f)
         if self.weight * z > 400:
@@ -548,7 +544,7 @@ class FilterGenerator:
         self.weight //= z
         return t
 
-    def number(self, d, names):
+    def number(self, d: int, names: list[str]) -> str:
         k = RANDOM.randrange(13)
         D = d - 1
         if d <= 0 or k < 2:
@@ -593,22 +589,14 @@ class FilterGenerator:
             return "(%s)" % self.line(D, names)
         return "#" + random_designator()
 
-    def line(self, d, names):
+    def line(self, d: int, names: list[str]) -> str:
         ar = one_of("-->", "-->", "<--")
-        t = (
-            "line "
-            + one_of("", "", "primary ")
-            + one_of("", "", "", "%d %d " % (RANDOM.randint(1, 5), RANDOM.randint(1, 8)))
-        )
+        t = "line " + one_of("", "", "primary ") + one_of("", "", "", "%d %d " % (RANDOM.randint(1, 5), RANDOM.randint(1, 8)))
         return t + " ".join(ar + " " + self.constituent(d, names, ar) for _ in range(RANDOM.choice([1, 2, 2, 3])))
 
-    def constituent(self, d, names, ar, g=0):
+    def constituent(self, d: int, names: list[str], ar: str, g: int = 0) -> str:
         if g < 2 and chance(0.2):
-            t = (
-                "("
-                + (" " + ar + " ").join(self.constituent(d, names, ar, g + 1) for _ in range(RANDOM.randint(1, 3)))
-                + ")"
-            )
+            t = "(" + (" " + ar + " ").join(self.constituent(d, names, ar, g + 1) for _ in range(RANDOM.randint(1, 3))) + ")"
         elif chance(0.3):
             t = "{" + self.pos(d - 1, names) + "}"
         else:
@@ -627,7 +615,7 @@ class FilterGenerator:
             )
         return t + one_of("", "", "", "*", "+", "?", "{2}", "{1,2}", "{0}", "{0,3}", "{3,1}", "{1}")
 
-    def pos(self, d, names):
+    def pos(self, d: int, names: list[str]) -> str:
         k = RANDOM.randrange(26)
         D = d - 1
         if d <= 0 or k < 4:
@@ -685,13 +673,11 @@ class FilterGenerator:
             return "(%s)" % self.number(D, names)
         return self.set(D, names)
 
-    def move(self, d, names):
-        return "(move%s)" % "".join(
-            " %s %s" % (w, self.set(min(d, 1), names)) for w in ("from", "to", "capture", "promote") if chance(0.4)
-        )
+    def move(self, d: int, names: list[str]) -> str:
+        return "(move%s)" % "".join(" %s %s" % (w, self.set(min(d, 1), names)) for w in ("from", "to", "capture", "promote") if chance(0.4))
 
 
-def random_query():
+def random_query() -> str:
     g = FilterGenerator()
     d = RANDOM.choice([0, 1, 2, 2, 3, 4])
     head = (
@@ -712,18 +698,28 @@ def random_query():
     return head + " " + " ".join(items)
 
 
-def square_of(names):
+def square_of(names: list[str]) -> str:
     """a set in which names stand, or a designator"""
     name = RANDOM.choice(names)
-    return one_of(name, name, name, "(%s & %s)" % (name, random_designator()), "(%s | %s)" % (name, random_designator()), random_designator())
+    return one_of(
+        name, name, name, "(%s & %s)" % (name, random_designator()), "(%s | %s)" % (name, random_designator()), random_designator()
+    )
 
 
-def square_part(names, depth):
+def square_part(names: list[str], depth: int) -> str:
     """what is asked of squares, in the words of a player"""
-    f, g = (lambda: square_of(names)), (lambda: RANDOM.choice(names))
+
+    def f() -> str:
+        return square_of(names)
+
+    def g() -> str:
+        return RANDOM.choice(names)
+
     k = RANDOM.randrange(17)
     if k < 4:
-        return "move %s" % one_of("from %s to %s" % (g(), g()), "from " + g(), "to " + g(), "to %s capture ." % g(), "from %s to %s" % (f(), f()))
+        return "move %s" % one_of(
+            "from %s to %s" % (g(), g()), "from " + g(), "to " + g(), "to %s capture ." % g(), "from %s to %s" % (f(), f())
+        )
     if k < 7:
         return "(%s %s %s)" % (f(), one_of("attacks", "attackedby"), f())
     if k == 7:
@@ -752,9 +748,10 @@ def square_part(names, depth):
     return "%s { %s }" % (words, " ".join(parts))
 
 
-def squares_query():
+def squares_query() -> str:
     """one to three `square` in one another, with words of the tree and families around them"""
-    names, text = [], ""
+    names: list[str] = []
+    text = ""
     for _ in range(RANDOM.choice([1, 2, 2, 2, 3])):
         name = RANDOM.choice(NAMES)
         within = random_designator() if not names or chance(0.8) else square_of(names)
@@ -764,7 +761,10 @@ def squares_query():
         names.append(name)
     text += "{ %s }" % " ".join(square_part(names, 2) for _ in range(RANDOM.choice([1, 2, 3])))
     for _ in range(RANDOM.choice([0, 0, 1, 1, 2])):
-        text = one_of("find ", "child ", "parent ", "find <-- ", "flipcolor ", "flip ", "flipcolor flip ", "shifthorizontal ") + "{ %s }" % text
+        text = (
+            one_of("find ", "child ", "parent ", "find <-- ", "flipcolor ", "flip ", "flipcolor flip ", "shifthorizontal ")
+            + "{ %s }" % text
+        )
     return one_of("cql() ", "cql(variations) ") + text
 
 
@@ -817,7 +817,7 @@ QUERY_SOUP = (
 )
 
 
-def mutate_query(t):
+def mutate_query(t: str) -> str:
     tokens = re.findall(r'"[^"]*"?|\w+|-->|<--|<=|>=|==|\s+|.', t, re.S)
     for _ in range(RANDOM.choice([1, 1, 1, 2, 4])):
         if not tokens:
@@ -838,7 +838,7 @@ def mutate_query(t):
     return "".join(tokens)
 
 
-def deep_query():
+def deep_query() -> str:
     """near the limits: depth, places, weight, squares, sorts"""
     k = RANDOM.randrange(9)
     n = RANDOM.randint(55, 68)
@@ -878,7 +878,7 @@ def deep_query():
         return "cql() " + RANDOM.choice(pre) * n + RANDOM.choice(["A", "(A)", ") A", "~A", "{", "", "echo"])
     if k == 2:
 
-        def constituent(d):
+        def constituent(d: int) -> str:
             t = (
                 "(" + " --> ".join(constituent(d - 1) for _ in range(RANDOM.randint(1, 3))) + ")"
                 if d > 0 and chance(0.6)
@@ -900,13 +900,13 @@ def deep_query():
             + " --> ".join(constituent(3) for _ in range(RANDOM.randint(1, 3)))
         )
     if k == 3:
-        fs = lambda: " ".join(
-            RANDOM.choice("flip shift rotate90 flipcolor shifthorizontal fliphorizontal".split())
-            for _ in range(RANDOM.randint(0, 6))
-        )
+
+        def fs() -> str:
+            families = "flip shift rotate90 flipcolor shifthorizontal fliphorizontal".split()
+            return " ".join(RANDOM.choice(families) for _ in range(RANDOM.randint(0, 6)))
+
         return "cql() " + " ".join(
-            fs() + " " + RANDOM.choice(["check", "A", "{A B}", "(A or B)", "#A", "(#A + #B)"])
-            for _ in range(RANDOM.randint(1, 9))
+            fs() + " " + RANDOM.choice(["check", "A", "{A B}", "(A or B)", "#A", "(#A + #B)"]) for _ in range(RANDOM.randint(1, 9))
         )
     if k == 4:
         return (
@@ -972,7 +972,7 @@ def deep_query():
     )
 
 
-def designators():
+def designators() -> str:
     head = (
         "cql("
         + " ".join(
@@ -993,16 +993,12 @@ def designators():
     return (
         head
         + " "
-        + " ".join(
-            one_of("%s", "%s", "(%s)", "((%s))", "//c\n%s") % random_designator()
-            for _ in range(RANDOM.choice([1, 1, 1, 2, 3]))
-        )
+        + " ".join(one_of("%s", "%s", "(%s)", "((%s))", "//c\n%s") % random_designator() for _ in range(RANDOM.choice([1, 1, 1, 2, 3])))
     )
 
 
-def typo_query():
+def typo_query() -> str:
     """wrong kinds and names in well-formed texts"""
-    g = FilterGenerator()
     t = random_query()
     for _ in range(RANDOM.choice([1, 1, 2])):
         a = RANDOM.choice(
@@ -1033,7 +1029,7 @@ def typo_query():
 
 
 # Running the program beside the model.
-def run(binary, words, data, folder):
+def run(binary: str, words: list[str], data: bytes, folder: str) -> program.Answer:
     """the program's status, out and err for the words and the bytes on its standard input"""
     try:
         p = subprocess.run([binary] + words, input=data, capture_output=True, timeout=120, cwd=folder)
@@ -1042,13 +1038,13 @@ def run(binary, words, data, folder):
     return (p.returncode, p.stdout, p.stderr)
 
 
-def random_man_query():
+def random_man_query() -> str:
     common = "Ke1 Ke1 ke8 Pe4 pe5 Pa2 Ka1 Nf3 Qh5 pd5".split()
     any_man = one_of(*chess.MEN) + one_of(*"abcdefgh") + one_of(*"12345678")
     return "cql() " + RANDOM.choice(common + [any_man])
 
 
-def mixed(text, other):
+def mixed(text: str, other: str) -> str:
     """a query with parts of two: one of them with the other's items, or but for the parameter `variations`"""
     if chance(0.3):
         return text.replace("variations", "") if "variations" in text else text.replace("(", "(variations ", 1)
@@ -1056,7 +1052,7 @@ def mixed(text, other):
     return text + " " + items if chance(0.7) else text.split(")", 1)[0] + ")" + items
 
 
-def queries_file(archive):
+def queries_file(archive: bytes) -> str:
     """a file of queries, at times of too many or with a fault"""
     texts = [good_query(archive)]
     while len(texts) < 18 and chance(0.7):
@@ -1073,7 +1069,7 @@ def queries_file(archive):
 TOGETHER = 5
 
 
-def random_case(mode, asked=None):
+def random_case(mode: str, asked: bytes | None = None) -> tuple[str, bytes]:
     """(query, archive), of `squares` over the archive that was asked before, if any"""
     if mode == "many":
         archive = small_archive()
@@ -1091,7 +1087,7 @@ def random_case(mode, asked=None):
     return mutate_query(text) if chance(0.1) else text, b""
 
 
-def answers(binary, mode, text, archive, folder):
+def answers(binary: str, mode: str, text: str, archive: bytes, folder: str) -> tuple[program.Answer, program.Answer]:
     """the model's answer and the program's"""
     if mode in ("texts", "explained", "many"):
         with open(os.path.join(folder, "q.cql"), "wb") as f:
@@ -1105,7 +1101,7 @@ def answers(binary, mode, text, archive, folder):
     return program.run_eval(text.encode(), archive), run(binary, ["eval", text], archive, folder)
 
 
-def store(path, text, archive, want, got):
+def store(path: str, text: str, archive: bytes, want: program.Answer, got: program.Answer) -> None:
     with open(path + ".pgn", "wb") as f:
         f.write(archive)
     with open(path + ".cql", "wb") as f:
@@ -1117,22 +1113,25 @@ def store(path, text, archive, want, got):
     print("  program", got[0], got[2][:200], "" if want[1] == got[1] else "(out differs)")
 
 
-def main():
+def main() -> int:
     binary, mode, seed, count = os.path.abspath(sys.argv[1]), sys.argv[2], int(sys.argv[3]), int(sys.argv[4])
     out = os.path.join(os.path.dirname(os.path.abspath(__file__)), "out")
     os.makedirs(out, exist_ok=True)
-    statuses, differences, archive = {}, 0, None
+    statuses: dict[int, int] = {}
+    differences = 0
+    archive: bytes | None = None
     with tempfile.TemporaryDirectory() as folder:
         for i in range(count):
             RANDOM.seed(seed * 1000003 + i)
-            text, archive = random_case(mode, archive if i % TOGETHER else None)
+            text, given = random_case(mode, archive if i % TOGETHER else None)
+            archive = given
             if "\x00" in text:
                 continue
-            want, got = answers(binary, mode, text, archive, folder)
+            want, got = answers(binary, mode, text, given, folder)
             statuses[want[0]] = statuses.get(want[0], 0) + 1
             if got != want:
                 differences += 1
-                store(os.path.join(out, "%s-%d-%d" % (mode, seed, i)), text, archive, want, got)
+                store(os.path.join(out, "%s-%d-%d" % (mode, seed, i)), text, given, want, got)
             if i % 500 == 499:
                 print(i + 1, "cases,", differences, "differences", flush=True)
     print(mode, "seed", seed, "cases", count, "differences", differences, "by status", sorted(statuses.items()))

@@ -1,7 +1,6 @@
-#!/usr/bin/env python3
 """Mutants of real archives and real queries: the built program is compared with the model, or asked alone.
 
-    python3 mutants.py BINARY SEED COUNT ARCHIVE..
+    python3 -m tests.drawn.mutants BINARY SEED COUNT ARCHIVE..
 
 Each case takes some games of an ARCHIVE and a query of the pages, and changes, drops, doubles and joins bytes, tokens and whole games.
 Small cases, nearly all of them, are compared with the model. Of large ones the program alone is asked: it ends with a status from 0 to 8,
@@ -12,6 +11,8 @@ is faster.
 The games of a seed are drawn first, and the model keeps each move that it has read: mutants of one game have most of their moves in
 common. The program is started by posix_spawn over files in memory: a fork of this process, which is large, takes longer than the run."""
 
+from __future__ import annotations
+
 import ctypes
 import functools
 import os
@@ -19,6 +20,7 @@ import re
 import signal
 import sys
 import tempfile
+from types import ModuleType
 
 from model import pgn
 from model import program
@@ -34,12 +36,12 @@ START_SECONDS, MOST_SECONDS, MEMBERS = 1, 120, 50
 
 
 # What a case is made of.
-def games_of(path):
+def games_of(path: str) -> list[bytes]:
     """the texts of an archive's games, as they begin at a first tag"""
     return [g for g in re.split(rb"(?=^\[Event )", read(path), flags=re.M) if g.strip()]
 
 
-def queries():
+def queries() -> list[str]:
     """the queries of the tables of the pages, but for those that show a fault"""
     texts = []
     for page in PAGES:
@@ -48,7 +50,7 @@ def queries():
     return [t for t in texts if program.run_check(t.encode())[0] == 0]
 
 
-def tokens_mutated(game):
+def tokens_mutated(game: bytes) -> bytes:
     """words dropped, doubled, exchanged and joined, and rows of moves doubled as their own variation"""
     words = re.split(rb"(\s+)", game)
     for _ in range(RANDOM.choice([1, 1, 2, 4])):
@@ -67,7 +69,7 @@ def tokens_mutated(game):
     return b"".join(words)
 
 
-def mutated(games):
+def mutated(games: list[bytes]) -> bytes:
     """some games of an archive, changed"""
     games = list(games)
     for _ in range(RANDOM.choice([0, 1, 1, 2])):
@@ -87,7 +89,7 @@ def mutated(games):
     return archive.replace(b"\n", b"\r\n") if RANDOM.random() < 0.05 else archive
 
 
-def case(archives, pool, texts):
+def case(archives: list[list[bytes]], pool: list[bytes], texts: list[str]) -> tuple[str, bytes]:
     """(query, archive)"""
     kind = RANDOM.random()
     if kind < 0.97:
@@ -103,20 +105,26 @@ def case(archives, pool, texts):
 
 
 # The program.
-def read(path):
+def read(path: str) -> bytes:
     with open(path, "rb") as f:
         return f.read()
 
 
-def written(path, data):
+def written(path: str, data: bytes) -> None:
     with open(path, "wb") as f:
         f.write(data)
+
+
+def keep_answers(module: ModuleType, *names: str) -> None:
+    """has functions that a module calls answered once for the same question"""
+    for name in names:
+        setattr(module, name, functools.lru_cache(MOST_KEPT)(getattr(module, name)))
 
 
 class Runner:
     """starts the program over files of a folder"""
 
-    def __init__(self, binary, folder):
+    def __init__(self, binary: str, folder: str) -> None:
         self.libc, self.binary = ctypes.CDLL(None), os.fsencode(binary)
         self.names = [os.path.join(folder, name) for name in ("in", "out", "err")]
         self.query = os.path.join(folder, "q.cql")
@@ -127,7 +135,7 @@ class Runner:
             self.libc.posix_spawn_file_actions_addopen(self.actions, number, os.fsencode(name), flags, 0o600)
         signal.signal(signal.SIGALRM, lambda *_: os.kill(self.pid.value, signal.SIGKILL))
 
-    def run(self, text, archive):
+    def run(self, text: bytes, archive: bytes) -> tuple[program.Answer, float]:
         """(status, out, err) and the seconds of processor time; the status of a signal is negative"""
         words = [b"eval", text]
         if text.startswith(b"-") or b"\x00" in text:
@@ -135,18 +143,19 @@ class Runner:
             words = [b"run", os.fsencode(self.query)]
             written(self.query, text)
         written(self.names[0], archive)
-        words = (ctypes.c_char_p * 4)(self.binary, *words, None)
+        call = (ctypes.c_char_p * 4)(self.binary, *words, None)
         environment = (ctypes.c_char_p * 1)(None)
-        fault = self.libc.posix_spawn(ctypes.byref(self.pid), self.binary, self.actions, None, words, environment)
+        fault = self.libc.posix_spawn(ctypes.byref(self.pid), self.binary, self.actions, None, call, environment)
         if fault:
             raise OSError(fault, "posix_spawn")
         signal.alarm(MOST_SECONDS)
         _, status, used = os.wait4(self.pid.value, 0)
         signal.alarm(0)
-        return (os.waitstatus_to_exitcode(status), *map(read, self.names[1:])), used.ru_utime + used.ru_stime
+        answer = (os.waitstatus_to_exitcode(status), read(self.names[1]), read(self.names[2]))
+        return answer, used.ru_utime + used.ru_stime
 
 
-def heft(text):
+def heft(text: str) -> float:
     """how many times as long as a plain query one may take"""
     try:
         return max(1, sum(map(query.weight, query.read_query(text.encode())["items"])) / MEMBERS)
@@ -154,7 +163,7 @@ def heft(text):
         return 1
 
 
-def failing(runner, text, archive, want):
+def failing(runner: Runner, text: str, archive: bytes, want: program.Answer | None) -> tuple[str | None, program.Answer]:
     """what is wrong with the program's answer, None if nothing is, and the answer; want is the model's, or None"""
     got, seconds = runner.run(text.encode(), archive)
     if not 0 <= got[0] <= 8:
@@ -169,9 +178,10 @@ def failing(runner, text, archive, want):
     return None, got
 
 
-def tried(runner, seed, count, archives, out):
+def tried(runner: Runner, seed: int, count: int, archives: list[list[bytes]], out: str) -> tuple[int, int, dict[int, int]]:
     """runs the cases of a seed; how many were compared, how many differ, and how many had each status"""
-    statuses, differences, compared = {}, 0, 0
+    statuses: dict[int, int] = {}
+    differences = compared = 0
     texts = queries()
     RANDOM.seed(seed)
     games = [game for archive in archives for game in archive if len(game) <= SMALL]
@@ -187,18 +197,18 @@ def tried(runner, seed, count, archives, out):
         if wrong:
             differences += 1
             print(wrong)
-            fuzz.store(os.path.join(out, "mutants-%d-%d" % (seed, i)), text, archive, want or (None, b"", b""), got)
+            fuzz.store(os.path.join(out, "mutants-%d-%d" % (seed, i)), text, archive, want or (-1, b"", b""), got)
         if i % 10000 == 9999:
             print(i + 1, "cases,", compared, "compared,", differences, "differences", flush=True)
     return compared, differences, statuses
 
 
-def main():
+def main() -> int:
     binary, seed, count = os.path.abspath(sys.argv[1]), int(sys.argv[2]), int(sys.argv[3])
     archives = [games for games in map(games_of, sys.argv[4:]) if games]
     out = os.path.join(HERE, "out")
     os.makedirs(out, exist_ok=True)
-    pgn.read_san, pgn.read_fen = (functools.lru_cache(MOST_KEPT)(read) for read in (pgn.read_san, pgn.read_fen))
+    keep_answers(pgn, "read_san", "read_fen")
     with tempfile.TemporaryDirectory(dir="/dev/shm" if os.path.isdir("/dev/shm") else None) as folder:
         compared, differences, statuses = tried(Runner(binary, folder), seed, count, archives, out)
     print("mutants seed", seed, "cases", count, "compared", compared, "differences", differences, "by status", sorted(statuses.items()))

@@ -1,22 +1,32 @@
-"""The part of machines/check that tries engines: programs, scripts, workers and machines are killed in the middle."""
+"""The part of the long tests that tries engines: programs, scripts, workers and machines are killed in the middle."""
+
+from __future__ import annotations
 
 import contextlib
+import functools
 import os
 import shutil
 import signal
 import subprocess
 import sys
 import time
+from collections.abc import Callable, Iterator
+from typing import Any
 
+import pytest
 import runs
-from tests.machines.checking import CQLPGN, ENVIRONMENT, HALF, HERE, SMALL, ended, equal, expect, in_pieces, leaves, one_run, program, put, table, tell
+from tests.machines.checking import CQLPGN, ENVIRONMENT, HALF, HERE, SMALL
+from tests.machines.checking import equal, expect, in_pieces, leaves, one_run, program, put, table, tell
+
+Kill = Callable[[list[str]], None]
+Start = Callable[..., "subprocess.Popen[bytes]"]
 
 ASKED = 'cql() check sort min "ply" ply'
 HALF_THEN = [HALF % CQLPGN]
 KILLED = {
-    "a program": 'kill -9 $$',
-    "a script": 'kill -9 $PPID; exit 1',
-    "a worker": 'kill -9 $(ps -o ppid= -p $PPID); exit 1',
+    "a program": "kill -9 $$",
+    "a script": "kill -9 $PPID; exit 1",
+    "a worker": "kill -9 $(ps -o ppid= -p $PPID); exit 1",
 }
 # it tells where it is and waits for the end of its machine
 WAITS = [
@@ -28,17 +38,17 @@ WAITS = [
 class Engine:
     """an engine that is tried over a small archive"""
 
-    def __init__(self, name, archive, command):
+    def __init__(self, name: str, archive: str, command: str) -> None:
         self.name, self.command = name, command
         with open(archive, "rb") as file:
             self.archive = put(file.read(SMALL), "small.pgn")
 
-    def run(self, what, cqlpgn=CQLPGN, kill=None, least=SMALL // 24):
+    def run(self, what: str, cqlpgn: str = CQLPGN, kill: Kill | None = None, least: int = SMALL // 24) -> None:
         """one run by the engine; `kill` ends a machine, when a program waits on it. Answers the seconds and the pieces."""
         shutil.rmtree("run", ignore_errors=True)
         words = [os.path.join(HERE, "run-over"), "--in", "run", "--bytes", str(least), "--engine", self.command, ASKED, self.archive]
         env = {**ENVIRONMENT, "CQLPGN": cqlpgn}
-        start, half = time.monotonic(), set()
+        start, half = time.monotonic(), set[int]()
         with open("many.out", "wb") as out, open("many.err", "wb") as err:
             with subprocess.Popen(words, stdin=subprocess.DEVNULL, stdout=out, stderr=err, env=env) as process:
                 while process.poll() is None:
@@ -59,7 +69,7 @@ class Engine:
         leaves("%s, %s" % (self.name, what), "run")
         tell("%s: %d pieces in %.1f s: %s" % (self.name, pieces, seconds, what))
 
-    def try_all(self, kill=None):
+    def try_all(self, kill: Kill | None = None) -> None:
         self.one = one_run(ASKED, self.archive)
         self.run("no failure")
         for what, line in KILLED.items():
@@ -72,11 +82,11 @@ class Engine:
 
 
 @contextlib.contextmanager
-def daemons():
+def daemons() -> Iterator[Start]:
     """commands that stay, and are ended in the end"""
-    started = []
+    started: list[subprocess.Popen[bytes]] = []
 
-    def start(*words, **more):
+    def start(*words: str, **more: Any) -> subprocess.Popen[bytes]:
         with open("daemons.log", "ab") as log:
             started.append(subprocess.Popen(words, stdin=subprocess.DEVNULL, stdout=log, stderr=log, **more))
         return started[-1]
@@ -93,7 +103,7 @@ def daemons():
                 process.wait()
 
 
-def until(what, holds, seconds=60):
+def until(what: str, holds: Callable[[], object], seconds: float = 60) -> None:
     end = time.monotonic() + seconds
     while not holds():
         if time.monotonic() > end:
@@ -101,19 +111,19 @@ def until(what, holds, seconds=60):
         time.sleep(0.2)
 
 
-def succeeds(words):
+def succeeds(words: list[str]) -> bool:
     return subprocess.run(words, capture_output=True, check=False).returncode == 0
 
 
-def try_parallel(archive):
+def try_parallel(archive: str) -> None:
     Engine("parallel", archive, "with-parallel --jobs 4").try_all()
 
 
-def ip(*words):
+def ip(*words: str) -> None:
     subprocess.run(["ip", *words], check=True)
 
 
-def end_within(space):
+def end_within(space: str) -> None:
     """ends all processes of a network namespace"""
     found = subprocess.run(["ip", "netns", "pids", space], capture_output=True, check=False).stdout.split()
     for number in found:
@@ -143,7 +153,7 @@ ServerAliveCountMax 2
 
 
 @contextlib.contextmanager
-def machines(count):
+def machines(count: int) -> Iterator[str]:
     """so many network namespaces on one bridge, each with a server for ssh; answers how one is reached"""
     spaces = ["many%d" % k for k in range(count + 1)]
     try:
@@ -171,7 +181,7 @@ def machines(count):
                 ip("-n", space, "link", "set", "eth0", "up")
                 start("ip", "netns", "exec", space, "/usr/sbin/sshd", "-D", "-f", room + "/sshd_config")
                 reached = ["ip", "netns", "exec", "many0", "ssh", "-F", room + "/ssh_config", "root@10.66.0.%d" % k, "true"]
-                until("sshd in %s" % space, lambda reached=reached: succeeds(reached))
+                until("sshd in %s" % space, functools.partial(succeeds, reached))
             yield "ip netns exec many0 %s/with-parallel --ssh 'ssh -F %s/ssh_config' -S " % (HERE, room)
     finally:
         for space in spaces:
@@ -179,21 +189,22 @@ def machines(count):
             subprocess.run(["ip", "netns", "del", space], capture_output=True, check=False)
 
 
-def try_ssh(archive):
+def try_ssh(archive: str) -> None:
     if os.geteuid():
-        return tell("skipped without root: ssh")
+        pytest.skip("without root: ssh")
 
-    def end_machine(lines):
+    def end_machine(lines: list[str]) -> None:
         ip("-n", lines[0], "link", "set", "eth0", "down")
         end_within(lines[0])
 
-    def hosts(count):
+    def hosts(count: int) -> str:
         return ",".join("1/root@10.66.0.%d" % k for k in range(1, count + 1))
 
     with machines(4) as reach:
         Engine("ssh", archive, reach + hosts(4)).try_all(end_machine)
     with machines(4) as reach:
-        found, seconds = table(archive, os.path.getsize(archive) // 16 + 1, "table16")[0], {}
+        found = table(archive, os.path.getsize(archive) // 16 + 1, "table16")[0]
+        seconds: dict[int, str] = {}
         one = {workers: one_run("cql() mate", archive, "--workers", workers) for workers in ("1", "4")}
         for count in (1, 2, 4):
             many = in_pieces("cql() mate", archive, "--table", "table16", "--engine", reach + hosts(count))
@@ -235,7 +246,7 @@ PartitionName=all Nodes=n1,n2 Default=YES MaxTime=INFINITE State=UP
 
 
 @contextlib.contextmanager
-def slurm_nodes():
+def slurm_nodes() -> Iterator[dict[str, subprocess.Popen[bytes]]]:
     """two nodes of Slurm on this machine, each with processes of its own, which end with its first one; answers these"""
     room = os.path.join(os.getcwd(), "slurm")
     os.makedirs(room + "/state")
@@ -254,17 +265,17 @@ def slurm_nodes():
         yield nodes
 
 
-def try_slurm(archive):
+def try_slurm(archive: str) -> None:
     if os.geteuid():
-        return tell("skipped without root: slurm")
+        pytest.skip("without root: slurm")
     with slurm_nodes() as nodes:
         Engine("slurm", archive, "with-slurm").try_all(lambda lines: nodes[lines[1].strip()].kill())
 
 
-def try_dask(archive):
+def try_dask(archive: str) -> None:
     pythons = [name for name in (sys.executable, "/usr/bin/python3") if succeeds([name, "-c", "import distributed"])]
     if not pythons:
-        return tell("skipped, as no Python has distributed: dask")
+        pytest.skip("no Python has distributed: dask")
     address = "tcp://127.0.0.1:28786"
     with daemons() as start:
         start("dask-scheduler", "--host", "127.0.0.1", "--port", "28786", "--no-dashboard")
@@ -272,7 +283,7 @@ def try_dask(archive):
             one = ["--nthreads", "1", "--nworkers", "1", "--host", "127.0.0.1", "--no-dashboard"]
             start("dask-worker", address, *one, "--local-directory", os.getcwd())
 
-        def end_worker(lines):
+        def end_worker(lines: list[str]) -> None:
             os.kill(int(lines[2]), signal.SIGKILL)
 
         Engine("dask", archive, "%s %s/with-dask %s" % (pythons[0], HERE, address)).try_all(end_worker)

@@ -1,21 +1,21 @@
-#!/usr/bin/env python3
-"""Compares the answers that pieces give with those of one run: games, report and status, byte for byte.
+"""What pieces answer beside what one run does: games, report and status, byte for byte. These tests are long:
 
-    machines/check ARCHIVE [PART..]
+    pytest tests/machines -m long --archive ARCHIVE [-k PART]
 
-ARCHIVE is a large one, as the book of Debian's gnuchess-book. The parts, all of them where none is named:
+ARCHIVE is a large one, as the book of Debian's gnuchess-book. The parts:
 
   seams     tiny archives and an archive of seams (broken games, byte order marks, line ends of Windows, Latin-1), each game a piece
   answers   ten queries, three of them sorted, in 7 and in 64 pieces, over ARCHIVE and over the archive of seams
   steps     queries that sort, among them all that answer wrong in two simpler steps
   first     --first: the report of one run, and the pieces after the first match are left
   failures  reads that end too soon, programs and scripts that are killed, wrong tables, half an answer: never is there half a piece
-  parallel, ssh, slurm, dask    an engine over the first bytes of ARCHIVE; a program, a script, a worker, a machine are killed in the middle
+  parallel, ssh, slurm, dask    an engine over the first bytes of ARCHIVE; a program, a script, a worker, a machine are killed
 
-CQLPGN and PGNPIECES name the programs, if they are not the ones on the path. An engine that is not installed is skipped with a line; `ssh`
-and `slurm` want root, since they make machines: network namespaces, and nodes with processes of their own. All is made in a folder of
-its own, and its daemons are ended by their process numbers. The last line is 'many: N passed, M failed'.
+An engine that is not installed is skipped; `ssh` and `slurm` want root, since they make machines: network namespaces, and nodes with
+processes of their own. All is made in a folder of its own, and its daemons are ended by their process numbers. With -s they tell seconds.
 """
+
+from __future__ import annotations
 
 import os
 import random
@@ -23,28 +23,30 @@ import re
 import shutil
 import signal
 import subprocess
-import sys
-import tempfile
 import time
+from collections.abc import Callable, Iterator
+from pathlib import Path
 
-sys.dont_write_bytecode = True
-from tests.machines import checking
+import pytest
 import runs
-from tests.machines.checking import CQLPGN, ENVIRONMENT, HALF, HERE, PGNPIECES, SMALL, ended, equal, expect, in_pieces, leaves, one_run, piece_alone, program, put, table, tell
-from tests.machines.engines import try_parallel, try_ssh, try_slurm, try_dask
+from tests.conftest import TOP
+from tests.machines import checking
+from tests.machines.checking import CQLPGN, ENVIRONMENT, HALF, HERE, SMALL
+from tests.machines.checking import ended, equal, expect, in_pieces, leaves, one_run, piece_alone, program, put, table, tell
+from tests.machines.engines import try_dask, try_parallel, try_slurm, try_ssh
 
-EXAMPLES = os.path.join(HERE, "..", "examples")
+EXAMPLES = str(TOP / "examples")
 NEEDS = {"parallel": "parallel", "ssh": "parallel", "slurm": "sbatch", "dask": "dask-scheduler"}
 TEN = [
-    'cql() mate',
+    "cql() mate",
     'cql(variations matchstring "fork") N attacks k N attacks q sort "men" #(A|a)',
-    'cql() initial',
-    'cql() flipcolor move promote [RBN]',
+    "cql() initial",
+    "cql() flipcolor move promote [RBN]",
     'cql() mate comment "the end" sort min "moves" movenumber',
-    'cql() stalemate',
+    "cql() stalemate",
     'cql(variations) hascomment comment "seen"',
     'cql() player "Fischer" terminal',
-    'cql() flipcolor line --> { btm check } --> wtm --> { btm check } --> wtm --> { btm check }',
+    "cql() flipcolor line --> { btm check } --> wtm --> { btm check } --> wtm --> { btm check }",
     'cql() power A - power a >= 9 sort "lead" power A - power a sort min "year" year',
 ]
 
@@ -52,7 +54,7 @@ TEN = [
 # The archives.
 
 
-def seams():
+def seams() -> bytes:
     """games of the examples, some of them broken, with what may stand between two games"""
     dice = random.Random(32)
     games = [b"1. e4 *", b"1. f3 e5 2. g4 Qh4# 0-1", b"1. e4 {an open\ncomment", b'[White "M\xfcller"]\n\n1. d4 d5 1/2-1/2']
@@ -80,12 +82,12 @@ TINY = [
     b"\xef\xbb\xbf",
     b"*%",
     b"1. e4 *%x\n1. d4 *\xef\xbb\xbf1. c4 *",
-    b"1. e4 *\n%x\n1. d4 *\n\xef\xbb\xbf[Event \"x\"]\n\n1. c4 *\n",
+    b'1. e4 *\n%x\n1. d4 *\n\xef\xbb\xbf[Event "x"]\n\n1. c4 *\n',
     b"1. e4 *;x\n1. d4 * ;y",
     b"1. e4 *{x}1. d4 *{y",
     b"1. e4 * {the end}",
-    b"1. e4 *[Event \"x\"]\n1. d4 *[Event",
-    b"1. e4\n[Event \"x\"]\n1. d4\n[Event \"y\"]\n1. Ke3",
+    b'1. e4 *[Event "x"]\n1. d4 *[Event',
+    b'1. e4\n[Event "x"]\n1. d4\n[Event "y"]\n1. Ke3',
     b"1-0 1/2-1/2 0-1 1-0",
     b"1. e4 1-01. d4 0-1-0 * 1/2-1/2/",
     b"1. e4 (*) ) * (1. d4 * ) 1-0",
@@ -93,7 +95,7 @@ TINY = [
 ]
 
 
-def tiny():
+def tiny() -> Iterator[bytes]:
     """small texts at random of what may stand at a seam"""
     dice = random.Random(7)
     parts = [b"1. e4 ", b"e5", b"Ke3", b"*", b"1-0", b"0-1", b"\n", b" ", b"\xef\xbb\xbf", b'[Event "x"]']
@@ -102,7 +104,7 @@ def tiny():
         yield b"".join(dice.choice(parts) for _ in range(dice.randrange(2, 14)))
 
 
-def try_seams(_archive):
+def try_seams(_archive: str) -> None:
     for text in [*TINY, *tiny()]:
         name = put(text, "tiny.pgn")
         query = "cql() initial"
@@ -115,7 +117,7 @@ def try_seams(_archive):
         tell("seams: %d pieces in %.1f s: %s" % (len(found[0]), many[1], query))
 
 
-def try_answers(archive):
+def try_answers(archive: str) -> None:
     for name in (put(seams(), "seams.pgn"), archive):
         size = os.path.getsize(name)
         tables = {}
@@ -169,7 +171,7 @@ STEPS = [
     'cql(input matchstring"x" output y.pgn matchstring "hit") mate sort "p" ply',
     'cql(input matchstring output sort matchstring "hit") mate sort "p" ply',
     'cql(input http://x.pgn matchstring "hit") mate sort "p" ply',
-    'cql(input sort) mate',
+    "cql(input sort) mate",
     'cql() player "sort" mate or check comment "player" sort "event" ply',
     '// cql(matchstring "x")\ncql // (\n( // matchstring "y"\nmatchstring // z\n"hit") mate sort // "q"\n "p" ply',
     'cql() sort "a" ply .comment "x"sort "p" ply a-h2comment"z"Kcomment "y"',
@@ -181,7 +183,7 @@ STEPS = [
 ]
 
 
-def try_steps(_archive):
+def try_steps(_archive: str) -> None:
     examples = b"".join(runs.read(EXAMPLES, name) for name in ("games.pgn", "themes.pgn", "famous.pgn"))
     games = put(examples + b"1. e4 *\n1. f3 e5 2. g4 Qh4# 0-1\n1. d4 {d} d5 *\n", "steps.pgn")
     for query in STEPS:
@@ -200,7 +202,7 @@ def try_steps(_archive):
     expect("which have status 3", one[0] == 3, one)
 
 
-def try_first(archive):
+def try_first(archive: str) -> None:
     name = put(seams(), "seams.pgn")
     for archive_, least in ((name, 1), (name, 3000), (archive, os.path.getsize(archive) // 64 + 1)):
         found, _ = table(archive_, least, "table")
@@ -223,14 +225,14 @@ def try_first(archive):
 # Failures.
 
 
-def try_failures(archive):
-    with open(archive, "rb") as file:
-        name = put(file.read(SMALL // 4), "failures.pgn")
-    query = 'cql() check'
+def try_failures(archive: str) -> None:
+    with open(archive, "rb") as large:
+        name = put(large.read(SMALL // 4), "failures.pgn")
+    query = "cql() check"
     one = one_run(query, name)
     half = HALF % CQLPGN
 
-    def fresh(*words, **environment):
+    def fresh(*words: str, **environment: str) -> tuple[int, float]:
         shutil.rmtree("run", ignore_errors=True)
         return in_pieces(query, name, "--in", "run", "--bytes", "100000", "--jobs", "2", *words, **environment)
 
@@ -252,13 +254,16 @@ def try_failures(archive):
         expect("and writes no game", os.path.getsize("many.out") == 0)
         equal("it is answered again", one, in_pieces(query, name, "--in", "run", "--bytes", "100000"))
     games = b"games 1 matched 0 refused 0\n"
-    put(b"", "run/2.out"), put(games, "run/2.err"), put(b"0 0 %d\n" % len(games), "run/2.status")
+    put(b"", "run/2.out")
+    put(games, "run/2.err")
+    put(b"0 0 %d\n" % len(games), "run/2.status")
     expect("join refuses a piece with too few games", ended([os.path.join(HERE, "join"), "run"], "many")[0] == 9)
     os.remove("run/2.status")
 
     # reads that end too soon
     whole = runs.read(name)
-    os.remove("run/%d.status" % last), os.remove("run/%d.out" % last), os.remove("run/%d.err" % last)
+    for ending in ("status", "out", "err"):
+        os.remove("run/%d.%s" % (last, ending))
     for what, keep in (("the last byte", len(whole) - 1), ("half of it", pieces[-1].offset + pieces[-1].length // 2), ("all of it", 0)):
         put(whole[:keep], name)
         expect("a piece without %s is no answer" % what, piece_alone("run", last) == 5 and not runs.is_done("run", last))
@@ -305,14 +310,14 @@ def try_failures(archive):
     # wrong tables
     right = [[piece.number, *piece[1:]] for piece in pieces]
 
-    def wrong(what, change, statuses=(9,)):
+    def wrong(what: str, change: Callable[[list[list[int]]], object], statuses: tuple[int, ...] = (9,)) -> None:
         rows = [list(row) for row in right]
         change(rows)
         put(b"".join(b"%d %d %d %d %d\n" % tuple(row) for row in rows), "wrong")
         many = fresh("--table", "wrong")
         expect("a table in which %s" % what, many[0] in statuses and os.path.getsize("many.out") == 0, many)
 
-    def shift(rows, at, by):
+    def shift(rows: list[list[int]], at: int, by: int) -> None:
         rows[at][2] += by
         rows[at + 1][1] += by
         rows[at + 1][2] -= by
@@ -335,32 +340,37 @@ def try_failures(archive):
     expect("a folder", in_pieces(query, ".")[0] == 5)
 
 
-PARTS = {"seams": try_seams, "answers": try_answers, "steps": try_steps, "first": try_first, "failures": try_failures}
+PARTS: dict[str, Callable[[str], None]] = {
+    "seams": try_seams,
+    "answers": try_answers,
+    "steps": try_steps,
+    "first": try_first,
+    "failures": try_failures,
+}
 PARTS.update({"parallel": try_parallel, "ssh": try_ssh, "slurm": try_slurm, "dask": try_dask})
 
 
-def main():
-    if len(sys.argv) < 2:
-        sys.exit(__doc__)
-    for name in (CQLPGN, PGNPIECES):
-        if not os.path.exists(name):
-            sys.exit("check: there is %s" % os.path.basename(name))
-    archive, parts = os.path.abspath(sys.argv[1]), sys.argv[2:] or list(PARTS)
-    with tempfile.TemporaryDirectory(prefix="many-check.") as room:
-        os.chdir(room)
-        os.mkdir("temporary")
-        ENVIRONMENT.update(os.environ, CQLPGN=CQLPGN, PGNPIECES=PGNPIECES, TMPDIR=os.path.join(room, "temporary"))
-        for part in parts:
-            start = time.monotonic()
-            if part in NEEDS and not shutil.which(NEEDS[part]):
-                tell("skipped without %s: %s" % (NEEDS[part], part))
-                continue
-            PARTS[part](archive)
-            tell("%s: %.0f s" % (part, time.monotonic() - start))
-        os.chdir("/")
-    print("many: %d passed, %d failed" % (checking.passed, checking.failed))
-    sys.exit(1 if checking.failed else 0)
+@pytest.fixture(name="room")
+def a_folder(cqlpgn: str, pgnpieces: str, tmp_path: Path, monkeypatch: pytest.MonkeyPatch) -> Path:
+    """A folder in which a part runs, with one for temporary files."""
+    (tmp_path / "temporary").mkdir()
+    monkeypatch.chdir(tmp_path)
+    ENVIRONMENT.clear()
+    ENVIRONMENT.update(os.environ, CQLPGN=cqlpgn, PGNPIECES=pgnpieces, TMPDIR=str(tmp_path / "temporary"))
+    checking.wrong.clear()
+    return tmp_path
 
 
-if __name__ == "__main__":
-    main()
+@pytest.mark.long
+@pytest.mark.usefixtures("room")
+@pytest.mark.parametrize("part", PARTS)
+def test_part(request: pytest.FixtureRequest, part: str) -> None:
+    archive = request.config.getoption("--archive")
+    if archive is None:
+        pytest.skip("--archive names no archive")
+    if part in NEEDS and not shutil.which(NEEDS[part]):
+        pytest.skip(f"without {NEEDS[part]}: {part}")
+    start = time.monotonic()
+    PARTS[part](str(request.config.invocation_params.dir / archive))
+    tell("%s: %.0f s" % (part, time.monotonic() - start))
+    assert checking.wrong == []
