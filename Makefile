@@ -5,14 +5,14 @@ PIECES ?= crates/pgnpieces/out/pgnpieces
 JSON ?= crates/pgnjson/out/pgnjson
 BIN = $(DESTDIR)$(PREFIX)/bin
 SHARE = $(DESTDIR)$(PREFIX)/share
-# The interpreter of the commands in Python, and where their package goes: where this interpreter looks below PREFIX, if anywhere.
+# Where the Python package goes: where this interpreter looks below PREFIX, if anywhere.
 PYTHON ?= /usr/bin/env python3
 MODULES ?= $(shell $(PYTHON) -c 'import site; wanted = "$(PREFIX)/lib/"; \
   print(next((path for path in site.getsitepackages() if path.startswith(wanted)), wanted + "python3/site-packages"))')
 COMMANDS = $(notdir $(wildcard python/bin/*))
 ZSH ?= site-functions
 
-.PHONY: demo build install uninstall deb test cases clean
+.PHONY: demo build install uninstall deb test test-tools cases clean
 
 # The games of the sample archive with a white queen on f7, by a program that is compiled without its proofs.
 demo:
@@ -30,14 +30,14 @@ install:
 	install -D $(PIECES) $(BIN)/pgnpieces
 	install -D $(JSON) $(BIN)/pgnjson
 	install -d $(DESTDIR)$(MODULES)
-	cd python && find cqlpgn -type f ! -path '*/__pycache__/*' | xargs -I{} install -D -m 644 {} $(DESTDIR)$(MODULES)/{}
-	for name in $(COMMANDS); do \
-	  sed '1s|.*|#!$(PYTHON)|; s|, which stands beside this folder||; s|^sys.path.insert.*|sys.path.insert(0, "$(MODULES)")|' python/bin/$$name > $(BIN)/$$name; \
-	  chmod 755 $(BIN)/$$name; \
-	done
-	install -d $(SHARE)/cqlpgn/many
-	install $(filter-out %.py,$(wildcard many/*)) $(SHARE)/cqlpgn/many
-	install -m 644 many/*.py $(SHARE)/cqlpgn/many
+	cd python/src && find cqlpgn -type f ! -path '*/__pycache__/*' | xargs -I{} install -D -m 644 {} $(DESTDIR)$(MODULES)/{}
+	rm -f $(COMMANDS:%=$(BIN)/%)
+	cp -P $(COMMANDS:%=python/bin/%) $(BIN)
+	install -d $(SHARE)/cqlpgn/machines
+	install $(filter-out %.py,$(wildcard machines/*)) $(SHARE)/cqlpgn/machines
+	install -m 644 machines/*.py $(SHARE)/cqlpgn/machines
+	rm -rf $(SHARE)/cqlpgn/many
+	ln -s machines $(SHARE)/cqlpgn/many
 	install -D -m 644 docs/cqlpgn.1 $(SHARE)/man/man1/cqlpgn.1
 	install -m 644 docs/pgnpieces.1 docs/pgnjson.1 $(SHARE)/man/man1
 	install -m 644 $(COMMANDS:%=docs/%.1) $(SHARE)/man/man1
@@ -83,7 +83,7 @@ deb:
 	@test -x $(PROGRAM) -a -x $(PIECES) -a -x $(JSON) || { echo "make build comes first"; exit 1; }
 	rm -rf out/deb
 	mkdir -p $(patsubst %,out/deb/cqlpgn/crates/%/out,cqlpgn pgnpieces pgnjson)
-	cp -r Makefile README.md LICENSE-MIT LICENSE-APACHE debian docs examples contrib many python out/deb/cqlpgn
+	cp -r Makefile README.md LICENSE-MIT LICENSE-APACHE debian docs examples contrib machines python out/deb/cqlpgn
 	cp $(PROGRAM) out/deb/cqlpgn/crates/cqlpgn/out/cqlpgn
 	cp $(PIECES) out/deb/cqlpgn/crates/pgnpieces/out/pgnpieces
 	cp $(JSON) out/deb/cqlpgn/crates/pgnjson/out/pgnjson
@@ -92,13 +92,18 @@ deb:
 	mv out/deb/cqlpgn*.deb out/
 	rm -rf out/deb
 
+# All proofs, wrong programs and tests. It changes nothing on the machine, and names what it skips for want of a package of Debian.
 test:
-	bash .ci/run
+	bash .ci/run --as-is
 
-# The cases, recipes and pages alone, over the program that is built.
+# Installs what the tests want of Debian.
+test-tools:
+	scripts/test-tools
+
+# What asks cqlpgn, the cases among it, and what the pages show, over the programs that are built.
 cases:
-	@test -x $(PROGRAM) || { echo "make build comes first"; exit 1; }
-	python3 model/process.py $(PROGRAM)
+	@test -x $(PROGRAM) -a -x $(PIECES) -a -x $(JSON) || { echo "make build comes first"; exit 1; }
+	CQLPGN=$(PROGRAM) PGNPIECES=$(PIECES) PGNJSON=$(JSON) scripts/tests tests/cqlpgn tests/pages
 
 # Removes what checks and builds have kept; the next ones take as long as the first.
 clean:

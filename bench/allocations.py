@@ -7,20 +7,20 @@ pgnpieces.
 BINARY is cqlpgn; - leaves the runs of a program out. Each run must have the status and the bytes of a run with ample memory, or status 7
 and a prefix of these bytes on each stream. refuse.c beside this file is what refuses; cc compiles it. Outside the gate."""
 
+from __future__ import annotations
+
 import os
 import subprocess
 import sys
 import tempfile
+from collections.abc import Iterator
 
 HERE = os.path.dirname(os.path.abspath(__file__))
-COMPOSITE = (
-    b"\xef\xbb\xbf"
-    + b"\r\n".join(
-        [b'[Event "Rated blitz game"]', b'[Site "https://lichess.org/abcd1234"]', b'[Date "2023.05.14"]', b'[Round "-"]']
-        + ['[White "Müller"]'.encode(), b'[Black "anna"]', b'[Result "1-0"]', b'[WhiteElo "1850"]', b'[BlackElo "1799"]']
-        + [b'[TimeControl "180+2"]', b"", b"1. e4 { [%clk 0:03:00] } 1... e5 { [%clk 0:03:00] } 2. Qh5!? { [%clk 0:02:58] } 2... Nc6"]
-        + [b"{ [%clk 0:02:57] } 3. Bc4 $1 { [%clk 0:02:55] } 3... Nf6?? { [%clk 0:02:51] } 4. Qxf7# { [%clk 0:02:54] } 1-0", b""]
-    )
+COMPOSITE = b"\xef\xbb\xbf" + b"\r\n".join(
+    [b'[Event "Rated blitz game"]', b'[Site "https://lichess.org/abcd1234"]', b'[Date "2023.05.14"]', b'[Round "-"]']
+    + ['[White "Müller"]'.encode(), b'[Black "anna"]', b'[Result "1-0"]', b'[WhiteElo "1850"]', b'[BlackElo "1799"]']
+    + [b'[TimeControl "180+2"]', b"", b"1. e4 { [%clk 0:03:00] } 1... e5 { [%clk 0:03:00] } 2. Qh5!? { [%clk 0:02:58] } 2... Nc6"]
+    + [b"{ [%clk 0:02:57] } 3. Bc4 $1 { [%clk 0:02:55] } 3... Nf6?? { [%clk 0:02:51] } 4. Qxf7# { [%clk 0:02:54] } 1-0", b""]
 )
 GAMES = b'[Event "a"]\n\n1. e4 (1. d4 d5 {x}) 1... e5 2. Nf3 Nc6 *\n1. f3 e5 2. g4 Qh4# 0-1\n1. e4 e5 2. Ke3 *\n'
 # one query of each form
@@ -33,7 +33,12 @@ QUERIES = [
 ]  # fmt: skip
 
 
-def runs(folder):
+# Words of a run and its standard input; a status and both streams.
+Runs = Iterator[tuple[list[str], bytes]]
+Answer = tuple[int, bytes, bytes]
+
+
+def runs(folder: str) -> Runs:
     """the words of each run, and its standard input"""
     with open(os.path.join(folder, "q.cql"), "w") as f:
         f.write('cql(variations) flipcolor {A attacks k} sort "p" power A\n')
@@ -59,9 +64,10 @@ def runs(folder):
     yield ["selfrun", "cql() mate", "--games", "3", "--workers", "2"], b""
 
 
-def json_runs():
+def json_runs() -> Runs:
     """the words of each run of pgnjson, and its standard input: games of each kind, more than are made at once, and other ends"""
-    for words in ([], ["--workers", "2"], ["--mark", "", "--workers", "1"], ["--mark", "%clk x"]):
+    kinds: list[list[str]] = [[], ["--workers", "2"], ["--mark", "", "--workers", "1"], ["--mark", "%clk x"]]
+    for words in kinds:
         yield words, GAMES
         yield words, COMPOSITE
     yield ["--workers", "2"], b"*\n1. Ke4 *\n" * 70
@@ -70,13 +76,13 @@ def json_runs():
         yield words, GAMES
 
 
-def pieces_runs():
+def pieces_runs() -> Runs:
     """the words of each run of pgnpieces, and its standard input"""
     for words in (["-", "1"], ["-", "40"], ["-"], ["none.pgn", "1"]):
         yield words, GAMES
 
 
-def run(words, data, folder, shim, number):
+def run(words: list[str], data: bytes, folder: str, shim: str, number: int) -> tuple[Answer, bool]:
     """the status, out and err of a run whose request of this number is refused, and whether it was"""
     refused = os.path.join(folder, "refused")
     environment = {"LD_PRELOAD": shim, "REFUSED": refused, "REFUSE": str(number)}
@@ -87,7 +93,7 @@ def run(words, data, folder, shim, number):
     return (p.returncode, p.stdout, p.stderr), there
 
 
-def tried(binary, words, data, folder, shim):
+def tried(binary: str, words: list[str], data: bytes, folder: str, shim: str) -> tuple[int, int, int]:
     """refuses the requests of a run in turn: how many runs were as with ample memory, ended with 7, and did something else"""
     whole, _ = run([binary] + words, data, folder, shim, 0)
     ample, starved, wrong, number, missed = 0, 0, 0, 0, 0
@@ -107,7 +113,7 @@ def tried(binary, words, data, folder, shim):
     return ample, starved, wrong
 
 
-def main():
+def main() -> int:
     counts = (0, 0, 0)
     with tempfile.TemporaryDirectory() as folder:
         shim = os.path.join(folder, "refuse.so")
@@ -115,7 +121,7 @@ def main():
         for binary, its_runs in zip(sys.argv[1:], (runs(folder), json_runs(), pieces_runs())):
             for words, data in its_runs if binary != "-" else ():
                 one = tried(os.path.abspath(binary), words, data, folder, shim)
-                counts = tuple(a + b for a, b in zip(counts, one))
+                counts = (counts[0] + one[0], counts[1] + one[1], counts[2] + one[2])
     print("requests refused %d: as with ample memory %d, status 7 with prefixes %d, wrong %d" % (sum(counts), *counts))
     return 1 if counts[2] else 0
 

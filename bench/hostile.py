@@ -9,6 +9,8 @@
 
 Nothing is kept on disk but queries. Outside the gate."""
 
+from __future__ import annotations
+
 import functools
 import os
 import re
@@ -17,39 +19,45 @@ import subprocess
 import sys
 import tempfile
 import threading
+from collections.abc import Callable, Iterator
+from typing import IO
 
 GIB = 1 << 30
+# The seconds or the steps of a run, and its status.
+Measured = tuple[float, int]
 # of ten games one has a mate, one a fault and four a long comment
 SHORT = b'[Event "%d"]\n[Result "1-0"]\n\n1. e4 e5 2. Bc4 {a plan} Nc6 (2... Nf6 3. d3) 3. Qh5 Nf6 4. Nf3 1-0\n\n'
 LONG = SHORT.replace(b"a plan", b"a long plan " * 40)
 GAMES = [SHORT.replace(b"Nf3", b"Qxf7#"), SHORT.replace(b"Nf3", b"Ke3"), *[SHORT] * 4, *[LONG] * 4]
 
 
-def peak(pid):
+def peak(pid: int) -> int:
     """the greatest resident size of a process since this was asked last"""
     with open("/proc/%d/status" % pid) as f:
-        size = int(re.search(r"VmHWM:\s*(\d+)", f.read()).group(1)) * 1024
+        size = int(re.findall(r"VmHWM:\s*(\d+)", f.read())[0]) * 1024
     with open("/proc/%d/clear_refs" % pid, "w") as f:
         f.write("5")
     return size
 
 
-def drain(stream, last):
+def drain(stream: IO[bytes], last: list[bytes]) -> None:
     """reads a stream to its end and keeps its last bytes"""
     while piece := os.read(stream.fileno(), 1 << 20):
         last[0] = (last[0] + piece)[-100:]
 
 
-def endless(binary, total):
+def endless(binary: str, total: float) -> bool:
     """the greatest resident size over the first quarter, and over the rest; one block of games is written again and again"""
     block = b"".join(GAMES[i % len(GAMES)] % i for i in range(2000))
     command = [binary, "eval", "cql() mate", "--workers", "4", "--limit", str(1 << 40)]
     out, err = [b""], [b""]
     with subprocess.Popen(command, stdin=subprocess.PIPE, stdout=subprocess.PIPE, stderr=subprocess.PIPE) as p:
+        assert p.stdin and p.stdout and p.stderr
         readers = [threading.Thread(target=drain, args=pair) for pair in ((p.stdout, out), (p.stderr, err))]
         for reader in readers:
             reader.start()
-        sent, sizes = 0, []
+        sent = 0
+        sizes: list[int] = []
         for part in (total / 4, total):
             while sent < part:
                 p.stdin.write(block)
@@ -63,7 +71,7 @@ def endless(binary, total):
     return p.returncode == 1 and sizes[1] <= sizes[0] * 1.01
 
 
-def seconds(words, data, folder):
+def seconds(words: list[str], data: bytes, folder: str | None) -> Measured:
     """the processor seconds of a run, and its status"""
     before = resource.getrusage(resource.RUSAGE_CHILDREN)
     p = subprocess.run(words, input=data, stdout=subprocess.DEVNULL, stderr=subprocess.DEVNULL, cwd=folder)
@@ -71,14 +79,14 @@ def seconds(words, data, folder):
     return after.ru_utime + after.ru_stime - before.ru_utime - before.ru_stime, p.returncode
 
 
-def steps(words, data, folder):
+def steps(words: list[str], data: bytes, folder: str | None) -> Measured:
     """the millions of instructions of a run by one worker, and its status"""
     valgrind = ["valgrind", "--tool=cachegrind", "--cache-sim=no", "--cachegrind-out-file=/dev/null", *words, "--workers", "1"]
     p = subprocess.run(valgrind, input=data, stdout=subprocess.DEVNULL, stderr=subprocess.PIPE, cwd=folder)
-    return int(re.search(rb"I +refs: +([0-9,]+)", p.stderr).group(1).replace(b",", b"")) / 1e6, p.returncode
+    return int(re.findall(rb"I +refs: +([0-9,]+)", p.stderr)[0].replace(b",", b"")) / 1e6, p.returncode
 
 
-def repeated(token, size):
+def repeated(token: bytes, size: int) -> bytes:
     return token * (size // len(token))
 
 
@@ -146,23 +154,23 @@ QUERIES = {
 }
 
 
-def long_query(number):
+def long_query(number: int) -> bytes:
     """a query of nearly 65,536 bytes; files of such have many thousand parts, most of them in several queries"""
     return b"cql() " + b" ".join(b"#A == %d" % ((number * 7919 + place) % 5000) for place in range(6000))
 
 
-def heavy_query(number):
+def heavy_query(number: int) -> bytes:
     """a query of the greatest weight"""
     man = b"K%c%c" % (b"abcdefgh"[number % 8], b"12"[number // 8])
     return b"cql() " + (b"flip flip flip flip flip %b " % man) * 7 + man
 
 
-def other_tags(size):
+def other_tags(size: int) -> bytes:
     """a game of tags of which each has a name of its own, in no order"""
     return b"".join(b'[A%07d "b"]\n' % (i * 7919 % 9999991) for i in range((size - 1) // 15)) + b"*"
 
 
-def archives():
+def archives() -> Iterator[tuple[str, str, Callable[[int], bytes], int]]:
     """name, query, the bytes of a size, and the greater size"""
     for name, token in ARCHIVES.items():
         yield name, "cql() mate", functools.partial(repeated, token), 1 << 24
@@ -176,12 +184,12 @@ def archives():
         yield text, text, moves, MOVES
 
 
-def sizes(binary, measure):
+def sizes(binary: str, measure: Callable[[list[str], bytes, str | None], Measured]) -> bool:
     """each input of one size and of half the size"""
     ok = True
     with tempfile.TemporaryDirectory() as folder:
 
-        def line(kind, name, half, whole):
+        def line(kind: str, name: str, half: Measured, whole: Measured) -> None:
             nonlocal ok
             ratio = whole[0] / max(half[0], 0.01)
             ok = ok and ratio <= 2.2 and 0 <= whole[1] <= 8
@@ -210,18 +218,21 @@ def sizes(binary, measure):
 COMMENTS = {"quotes": b'"', "control": b"\x01", "Latin-1": b"\xe9", "UTF-8": "é".encode(), "no UTF-8 at its end": "é".encode()}
 
 
-def commented(name, size):
+def commented(name: str, size: int) -> bytes:
     """a game of one comment and one move"""
     rest = b"\xe9} 1. e4 *" if name.startswith("no") else b"} 1. e4 *"
     return b"{" + repeated(COMMENTS[name], size - len(rest) - 1) + rest
 
 
-def json_sizes(binary):
+def json_sizes(binary: str) -> bool:
     """each game of one size and of half the size as a line, all nodes with their positions"""
     ok = True
-    games = [(name, functools.partial(repeated, token), MOVES if name == "moves" else 1 << 24) for name, token in ARCHIVES.items()]
+    games: list[tuple[str, Callable[[int], bytes], int]] = [
+        (name, functools.partial(repeated, token), MOVES if name == "moves" else 1 << 24) for name, token in ARCHIVES.items()
+    ]
     games += [(name, functools.partial(commented, name), 1 << 24) for name in COMMENTS]
-    for name, made, size in [*games, ("other tags", other_tags, 1 << 24)]:
+    games += [("other tags", other_tags, 1 << 24)]
+    for name, made, size in games:
         half, whole = (seconds([binary, "--mark", ""], made(n), None) for n in (size // 2, size))
         ratio = whole[0] / max(half[0], 0.01)
         ok = ok and ratio <= 2.2 and 0 <= whole[1] <= 1
@@ -229,7 +240,7 @@ def json_sizes(binary):
     return ok
 
 
-def main():
+def main() -> int:
     binary, part = os.path.abspath(sys.argv[1]), sys.argv[2]
     if part == "endless":
         ok = endless(binary, int(float(sys.argv[3] if len(sys.argv) > 3 else 4) * GIB))

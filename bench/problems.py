@@ -13,12 +13,12 @@ import sys
 from collections import Counter, defaultdict
 
 sys.dont_write_bytecode = True
-sys.path.insert(0, os.path.join(os.path.dirname(os.path.realpath(__file__)), "..", "python"))
+sys.path.insert(0, os.path.join(os.path.dirname(os.path.realpath(__file__)), "..", "python", "src"))
 
-from cqlpgn.problems.convert import BY_BLACK, Converter, Game, Left, stipulation
-from cqlpgn.problems.faults import BadDiagram, FairyCondition, FairyMan, NoSolution, OtherStipulation
-from cqlpgn.problems.records import Record, records
-from cqlpgn.problems.tree import main_line, walk
+from cqlpgn.problems.convert import BY_BLACK, Converter, Game, Left, stipulation  # noqa: E402
+from cqlpgn.problems.faults import BadDiagram, FairyCondition, FairyMan, NoSolution, OtherStipulation  # noqa: E402
+from cqlpgn.problems.records import Record, records  # noqa: E402
+from cqlpgn.problems.tree import main_line, walk  # noqa: E402
 
 NAMES = {"#": "`#n`", "h#": "`h#n`", "s#": "`s#n`", "r#": "`r#n`", "+": "`+`", "=": "`=`", "other": "others"}
 

@@ -3,8 +3,15 @@
 Squares are numbered from a1 = 0 to h8 = 63, men by their index in MEN, an empty square is EMPTY. A side is 0 for
 White and 1 for Black. A move is (from, to, piece of the promotion or None); the null move is None."""
 
+from __future__ import annotations
+
 import functools
 import re
+from typing import List, Optional, Tuple
+
+Move = Tuple[int, int, Optional[int]]
+Board = List[int]
+Step = Tuple[int, int]
 
 KING, QUEEN, ROOK, BISHOP, KNIGHT, PAWN = range(6)
 EMPTY = 12
@@ -15,18 +22,18 @@ DIAGONALS = [(1, 1), (1, -1), (-1, 1), (-1, -1)]
 ORTHOGONALS = [(1, 0), (-1, 0), (0, 1), (0, -1)]
 
 
-def on_board(f, r):
+def on_board(f: int, r: int) -> bool:
     return 0 <= f < 8 and 0 <= r < 8
 
 
-def steps_of(s, ds):
+def steps_of(s: int, ds: list[Step]) -> list[int]:
     f, r = s & 7, s >> 3
     return [(r + b) * 8 + f + a for a, b in ds if on_board(f + a, r + b)]
 
 
-def ray_of(s, d):
+def ray_of(s: int, d: Step) -> list[int]:
     f, r = s & 7, s >> 3
-    out = []
+    out: list[int] = []
     while True:
         f += d[0]
         r += d[1]
@@ -48,7 +55,7 @@ RAYS = {
 
 
 @functools.lru_cache(None)
-def between(a, b):
+def between(a: int, b: int) -> list[int]:
     """the squares strictly between two squares of a line"""
     for d in DIAGONALS + ORTHOGONALS:
         ry = ray_of(a, d)
@@ -60,17 +67,17 @@ def between(a, b):
 class Position:
     __slots__ = ("board", "side", "castling", "en_passant", "number", "legal")
 
-    def __init__(self, board, side, castling, en_passant, number):
+    def __init__(self, board: Board, side: int, castling: str, en_passant: int | None, number: int) -> None:
         self.board, self.side, self.castling = board, side, castling
         self.en_passant, self.number = en_passant, number
-        self.legal = None
+        self.legal: list[Move] | None = None
 
 
-def side_of(m):
+def side_of(m: int) -> int | None:
     return None if m == EMPTY else (0 if m < 6 else 1)
 
 
-def slides(board, rays):
+def slides(board: Board, rays: list[list[int]]) -> list[int]:
     out = []
     for ry in rays:
         for t in ry:
@@ -80,7 +87,7 @@ def slides(board, rays):
     return out
 
 
-def attacks_list(board, s):
+def attacks_list(board: Board, s: int) -> list[int]:
     """the squares that the man on s attacks"""
     m = board[s]
     if m == EMPTY:
@@ -92,7 +99,7 @@ def attacks_list(board, s):
         return KNIGHT_GOALS[s]
     if k == PAWN:
         return PAWN_ATTACKS[m // 6][s]
-    out = []
+    out: list[int] = []
     if k in (QUEEN, BISHOP):
         out += slides(board, RAYS["d"][s])
     if k in (QUEEN, ROOK):
@@ -100,7 +107,7 @@ def attacks_list(board, s):
     return out
 
 
-def attacked(board, s, by):
+def attacked(board: Board, s: int, by: int) -> bool:
     """is s attacked by a man of the side"""
     o = 6 * by
     for t in KNIGHT_GOALS[s]:
@@ -122,18 +129,18 @@ def attacked(board, s, by):
     return False
 
 
-def is_attacked_king(board, side):
+def is_attacked_king(board: Board, side: int) -> bool:
     return attacked(board, board.index(KING + 6 * side), 1 - side)
 
 
-def in_check(p, side):
+def in_check(p: Position, side: int) -> bool:
     return is_attacked_king(p.board, side)
 
 
 CORNER = {7: "K", 0: "Q", 63: "k", 56: "q"}
 
 
-def read_placement(text):
+def read_placement(text: bytes) -> Board | None:
     """the board, or None"""
     rows = text.split(b"/")
     if len(rows) != 8:
@@ -154,24 +161,20 @@ def read_placement(text):
     return board
 
 
-def rights_that_count(board, text):
+def rights_that_count(board: Board, text: bytes) -> str:
     """the castling rights of the text with king and rook at home"""
     homes = (("K", 4, 7, 0), ("Q", 4, 0, 0), ("k", 60, 63, 6), ("q", 60, 56, 6))
-    return "".join(
-        right
-        for right, king, rook, o in homes
-        if ord(right) in text and board[king] == KING + o and board[rook] == ROOK + o
-    )
+    return "".join(right for right, king, rook, o in homes if ord(right) in text and board[king] == KING + o and board[rook] == ROOK + o)
 
 
-def square_that_counts(board, side, s):
+def square_that_counts(board: Board, side: int, s: int) -> int | None:
     """the en passant square where a pawn can just have passed it, or None"""
     row, up, pawn = (5, 8, PAWN + 6) if side == 0 else (2, -8, PAWN)
     passed = s >> 3 == row and board[s] == EMPTY and board[s - up] == pawn and board[s + up] == EMPTY
     return s if passed else None
 
 
-def read_fen(text):
+def read_fen(text: bytes) -> Position | str:
     """A position, or the name of the first fault."""
     fs = [x for x in text.split(b" ") if x]
     if len(fs) == 4:
@@ -205,10 +208,17 @@ def read_fen(text):
     return Position(board, side, castling, en_passant, max(1, int(fs[5])))
 
 
-START = read_fen(b"rnbqkbnr/pppppppp/8/8/8/8/PPPPPPPP/RNBQKBNR w KQkq - 0 1")
+def position_of(text: bytes) -> Position:
+    """the position of a FEN without a fault"""
+    p = read_fen(text)
+    assert isinstance(p, Position), p
+    return p
 
 
-def fen_text(p):
+START = position_of(b"rnbqkbnr/pppppppp/8/8/8/8/PPPPPPPP/RNBQKBNR w KQkq - 0 1")
+
+
+def fen_text(p: Position) -> str:
     rows = []
     for r in range(7, -1, -1):
         t = ""
@@ -229,7 +239,7 @@ def fen_text(p):
     return "%s %s %s %s 0 %d" % ("/".join(rows), "wb"[p.side], p.castling or "-", sq, p.number)
 
 
-def play(p, m):
+def play(p: Position, m: Move) -> Position:
     """the position after a move other than the null move"""
     fr, to, pr = m
     board = list(p.board)
@@ -257,7 +267,7 @@ def play(p, m):
     return Position(board, 1 - p.side, castling, en_passant, min(p.number + p.side, 4294967295))
 
 
-def pawn_goals(p, fr):
+def pawn_goals(p: Position, fr: int) -> list[int]:
     up, first = (8, 1) if p.side == 0 else (-8, 6)
     goals = [t for t in PAWN_ATTACKS[p.side][fr] if side_of(p.board[t]) == 1 - p.side or t == p.en_passant]
     if p.board[fr + up] == EMPTY:
@@ -267,23 +277,19 @@ def pawn_goals(p, fr):
     return goals
 
 
-def castling_goals(p, fr):
+def castling_goals(p: Position, fr: int) -> list[int]:
     home = 4 if p.side == 0 else 60
     if fr != home:
         return []
     goals = []
     for right, step, free in (("Kk"[p.side], 1, 2), ("Qq"[p.side], -1, 3)):
         is_free = all(p.board[home + i * step] == EMPTY for i in range(1, free + 1))
-        if (
-            right in p.castling
-            and is_free
-            and not any(attacked(p.board, home + i * step, 1 - p.side) for i in range(3))
-        ):
+        if right in p.castling and is_free and not any(attacked(p.board, home + i * step, 1 - p.side) for i in range(3)):
             goals.append(home + 2 * step)
     return goals
 
 
-def goals_of(p, fr):
+def goals_of(p: Position, fr: int) -> list[int]:
     man = p.board[fr] % 6
     if man == PAWN:
         return pawn_goals(p, fr)
@@ -291,7 +297,7 @@ def goals_of(p, fr):
     return goals + castling_goals(p, fr) if man == KING else goals
 
 
-def legal_moves(p):
+def legal_moves(p: Position) -> list[Move]:
     """the legal moves but the null move, by square of origin and then by goal"""
     if p.legal is not None:
         return p.legal
@@ -307,29 +313,29 @@ def legal_moves(p):
     return p.legal
 
 
-def play_null(p):
+def play_null(p: Position) -> Position | None:
     """the position after a null move, None in check"""
     if in_check(p, p.side):
         return None
     return Position(p.board, 1 - p.side, p.castling, None, min(p.number + p.side, 4294967295))
 
 
-def is_mate(p):
+def is_mate(p: Position) -> bool:
     return in_check(p, p.side) and not legal_moves(p)
 
 
-def is_stalemate(p):
+def is_stalemate(p: Position) -> bool:
     return not in_check(p, p.side) and not legal_moves(p)
 
 
 SAN = re.compile(rb"([KQRBNP]?)([a-h]?)([1-8]?)[x-]?([a-h])([1-8])(?:=?([QRBN]))?")
 
 
-def read_san(p, t):
-    """(fault, None) or (None, move, next position)"""
+def read_san(p: Position, t: bytes) -> str | tuple[Move | None, Position]:
+    """the move and the position after it, or why there is none"""
     if t in (b"--", b"Z0"):
         q = play_null(p)
-        return ("illegal move",) if q is None else (None, None, q)
+        return "illegal move" if q is None else (None, q)
     s = t.rstrip(b"+#")
     castle = {b"O-O": 2, b"0-0": 2, b"O-O-O": -2, b"0-0-0": -2}.get(s)
     fit = []
@@ -340,7 +346,7 @@ def read_san(p, t):
     else:
         x = SAN.fullmatch(s)
         if not x:
-            return ("not a move",)
+            return "not a move"
         man = "KQRBNP".index((x.group(1) or b"P").decode())
         to = (x.group(5)[0] - 49) * 8 + x.group(4)[0] - 97
         pr = None if not x.group(6) else "KQRBN".index(x.group(6).decode())
@@ -355,17 +361,17 @@ def read_san(p, t):
                 continue
             fit.append(m)
     if not fit:
-        return ("illegal move",)
+        return "illegal move"
     if len(fit) > 1:
-        return ("ambiguous move",)
-    return (None, fit[0], play(p, fit[0]))
+        return "ambiguous move"
+    return (fit[0], play(p, fit[0]))
 
 
-def square_name(s):
+def square_name(s: int) -> str:
     return "abcdefgh"[s & 7] + str((s >> 3) + 1)
 
 
-def san_text(p, m):
+def san_text(p: Position, m: Move | None) -> str:
     if m is None:
         return "--"
     fr, to, pr = m
@@ -384,10 +390,7 @@ def san_text(p, m):
             oth = [
                 x[0]
                 for x in legal_moves(p)
-                if x[1] == to
-                and x[0] != fr
-                and p.board[x[0]] == p.board[fr]
-                and not (man == KING and abs(x[0] - x[1]) == 2)
+                if x[1] == to and x[0] != fr and p.board[x[0]] == p.board[fr] and not (man == KING and abs(x[0] - x[1]) == 2)
             ]
             if oth:
                 if all((x & 7) != (fr & 7) for x in oth):

@@ -2,14 +2,24 @@
 
 A filter is asked under a tuple of mappings (the innermost family first) and an environment of named squares."""
 
+from __future__ import annotations
+
 import functools
 import re
+from typing import Any, Callable, Dict, Iterable, List, Optional, Sequence, Set, Tuple, TypeVar, cast
 
-from chess import EMPTY, PAWN, attacks_list, between, in_check, is_mate, is_stalemate, on_board
-from pgn import DIGITS
-from query import FAMILIES, kind_of, names_in, parts_of
+from .chess import EMPTY, PAWN, attacks_list, between, in_check, is_mate, is_stalemate, on_board
+from .pgn import DIGITS, Game, Node
+from .query import FAMILIES, Constituent, Designator, Filter, Query, kind_of, names_in, parts_of
 
-SYMMETRIES = {
+# A mapping: a symmetry, whether the colours are exchanged, and the shift to the east and to the north. Names, each with its square.
+Mapping = Tuple[int, bool, int, int]
+Mappings = Tuple[Mapping, ...]
+Names = Tuple[Tuple[str, int], ...]
+Step = Tuple[int, int]
+Places = Set[int]
+
+SYMMETRIES: Dict[int, Callable[[int, int], Step]] = {
     1: lambda f, r: (f, r),
     2: lambda f, r: (7 - f, r),
     3: lambda f, r: (f, 7 - r),
@@ -21,7 +31,7 @@ SYMMETRIES = {
 }
 
 
-def members(fam):
+def members(fam: str) -> list[Mapping]:
     """mappings (symmetry, exchange, east, north)"""
     if fam == "flip":
         return [(i, False, 0, 0) for i in range(1, 9)]
@@ -43,7 +53,7 @@ def members(fam):
 MEMBERS = {f: members(f) for f in FAMILIES}
 
 
-def image_under(m, d):
+def image_under(m: Mapping, d: Designator) -> Designator | None:
     """a designator under one mapping, or None"""
     men, sq, wr, wf = d
     sy, ex, ea, no = m
@@ -52,15 +62,15 @@ def image_under(m, d):
     if ea or no:
         dx = 0 if wr else ea
         dy = 0 if wf else no
-        mv = lambda f, r: (f + dx, r + dy)
     else:
-        mv = SYMMETRIES[sy]
+        dx = dy = 0
+    turned = SYMMETRIES[sy]
     out = 0
     for s in range(64):
         if sq >> s & 1:
-            f, r = mv(s & 7, s >> 3)
-            if on_board(f, r):
-                out |= 1 << (r * 8 + f)
+            f, r = turned(s & 7, s >> 3)
+            if on_board(f + dx, r + dy):
+                out |= 1 << ((r + dy) * 8 + f + dx)
     if out == 0:
         return None
     if sy >= 5:
@@ -68,32 +78,30 @@ def image_under(m, d):
     return (men, out, wr, wf)
 
 
-_images = {}
+_images: Dict[Tuple[Mappings, Designator], Optional[Designator]] = {}
 
 
-def image(g, d):
+def image(g: Mappings, d: Designator) -> Designator | None:
     k = (g, d)
     if k not in _images:
         if len(_images) > 300000:
             _images.clear()
-        x = d
+        x: Designator | None = d
         for m in g:
-            x = image_under(m, x)
-            if x is None:
-                break
+            x = image_under(m, x) if x is not None else None
         _images[k] = x
     return _images[k]
 
 
-def exchanged(g):
+def exchanged(g: Mappings) -> bool:
     return sum(m[1] for m in g) % 2 == 1
 
 
-def light_changed(g):
+def light_changed(g: Mappings) -> bool:
     return sum(m[0] in (2, 3, 6, 7) for m in g) % 2 == 1
 
 
-COMPASS = {
+COMPASS: Dict[str, Step] = {
     "up": (0, 1),
     "down": (0, -1),
     "left": (-1, 0),
@@ -105,7 +113,7 @@ COMPASS = {
 }
 
 
-def compass_image(g, d):
+def compass_image(g: Mappings, d: Step) -> Step:
     for m in g:
         o = SYMMETRIES[m[0]](0, 0)
         t = SYMMETRIES[m[0]](*d)
@@ -119,16 +127,16 @@ POWER = [0, 9, 5, 3, 3, 1] * 2 + [0]
 LOWEST, HIGHEST = -(1 << 63), (1 << 63) - 1
 
 
-def squares_of(m):
+def squares_of(m: int) -> list[int]:
     """the squares of a set, from a1 on"""
-    squares = []
+    squares: list[int] = []
     while m:
         squares.append((m & -m).bit_length() - 1)
         m &= m - 1
     return squares
 
 
-def fits(g, f):
+def fits(g: Mappings, f: Filter) -> bool:
     """decided by the designators and families that stand under no further family"""
     if f.form == "designator":
         return image(g, f.args[0]) is not None
@@ -137,26 +145,27 @@ def fits(g, f):
     return all(fits(g, p) for p, _, _ in parts_of(f))
 
 
-def tags_of(of, g, white, black):
+def tags_of(of: str | None, g: Mappings, white: bytes, black: bytes) -> list[bytes]:
     """the tag of the player named, or both"""
     if of is None:
         return [white, black]
     return [white] if (of == "white") != exchanged(g) else [black]
 
 
-def in_range_all(operation, values):
+def in_range_all(operation: Callable[[int, int], int], values: Sequence[int | None]) -> int | None:
     """the values joined from the left, None where one is None or a result is out of range"""
-    if None in values:
+    known = [v for v in values if v is not None]
+    if len(known) < len(values):
         return None
-    result = values[0]
-    for v in values[1:]:
+    result = known[0]
+    for v in known[1:]:
         result = operation(result, v)
         if not LOWEST <= result <= HIGHEST:
             return None
     return result
 
 
-def steps_of_word(g, word):
+def steps_of_word(g: Mappings, word: str) -> list[Step]:
     """the steps of a direction's word under the mappings"""
     if word == "diagonal":
         return [COMPASS[c] for c in ("northeast", "northwest", "southeast", "southwest")]
@@ -167,7 +176,7 @@ def steps_of_word(g, word):
     return [compass_image(g, COMPASS[word])]
 
 
-def steps_from(squares, steps, least, most):
+def steps_from(squares: int, steps: list[Step], least: int, most: int) -> int:
     """the squares that lie least to most steps from one of the squares"""
     out = 0
     for q in squares_of(squares):
@@ -179,11 +188,15 @@ def steps_from(squares, steps, least, most):
     return out
 
 
-def kept(ask):
+Value = TypeVar("Value")
+Asks = Callable[["Search", Filter, Mappings, Node, Names], Value]
+
+
+def kept(ask: Asks[Value]) -> Asks[Value]:
     """asks once what a filter is at a node under the mappings, for each choice of squares for the names in it: no other name counts"""
 
     @functools.wraps(ask)
-    def asked(self, f, g, n, e):
+    def asked(self: Search, f: Filter, g: Mappings, n: Node, e: Names) -> Value:
         if f.form == "name":
             return ask(self, f, g, n, e)
         names = names_in(f)
@@ -193,7 +206,7 @@ def kept(ask):
             if len(self.asked) > 300000:
                 self.asked.clear()
             self.asked[k] = value
-        return self.asked[k]
+        return cast(Value, self.asked[k])
 
     return asked
 
@@ -201,21 +214,23 @@ def kept(ask):
 class Search:
     """the searched tree of a game and the meaning of filters in it"""
 
-    def __init__(self, game, variations):
+    def __init__(self, game: Game, variations: bool) -> None:
         self.game = game
         self.var = variations
         self.nodes = game.nodes if variations else [x for x in game.nodes if x.main]
         self.children = {x.no: (x.children if variations else x.children[:1]) for x in self.nodes}
-        self.fit, self.asked, self.attacks = {}, {}, {}
+        self.fit: Dict[Tuple[int, Mappings], Tuple[Filter, List[Mappings]]] = {}
+        self.asked: Dict[Tuple[Filter, Mappings, int, Names], Any] = {}
+        self.attacks: Dict[Tuple[int, int], int] = {}
 
-    def fitting(self, g, f):
+    def fitting(self, g: Mappings, f: Filter) -> list[Mappings]:
         k = (id(f), g)
         if k not in self.fit:
             self.fit[k] = (f, [(h,) + g for h in MEMBERS[f.args[0]] if fits((h,) + g, f.args[1])])
         return self.fit[k][1]
 
-    def descendants(self, n):
-        out = []
+    def descendants(self, n: Node) -> list[Node]:
+        out: list[Node] = []
         st = [n]
         while st:
             x = st.pop()
@@ -223,13 +238,13 @@ class Search:
             st.extend(self.children[x.no])
         return out
 
-    def attacked_from(self, q, n):
+    def attacked_from(self, q: int, n: Node) -> int:
         """the set of the squares that the man on a square attacks"""
         if (q, n.no) not in self.attacks:
             self.attacks[q, n.no] = sum(1 << t for t in attacks_list(n.pos.board, q))
         return self.attacks[q, n.no]
 
-    def holds(self, f, g, n, e):
+    def holds(self, f: Filter, g: Mappings, n: Node, e: Names) -> bool:
         k = kind_of(f)
         if k == "set":
             return self.set(f, g, n, e) != 0
@@ -238,7 +253,7 @@ class Search:
         return self.position(f, g, n, e)
 
     @kept
-    def set(self, f, g, n, e):
+    def set(self, f: Filter, g: Mappings, n: Node, e: Names) -> int:
         k, a = f.form, f.args
         board = n.pos.board
         if k == "designator":
@@ -264,35 +279,32 @@ class Search:
                 r &= self.set(x, g, n, e)
             return r
         if k in ("light", "dark"):
-            x = self.set(a[0], g, n, e)
-            return x & (LIGHT if (k == "light") != light_changed(g) else ALL & ~LIGHT)
+            return self.set(a[0], g, n, e) & (LIGHT if (k == "light") != light_changed(g) else ALL & ~LIGHT)
         if k == "direction":
             return steps_from(self.set(a[3], g, n, e), steps_of_word(g, a[0]), a[1], a[2])
-        x, y = self.set(a[0], g, n, e), self.set(a[1], g, n, e)
+        one, other = self.set(a[0], g, n, e), self.set(a[1], g, n, e)
         if k == "attacks":
-            return sum(1 << q for q in squares_of(x) if y & self.attacked_from(q, n))
+            return sum(1 << q for q in squares_of(one) if other & self.attacked_from(q, n))
         if k == "attackedby":
             r = 0
-            for q in squares_of(y):
+            for q in squares_of(other):
                 r |= self.attacked_from(q, n)
-            return r & x
+            return r & one
         assert k == "between"
         r = 0
-        for p in squares_of(x):
-            for q in squares_of(y):
+        for p in squares_of(one):
+            for q in squares_of(other):
                 for t in between(p, q):
                     r |= 1 << t
         return r
 
     @kept
-    def number(self, f, g, n, e):
+    def number(self, f: Filter, g: Mappings, n: Node, e: Names) -> int | None:
         k, a = f.form, f.args
         if k == "number":
-            return a[0]
+            return int(a[0])
         if k == "family":
-            v = [self.number(a[1], h, n, e) for h in self.fitting(g, f)]
-            v = [x for x in v if x is not None]
-            return max(v) if v else None
+            return max((x for x in (self.number(a[1], h, n, e) for h in self.fitting(g, f)) if x is not None), default=None)
         if k == "#":
             return bin(self.set(a[0], g, n, e)).count("1")
         if k == "power":
@@ -304,14 +316,13 @@ class Search:
         if k == "line":
             return self.line(f, g, n, e)
         if k in ("max", "min"):
-            v = [self.number(x, g, n, e) for x in a[0]]
-            return None if None in v or not v else (max if k == "max" else min)(v)
+            return in_range_all(max if k == "max" else min, [self.number(x, g, n, e) for x in a[0]])
         if k == "product":
             return in_range_all(lambda x, y: x * y, [self.number(x, g, n, e) for x in a[0]])
         values = [(minus, self.number(x, g, n, e)) for minus, x in a[0]]
         return in_range_all(lambda x, y: x + y, [-v if minus and v is not None else v for minus, v in values])
 
-    def plain_number(self, w, n):
+    def plain_number(self, w: str, n: Node) -> int | None:
         if w == "movenumber":
             return n.pos.number
         if w == "year":
@@ -324,11 +335,11 @@ class Search:
             n = n.parent
         return r
 
-    def elo(self, of, g):
+    def elo(self, of: str | None, g: Mappings) -> int | None:
         texts = [self.game.tags.get(tag, b"") for tag in tags_of(of, g, b"WhiteElo", b"BlackElo")]
         return max((int(t) for t in texts if re.fullmatch(b"[0-9]{1,9}", t)), default=None)
 
-    def plain(self, w, g, n):
+    def plain(self, w: str, g: Mappings, n: Node) -> bool:
         p = n.pos
         if w == "check":
             return in_check(p, p.side)
@@ -350,15 +361,13 @@ class Search:
         return bool(n.comments)
 
     @kept
-    def position(self, f, g, n, e):
+    def position(self, f: Filter, g: Mappings, n: Node, e: Names) -> bool:
         k, a = f.form, f.args
         if k == "plain":
             return self.plain(a[0], g, n)
         if k == "result":
-            r = a[0]
-            if exchanged(g):
-                r = {"White": "Black", "Black": "White"}.get(r, r)
-            return self.game.result == r
+            wanted: str = {"White": "Black", "Black": "White"}.get(a[0], a[0]) if exchanged(g) else a[0]
+            return self.game.result == wanted
         if k == "player":
             return any(a[1] in self.game.tags.get(t, b"") for t in tags_of(a[0], g, b"White", b"Black"))
         if k in ("event", "site"):
@@ -380,16 +389,11 @@ class Search:
             v = (self.holds(a[3], g, n, e + ((a[1], q),)) for q in squares_of(self.set(a[2], g, n, e)))
             return all(v) if a[0] else any(v)
         if k == "find":
-            return any(self.holds(a[0], g, x, e) for x in self.descendants(n))
+            return any(self.holds(a[0], g, below, e) for below in self.descendants(n))
         if k == "find <--":
-            x = n
-            while x is not None:
-                if self.holds(a[0], g, x, e):
-                    return True
-                x = x.parent
-            return False
+            return any(self.holds(a[0], g, above, e) for above in self.paths_up(n, False)[0])
         if k == "child":
-            return any(self.holds(a[0], g, x, e) for x in self.children[n.no])
+            return any(self.holds(a[0], g, below, e) for below in self.children[n.no])
         if k == "parent":
             return n.parent is not None and self.holds(a[0], g, n.parent, e)
         if k == "sort":
@@ -401,7 +405,7 @@ class Search:
         assert k == "move"
         return self.move(a, g, n, e)
 
-    def move(self, a, g, n, e):
+    def move(self, a: list[Filter | None], g: Mappings, n: Node, e: Names) -> bool:
         """is the move that leads to the node one of the move filter's"""
         if n.parent is None or n.move is None:
             return False
@@ -420,54 +424,55 @@ class Search:
             return False
         return True
 
-    def paths_up(self, n, primary):
+    def paths_up(self, n: Node, primary: bool) -> list[list[Node]]:
         path = [n]
         while n.parent is not None and not (primary and n.parent.children[0] is not n):
             n = n.parent
             path.append(n)
         return [path]
 
-    def paths_down(self, n, primary):
+    def paths_down(self, n: Node, primary: bool) -> list[list[Node]]:
         """each path from the node to a leaf of the searched tree"""
-        paths = []
+        paths: list[list[Node]] = []
         open_paths = [[n]]
         while open_paths:
             w = open_paths.pop()
             below = self.children[w[-1].no]
             if primary:
-                below = [x for x in below if x.parent.children[0] is x]
+                below = [x for x in below if x.parent is not None and x.parent.children[0] is x]
             if not below:
                 paths.append(w)
             open_paths += [w + [x] for x in below]
         return paths
 
-    def line(self, f, g, n, e):
+    def line(self, f: Filter, g: Mappings, n: Node, e: Names) -> int | None:
         back, primary, ext, parts = f.args
-        memo = {}
+        memo: Dict[Tuple[int, int], bool] = {}
 
-        def at(x, w):
+        def at(x: Filter, w: Node) -> bool:
             k = (id(x), w.no)
             if k not in memo:
                 memo[k] = self.holds(x, g, w, e)
             return memo[k]
 
-        def ends(c, w, starts):
+        def ends(c: Constituent, w: list[Node], starts: Iterable[int]) -> Places:
             """the places where a part spelled by the constituent can end, begun at one of the starts"""
             body, m = c
 
-            def once(st):
+            def once(st: Iterable[int]) -> Places:
                 if body[0] == "atom":
                     return {i + 1 for i in st if i < len(w) and at(body[1], w[i])}
                 return seq(body[1], w, st)
 
             if m[0] == "once":
                 return once(starts)
-            lo, hi = {"*": (0, None), "+": (1, None), "?": (0, 1), "times": (m[1], m[2]) if len(m) > 1 else None}[m[0]]
+            bounds: Dict[str, Tuple[int, Optional[int]]] = {"*": (0, None), "+": (1, None), "?": (0, 1)}
+            lo, hi = (m[1], m[2]) if m[0] == "times" else bounds[m[0]]
             if hi is not None and lo > hi:
                 return set()
             cur = set(starts)
             i = 0
-            out = set(cur) if lo == 0 else set()
+            out: Places = set(cur) if lo == 0 else set()
             while hi is None or i < hi:
                 nxt = once(cur)
                 i += 1
@@ -485,14 +490,15 @@ class Search:
                     break
             return out
 
-        def seq(cs, w, st):
+        def seq(cs: list[Constituent], w: list[Node], st: Iterable[int]) -> Places:
+            found = set(st)
             for c in cs:
-                st = ends(c, w, st)
-            return st
+                found = ends(c, w, found)
+            return found
 
-        best = None
+        best: int | None = None
 
-        def ok(k):
+        def ok(k: int) -> bool:
             return k >= 1 and (ext is None or ext[0] <= k <= ext[1])
 
         # A path is known by its last node, so the length of the longest spelled part is all that is asked.
@@ -502,16 +508,17 @@ class Search:
                     best = k
         return best
 
-    def is_hit(self, q, n):
+    def is_hit(self, q: Query, n: Node) -> bool:
         return all(self.holds(f, (), n, ()) for f in q["items"])
 
 
-def hits(q, game):
+def hits(q: Query, game: Game) -> tuple[list[Node], Search]:
     s = Search(game, q["variations"])
     return [n for n in s.nodes if s.is_hit(q, n)], s
 
 
-def keys(q, hs, s):
-    return [
-        (min if f.args[0] else max)(s.number(f.args[2], (), n, ()) for n in hs) for f in q["items"] if f.form == "sort"
-    ]
+def keys(q: Query, hs: list[Node], s: Search) -> list[int]:
+    """the value of each sort item over the nodes, at each of which it has one"""
+    items = [f for f in q["items"] if f.form == "sort"]
+    values = [[s.number(f.args[2], (), n, ()) for n in hs] for f in items]
+    return [(min if f.args[0] else max)(v for v in row if v is not None) for f, row in zip(items, values)]

@@ -1,8 +1,16 @@
 """An archive of games: its tokens, its cut into games, a game's first fault or its tree, and the export text."""
 
-import re
+from __future__ import annotations
 
-from chess import START, read_fen, read_san, san_text
+import re
+from typing import List, Mapping, Optional, Sequence, Tuple
+
+from .chess import START, Move, Position, read_fen, read_san, san_text
+
+# A token: where it begins and ends, its kind, and the number of a glyph. A game's place: where it begins and ends, and its tokens.
+Token = Tuple[int, int, str, Optional[int]]
+Span = Tuple[int, int, List[Token]]
+Fault = Tuple[str, int, str]
 
 WHITE_SPACE = frozenset([9, 10, 11, 12, 13, 32])
 DIGITS = frozenset(b"0123456789")
@@ -17,9 +25,9 @@ GLYPHS = {b"!": 1, b"?": 2, b"!!": 3, b"??": 4, b"!?": 5, b"?!": 6}
 SINGLE_BYTES = {91: "Open", 93: "Close", 40: "Left", 41: "Right", 46: "Period", 42: "Star"}
 
 
-def lex(b, at, first):
+def lex(b: bytes, at: int, first: bool) -> list[Token]:
     """lexemes from byte `at`: (start, end, kind, number)"""
-    out = []
+    out: list[Token] = []
     i = at
     n = len(b)
     while i < n:
@@ -28,7 +36,8 @@ def lex(b, at, first):
             i += 1
             continue
         col = first if i == at else b[i - 1] == 10
-        k, j, num = "BadByte", i + 1, None
+        k, j = "BadByte", i + 1
+        num: int | None = None
         if c == 37 and col:
             k = "Escape"
             j = b.find(b"\n", i)
@@ -82,22 +91,22 @@ def lex(b, at, first):
 MOVETEXT_KINDS = frozenset(["Symbol", "Period", "Star", "Left", "Right", "Nag", "Null", "BadByte"])
 
 
-def is_marker(b, t):
+def is_marker(b: bytes, t: Token) -> bool:
     return t[2] == "Star" or (t[2] == "Symbol" and bytes(b[t[0] : t[1]]) in MARKERS)
 
 
-def cut(b):
+def cut(b: bytes) -> list[Span]:
     """list of (start, end, tokens)"""
     at = 3 if b[:3] == b"\xef\xbb\xbf" else 0
-    games = []
-    start = None
-    tokens = []
+    games: list[Span] = []
+    start: int | None = None
+    tokens: list[Token] = []
     depth = 0
     tag = False
     seen = False
     for t in lex(b, at, True):
         k = t[2]
-        if k == "Open" and seen and (t[0] == at or b[t[0] - 1] == 10):
+        if start is not None and k == "Open" and seen and (t[0] == at or b[t[0] - 1] == 10):
             games.append((start, t[0], tokens))
             start = None
             tokens = []
@@ -137,25 +146,34 @@ TOKEN_FAULTS = {"BadByte": "bad byte", "UnclosedComment": "unclosed comment", "U
 class Node:
     __slots__ = ("parent", "move", "pos", "nags", "comments", "children", "no", "main")
 
-    def __init__(self, parent, move, pos):
+    def __init__(self, parent: Node | None, move: Move | None, pos: Position) -> None:
         self.parent, self.move, self.pos = parent, move, pos
-        self.nags, self.comments, self.children = [], [], []
-        self.no, self.main = None, False
+        self.nags: list[int] = []
+        self.comments: list[bytes] = []
+        self.children: list[Node] = []
+        # its number in the game, once this is whole
+        self.no, self.main = -1, False
 
 
 class Game:
-    pass
+    """a game that is read: its nodes are numbered in the order in which they are written"""
+
+    def __init__(self, tags: dict[bytes, bytes], result: str, root: Node) -> None:
+        self.tags, self.result, self.root = tags, result, root
+        self.nodes: list[Node] = []
 
 
 class Level:
     """an open line: its last node, its last move's node, and the notes that wait for its first move"""
 
-    def __init__(self, at):
-        self.here, self.last = at, None
-        self.comments, self.nags = [], []
+    def __init__(self, at: Node) -> None:
+        self.here = at
+        self.last: Node | None = None
+        self.comments: list[bytes] = []
+        self.nags: list[int] = []
 
 
-def unescape(s):
+def unescape(s: bytes) -> bytes:
     out = bytearray()
     i = 0
     while i < len(s):
@@ -168,32 +186,32 @@ def unescape(s):
     return bytes(out)
 
 
-def words(t):
+def words(t: bytes) -> list[bytes]:
     return [w for w in re.split(rb"[\x09-\x0d\x20]+", bytes(t)) if w]
 
 
 class GameFault(Exception):
-    def __init__(self, byte, reason):
+    def __init__(self, byte: int, reason: str) -> None:
         self.byte, self.reason = byte, reason
 
 
 class Reader:
     """reads a game's tokens in order; a fault is raised at the first token that no game continues with"""
 
-    def __init__(self, archive):
+    def __init__(self, archive: bytes) -> None:
         self.archive = archive
-        self.tags = {}
+        self.tags: dict[bytes, bytes] = {}
         self.root = Node(None, None, START)
-        self.part_of_tag = None
-        self.name = None
-        self.levels = []
+        self.part_of_tag: str | None = None
+        self.name = b""
+        self.levels: list[Level] = []
         self.count = 1
-        self.result = None
+        self.result: str | None = None
 
-    def text(self, token):
+    def text(self, token: Token) -> bytes:
         return bytes(self.archive[token[0] : token[1]])
 
-    def token(self, token):
+    def token(self, token: Token) -> None:
         at, _, kind, _ = token
         if kind == "Escape":
             return
@@ -210,7 +228,7 @@ class Reader:
         else:
             self.movetext(token)
 
-    def inside_tag(self, token):
+    def inside_tag(self, token: Token) -> None:
         at, _, kind, _ = token
         if self.part_of_tag == "name" and kind == "Symbol":
             self.name = self.text(token)
@@ -225,14 +243,15 @@ class Reader:
         else:
             raise GameFault(at, "bad tag")
 
-    def tag(self, at, value):
+    def tag(self, at: int, value: bytes) -> None:
         if self.name == b"FEN":
-            self.root.pos = read_fen(value)
-            if isinstance(self.root.pos, str):
+            position = read_fen(value)
+            if isinstance(position, str):
                 raise GameFault(at, "bad FEN")
+            self.root.pos = position
         self.tags[self.name] = value
 
-    def comment(self, text, kind):
+    def comment(self, text: bytes, kind: str) -> None:
         text = b" ".join(words(text[1:-1] if kind == "Comment" else text[1:].replace(b"}", b")")))
         if text and self.levels and self.levels[-1].last is not None:
             self.levels[-1].last.comments.append(text)
@@ -241,11 +260,11 @@ class Reader:
         elif text:
             self.root.comments.append(text)
 
-    def movetext(self, token):
+    def movetext(self, token: Token) -> None:
         at, _, kind, number = token
         if not self.levels:
             self.levels = [Level(self.root)]
-        if kind == "Nag":
+        if number is not None:
             self.nag(at, number)
         elif kind == "Left":
             self.open_variation(at)
@@ -257,7 +276,7 @@ class Reader:
         elif kind != "Period" and not all(c in DIGITS for c in self.text(token)):
             self.move(at, self.text(token))
 
-    def nag(self, at, number):
+    def nag(self, at: int, number: int) -> None:
         if number > 255:
             raise GameFault(at, "NAG out of range")
         level = self.levels[-1]
@@ -266,43 +285,45 @@ class Reader:
         elif len(self.levels) > 1:
             level.nags.append(number)
 
-    def open_variation(self, at):
-        if self.levels[-1].last is None:
+    def open_variation(self, at: int) -> None:
+        last = self.levels[-1].last
+        if last is None or last.parent is None:
             raise GameFault(at, "variation without move")
         if len(self.levels) > MOST_LEVELS:
             raise GameFault(at, "too deep")
-        self.levels.append(Level(self.levels[-1].last.parent))
+        self.levels.append(Level(last.parent))
 
-    def close_variation(self, at):
+    def close_variation(self, at: int) -> None:
         if len(self.levels) == 1:
             raise GameFault(at, "unopened variation")
         if self.levels[-1].last is None:
             raise GameFault(at, "empty variation")
         self.levels.pop()
 
-    def move(self, at, text):
+    def move(self, at: int, text: bytes) -> None:
         level = self.levels[-1]
         answer = read_san(level.here.pos, text)
-        if answer[0]:
-            raise GameFault(at, answer[0])
+        if isinstance(answer, str):
+            raise GameFault(at, answer)
         if self.count == MOST_POSITIONS:
             raise GameFault(at, "too many positions")
         self.count += 1
-        node = Node(level.here, answer[1], answer[2])
+        node = Node(level.here, *answer)
         level.here.children.append(node)
         node.comments, node.nags = level.comments, level.nags
         level.comments, level.nags = [], []
         level.here = level.last = node
 
-    def end(self, at):
+    def end(self, at: int) -> Game:
         if self.part_of_tag is not None:
             raise GameFault(at, "bad tag")
         if len(self.levels) > 1:
             raise GameFault(at, "unclosed variation")
-        return make_game(self.tags, self.result or MARKERS.get(self.tags.get(b"Result"), "Open"), self.root)
+        said = MARKERS.get(self.tags.get(b"Result", b""), "Open")
+        return make_game(self.tags, said if self.result is None else self.result, self.root)
 
 
-def read_game(archive, span):
+def read_game(archive: bytes, span: Span) -> Game | Fault:
     """('fault', byte, reason) or a Game"""
     start, end, tokens = span
     if end - start > MOST_BYTES:
@@ -316,10 +337,8 @@ def read_game(archive, span):
         return ("fault", fault.byte, fault.reason)
 
 
-def make_game(tags, result, root):
-    g = Game()
-    g.tags, g.result, g.root = tags, result, root
-    g.nodes = []
+def make_game(tags: dict[bytes, bytes], result: str, root: Node) -> Game:
+    g = Game(tags, result, root)
     st = [root]
     while st:
         x = st.pop()
@@ -341,16 +360,16 @@ def make_game(tags, result, root):
 SEVEN_TAGS = [b"Event", b"Site", b"Date", b"Round", b"White", b"Black", b"Result"]
 
 
-def export(g, extra=None):
+def export(g: Game, extra: Mapping[int, Sequence[bytes]] | None = None) -> bytes:
     """extra: node number -> list of texts added after its comments"""
-    extra = extra or {}
+    added = extra or {}
 
-    def comments(node):
-        return node.comments + [b" ".join(words(x)) for x in extra.get(node.no, []) if words(x)]
+    def comments(node: Node) -> list[bytes]:
+        return node.comments + [b" ".join(words(x)) for x in added.get(node.no, []) if words(x)]
 
     out = bytearray()
 
-    def tagline(n, v):
+    def tagline(n: bytes, v: bytes) -> None:
         out.extend(b"[" + n + b' "' + v.replace(b"\\", b"\\\\").replace(b'"', b'\\"') + b'"]\n')
 
     for n in SEVEN_TAGS:
@@ -364,16 +383,16 @@ def export(g, extra=None):
     for n in sorted(rest):
         tagline(n, rest[n])
     out.extend(b"\n")
-    ws = []
+    ws: list[bytes] = []
 
-    def put_comment(c):
+    def put_comment(c: bytes) -> None:
         w = c.split(b" ")
         w[0] = b"{" + w[0]
         w[-1] += b"}"
         ws.extend(w)
 
-    def put_move(node, due):
-        p = node.parent.pos
+    def put_move(node: Node, before: Node, due: bool) -> bool:
+        p = before.pos
         if p.side == 0:
             ws.append(b"%d." % p.number)
         elif due:
@@ -386,13 +405,13 @@ def export(g, extra=None):
             put_comment(c)
         return bool(node.nags or cs)
 
-    def line(node, due):
+    def line(node: Node, due: bool) -> None:
         while node.children:
             c = node.children[0]
-            due = put_move(c, due)
+            due = put_move(c, node, due)
             for v in node.children[1:]:
                 i = len(ws)
-                d = put_move(v, True)
+                d = put_move(v, node, True)
                 line(v, d)
                 ws[i] = b"(" + ws[i]
                 ws[-1] += b")"

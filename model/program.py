@@ -1,17 +1,23 @@
 """The whole program as functions: `eval` of a query over an archive, `many` of several, `check`, `explain` and `selfrun` of a query."""
 
+from __future__ import annotations
+
 import re
+from typing import Dict, Iterator, List, Sequence, Tuple, Union
 
-from explain import explain
-from maker import made
-from pgn import cut, export, read_game
-from query import QueryFault, fault_line, read_query
-from meaning import hits, keys
+from .explain import explain
+from .maker import made
+from .meaning import Search, hits, keys
+from .pgn import Fault, Game, Node, cut, export, read_game
+from .query import Query, QueryFault, fault_line, read_query
 
-_games = {}
+# An answer: its status, what is on standard output, and what is on standard error.
+Answer = Tuple[int, bytes, bytes]
+
+_games: Dict[bytes, List[Union[Game, Fault]]] = {}
 
 
-def games_of(b):
+def games_of(b: bytes) -> list[Game | Fault]:
     if b not in _games:
         if len(_games) > 50:
             _games.clear()
@@ -19,20 +25,21 @@ def games_of(b):
     return _games[b]
 
 
-def export_of(q, g, hs):
+def export_of(q: Query, g: Game, hs: list[Node]) -> bytes:
     texts = [q["match_text"]] + [f.args[0] for f in q["items"] if f.form == "comment"]
     return export(g, {n.no: texts for n in hs})
 
 
-def order_of(q, hs, s):
+def order_of(q: Query, hs: list[Node], s: Search) -> list[int]:
     """what a game is sorted by, the least first"""
     return [k if f.args[0] else -k for k, f in zip(keys(q, hs, s), [f for f in q["items"] if f.form == "sort"])]
 
 
-def parts(q, b, first=False):
+def parts(q: Query, b: bytes, first: bool = False) -> Iterator[tuple[int, bytes]]:
     """what is written, in its order, of all games or up to the first that matches: (1, a game) and (2, a line of the report); what is
     sorted comes when all games are read"""
-    found, number, refused = [], 0, 0
+    found: list[tuple[list[int], int, bytes]] = []
+    number, refused = 0, 0
     for number, g in enumerate(games_of(b), 1):
         if isinstance(g, tuple):
             refused += 1
@@ -51,13 +58,12 @@ def parts(q, b, first=False):
     yield 2, b"games %d matched %d refused %d\n" % (number, len(found), refused)
 
 
-def status_of(written):
+def status_of(written: Sequence[tuple[int, bytes]]) -> int:
     """the status of an answer in parts: whether a game is faulty"""
     return int(sum(stream == 2 for stream, _ in written) > 1)
 
 
-def answer(q, b, first=False):
-    """(status, out, err)"""
+def answer(q: Query, b: bytes, first: bool = False) -> Answer:
     written = list(parts(q, b, first))
     out, err = (b"".join(text for stream, text in written if stream == wanted) for wanted in (1, 2))
     return (status_of(written), out, err)
@@ -66,8 +72,7 @@ def answer(q, b, first=False):
 USAGE = b"usage: cqlpgn MODE QUERY [ARCHIVE] [--workers N] [--seed S] [--games G] [--limit B] [--first]\n"
 
 
-def run_eval(text, b, first=False):
-    """(status, out, err)"""
+def run_eval(text: bytes, b: bytes, first: bool = False) -> Answer:
     try:
         q = read_query(text)
     except QueryFault as f:
@@ -78,12 +83,12 @@ def run_eval(text, b, first=False):
 MOST_BYTES, MOST_QUERIES = 1 << 20, 16
 
 
-def pieces_of(text):
+def pieces_of(text: bytes) -> list[bytes]:
     """the queries of a file, which is cut at each line that is exactly `%%`; that line and its end belong to none"""
     return re.split(rb"^%%(?:\n|\Z)", text, flags=re.M)
 
 
-def joined(answers):
+def joined(answers: Sequence[Answer]) -> Answer:
     """what `many` answers, of the answers to each query alone"""
     outs = [b"query %d bytes %d\n" % (number, len(out)) + out for number, (_, out, _) in enumerate(answers, 1)]
     *faults, _ = answers[0][2].splitlines(keepends=True)
@@ -91,8 +96,8 @@ def joined(answers):
     return (answers[0][0], b"".join(outs), b"".join(faults + counts))
 
 
-def run_many(text, b):
-    """(status, out, err) of the queries of a file over one archive"""
+def run_many(text: bytes, b: bytes) -> Answer:
+    """the queries of a file over one archive"""
     if len(text) > MOST_BYTES:
         return (2, b"", b"queries too long\n")
     pieces = pieces_of(text)
@@ -107,7 +112,7 @@ def run_many(text, b):
     return joined([answer(q, b) for q in queries])
 
 
-def run_check(text):
+def run_check(text: bytes) -> Answer:
     try:
         read_query(text)
     except QueryFault as f:
@@ -115,7 +120,7 @@ def run_check(text):
     return (0, b"ok\n", b"")
 
 
-def run_explain(text):
+def run_explain(text: bytes) -> Answer:
     try:
         q = read_query(text)
     except QueryFault as f:
@@ -123,7 +128,7 @@ def run_explain(text):
     return (0, explain(q), b"")
 
 
-def run_selfrun(text, seed=1, games=100):
+def run_selfrun(text: bytes, seed: int = 1, games: int = 100) -> Answer:
     try:
         q = read_query(text)
     except QueryFault as f:

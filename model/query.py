@@ -1,13 +1,22 @@
 """The query language: tokens, grammar, kinds, names and limits, each with its first fault."""
 
+from __future__ import annotations
+
 import re
 import sys
+from typing import Any, Callable, FrozenSet, Iterable, Iterator, NoReturn, Optional, Tuple, TypedDict, Union
 
-from chess import MEN
-from pgn import ASCII_LETTERS, DIGITS, MARKERS, WHITE_SPACE
+from .chess import MEN
+from .pgn import ASCII_LETTERS, DIGITS, MARKERS, WHITE_SPACE
 
 # The parser enters a dozen functions for each open construct.
 sys.setrecursionlimit(20000)
+
+# A token: where it begins, its kind and its value. A designator: men, squares, whether its rows and its columns are whole.
+Token = Tuple[int, str, Any]
+Designator = Tuple[int, int, bool, bool]
+# A part of a line: a filter or parts in brackets, and how often it may stand.
+Constituent = Tuple[Tuple[str, Any], Tuple[Any, ...]]
 
 # Tokens.
 ROWS = [
@@ -39,23 +48,23 @@ MAN_LETTERS = b"KQRBNPkqrbnpAa_."
 
 
 class QueryFault(Exception):
-    def __init__(self, byte, reason, *names):
+    def __init__(self, byte: int, reason: str, *names: Union[bytes, str, None]) -> None:
         self.byte, self.reason, self.names = byte, reason, names
 
 
-def fault_line(f):
+def fault_line(f: QueryFault) -> bytes:
     r = f.reason.encode()
     for n in f.names:
-        r = r.replace(b"%s", n if isinstance(n, bytes) else n.encode(), 1)
+        r = r.replace(b"%s", n if isinstance(n, bytes) else str(n).encode(), 1)
     return b"query byte %d: %s\n" % (f.byte, r)
 
 
-def mask_of(ms):
+def mask_of(ms: Iterable[int]) -> int:
     return sum(1 << m for m in set(ms))
 
 
-def men_of(t):
-    out = set()
+def men_of(t: bytes) -> int:
+    out: set[int] = set()
     for c in t:
         letter = chr(c)
         if letter in MEN:
@@ -71,10 +80,11 @@ def men_of(t):
     return mask_of(out)
 
 
-def squares_mask(t):
+def squares_mask(t: bytes) -> int:
     m = 0
     for spec in t.strip(b"[]").split(b","):
         x = re.fullmatch(rb"([a-h])(?:-([a-h]))?([1-8])(?:-([1-8]))?", spec)
+        assert x is not None
         f1, f2 = x.group(1)[0] - 97, (x.group(2) or x.group(1))[0] - 97
         r1, r2 = x.group(3)[0] - 49, (x.group(4) or x.group(3))[0] - 49
         for f in range(min(f1, f2), max(f1, f2) + 1):
@@ -83,14 +93,14 @@ def squares_mask(t):
     return m
 
 
-def longest_squares(b, i):
+def longest_squares(b: bytes, i: int) -> int | None:
     if i < len(b) and b[i] == 91:
         j = i + 1
         # a list: every item is one whole specification, so try all ends of each (a set of places)
         ends = set(spec_ends(b, j))
-        close = None
+        close: int | None = None
         while ends:
-            nxt = set()
+            nxt: set[int] = set()
             for e in ends:
                 if b[e : e + 1] == b"]":
                     close = max(close or 0, e + 1)
@@ -101,20 +111,19 @@ def longest_squares(b, i):
     return max(spec_ends(b, i), default=None)
 
 
-def spec_ends(b, i):
+def spec_ends(b: bytes, i: int) -> list[int]:
     return [
         x.end()
         for x in (
-            re.compile(p).match(b, i)
-            for p in (rb"[a-h][1-8]", rb"[a-h]-[a-h][1-8]", rb"[a-h][1-8]-[1-8]", rb"[a-h]-[a-h][1-8]-[1-8]")
+            re.compile(p).match(b, i) for p in (rb"[a-h][1-8]", rb"[a-h]-[a-h][1-8]", rb"[a-h][1-8]-[1-8]", rb"[a-h]-[a-h][1-8]-[1-8]")
         )
         if x
     ]
 
 
-def longest_designator(b, i):
+def longest_designator(b: bytes, i: int) -> tuple[int, bytes | None, bytes | None] | None:
     """(end, men text or None, squares text or None) of the longest designator at i, or None"""
-    cands = []
+    cands: list[tuple[int, bytes | None, bytes | None]] = []
     e = longest_squares(b, i)
     if e is not None:
         cands.append((e, None, bytes(b[i:e])))
@@ -132,7 +141,7 @@ def longest_designator(b, i):
     return max(cands, key=lambda c: c[0]) if cands else None
 
 
-def designator(men, sqs):
+def designator(men: bytes | None, sqs: bytes | None) -> Designator:
     mm = men_of(b".") if men is None else men_of(men.strip(b"[]"))
     sm = (1 << 64) - 1 if sqs is None else squares_mask(sqs)
     rows = [(sm >> (8 * r)) & 255 for r in range(8)]
@@ -140,14 +149,14 @@ def designator(men, sqs):
     return (mm, sm, all(r in (0, 255) for r in rows), all(c in (0, 8) for c in cols))
 
 
-def query_tokens(b):
+def query_tokens(b: bytes) -> list[Token]:
     """list of (at, kind, value)"""
     if len(b) > 65536:
         raise QueryFault(65536, "query too long")
-    out = []
+    out: list[Token] = []
     i = 0
     n = len(b)
-    prev = None
+    prev: Any = None
     while i < n:
         c = b[i]
         if c in WHITE_SPACE:
@@ -157,16 +166,16 @@ def query_tokens(b):
             j = b.find(b"\n", i)
             i = n if j < 0 else j
             continue
-        tok = None
+        tok: tuple[str, Any] | None = None
         if prev in ("input", "output") and 0x21 <= c and c not in b'()"':
             j = i
             while j < n and b[j] >= 0x21 and b[j] not in b'()"':
                 j += 1
             tok = ("FileName", bytes(b[i:j]))
         elif prev == "result" and any(b.startswith(x, i) for x in (b"1/2-1/2", b"1-0", b"0-1", b"*")):
-            x = [x for x in (b"1/2-1/2", b"1-0", b"0-1", b"*") if b.startswith(x, i)][0]
-            j = i + len(x)
-            tok = ("Outcome", MARKERS[x])
+            marker = [x for x in (b"1/2-1/2", b"1-0", b"0-1", b"*") if b.startswith(x, i)][0]
+            j = i + len(marker)
+            tok = ("Outcome", MARKERS[marker])
         elif c == 34:
             j = b.find(b'"', i + 1)
             if j < 0:
@@ -177,10 +186,10 @@ def query_tokens(b):
             j = i
             while j < n and b[j] in DIGITS:
                 j += 1
-            d = bytes(b[i:j]).lstrip(b"0") or b"0"
-            if len(d) > 9:
+            digits = bytes(b[i:j]).lstrip(b"0") or b"0"
+            if len(digits) > 9:
                 raise QueryFault(i, "number too large")
-            tok = ("Number", int(d))
+            tok = ("Number", int(digits))
         elif c in ASCII_LETTERS or c in b"_.[":
             j = i
             while j < n and (b[j] in ASCII_LETTERS or b[j] in DIGITS or b[j] == 95):
@@ -200,7 +209,7 @@ def query_tokens(b):
                     break
         if tok is None:
             raise QueryFault(i, "bad byte")
-        out.append((i,) + tok)
+        out.append((i, tok[0], tok[1]))
         prev = tok[1] if tok[0] == "Word" else None
         i = j
     out.append((n, "End", None))
@@ -211,28 +220,38 @@ def query_tokens(b):
 class Filter:
     """a filter: place, form, arguments"""
 
-    def __init__(self, at, form, *a):
-        self.at, self.form, self.args = at, form, list(a)
-        self.names = None
+    def __init__(self, at: int, form: str, *a: Any) -> None:
+        self.at, self.form = at, form
+        self.args: list[Any] = list(a)
+        self.names: set[str] | None = None
+
+
+class Query(TypedDict):
+    """a query: whether variations are searched, where the text of a match begins and what it is, and the items"""
+
+    variations: bool
+    match_at: int
+    match_text: bytes
+    items: list[Filter]
 
 
 class Parser:
-    def __init__(self, tokens, limit=64):
+    def __init__(self, tokens: list[Token], limit: int = 64) -> None:
         self.tokens, self.index, self.depth, self.limit = tokens, 0, 0, limit
 
-    def kind(self):
+    def kind(self) -> str:
         return self.tokens[self.index][1]
 
-    def is_(self, kind, *vals):
+    def is_(self, kind: str, *vals: Any) -> bool:
         return self.kind() == kind and (not vals or self.tokens[self.index][2] in vals)
 
-    def word(self, *v):
+    def word(self, *v: str) -> bool:
         return self.is_("Word", *v)
 
-    def mark(self, *v):
+    def mark(self, *v: str) -> bool:
         return self.is_("Mark", *v)
 
-    def bad(self):
+    def bad(self) -> NoReturn:
         at, k, v = self.tokens[self.index]
         if k == "End":
             raise QueryFault(at, "unexpected end")
@@ -240,13 +259,13 @@ class Parser:
             raise QueryFault(at, "outside profile %s", v)
         raise QueryFault(at, "unexpected token")
 
-    def take(self, kind, *vals):
+    def take(self, kind: str, *vals: str) -> Any:
         if not self.is_(kind, *vals):
             self.bad()
         self.index += 1
         return self.tokens[self.index - 1][2]
 
-    def open(self, kind, *vals):
+    def open(self, kind: str, *vals: str) -> Any:
         if not self.is_(kind, *vals):
             self.bad()
         if self.depth == self.limit:
@@ -255,11 +274,11 @@ class Parser:
         self.index += 1
         return self.tokens[self.index - 1][2]
 
-    def close(self):
+    def close(self) -> None:
         self.depth -= 1
 
-    def query(self):
-        q = {"variations": False, "match_at": 0, "match_text": b"CQL"}
+    def query(self) -> Query:
+        q: Query = {"variations": False, "match_at": 0, "match_text": b"CQL", "items": []}
         self.take("Word", "cql")
         self.take("Mark", "(")
         while True:
@@ -286,7 +305,7 @@ class Parser:
         self.take("End")
         return q
 
-    def begins(self):
+    def begins(self) -> bool:
         return (
             self.kind() in ("Squares", "Number", "Name")
             or self.mark("~", "#", "(", "{")
@@ -314,11 +333,11 @@ class Parser:
                 "power",
                 *FAMILIES,
                 *DIRECTIONS,
-                *PLAIN_WORDS
+                *PLAIN_WORDS,
             )
         )
 
-    def chain(self, form, part, istok):
+    def chain(self, form: str, part: Callable[[], Filter], istok: Callable[[], bool]) -> Filter:
         at = self.tokens[self.index][0]
         xs = [part()]
         while istok():
@@ -326,13 +345,13 @@ class Parser:
             xs.append(part())
         return xs[0] if len(xs) == 1 else Filter(at, form, xs)
 
-    def or_(self):
+    def or_(self) -> Filter:
         return self.chain("or", self.and_, lambda: self.word("or"))
 
-    def and_(self):
+    def and_(self) -> Filter:
         return self.chain("and", self.pre, lambda: self.word("and"))
 
-    def pre(self):
+    def pre(self) -> Filter:
         at = self.tokens[self.index][0]
         if self.word("not", "find", "child", "parent"):
             w = self.open("Word")
@@ -371,7 +390,7 @@ class Parser:
         if self.word("line"):
             self.open("Word")
             primary = False
-            ext = None
+            ext: list[int] | None = None
             if self.word("primary"):
                 self.index += 1
                 primary = True
@@ -390,7 +409,7 @@ class Parser:
             return Filter(at, "line", arrow == "<--", primary, ext, parts)
         if self.word("move"):
             self.open("Word")
-            ps = []
+            ps: list[Filter | None] = []
             for w in ("from", "to", "capture", "promote"):
                 if self.word(w):
                     self.index += 1
@@ -411,7 +430,7 @@ class Parser:
             return Filter(at, "sort", mn, t, f)
         return self.comparison()
 
-    def constituent(self, arrow):
+    def constituent(self, arrow: str) -> Constituent:
         if self.mark("("):
             self.open("Mark")
             ps = [self.constituent(arrow)]
@@ -420,10 +439,10 @@ class Parser:
                 ps.append(self.constituent(arrow))
             self.take("Mark", ")")
             self.close()
-            body = ("group", ps)
+            body: tuple[str, Any] = ("group", ps)
         else:
             body = ("atom", self.primary())
-        m = ("once",)
+        m: tuple[Any, ...] = ("once",)
         if self.mark("*", "+", "?"):
             m = (self.take("Mark"),)
         elif self.mark("{"):
@@ -436,7 +455,7 @@ class Parser:
             m = ("times", a, b)
         return (body, m)
 
-    def comparison(self):
+    def comparison(self) -> Filter:
         at = self.tokens[self.index][0]
         a = self.sum()
         if self.mark("<", "<=", "==", ">=", ">"):
@@ -444,7 +463,7 @@ class Parser:
             return Filter(at, o, a, self.sum())
         return a
 
-    def sum(self):
+    def sum(self) -> Filter:
         at = self.tokens[self.index][0]
         xs = [(False, self.product())]
         while self.mark("+", "-"):
@@ -452,16 +471,16 @@ class Parser:
             xs.append((m == "-", self.product()))
         return xs[0][1] if len(xs) == 1 else Filter(at, "sum", xs)
 
-    def product(self):
+    def product(self) -> Filter:
         return self.chain("product", self.union, lambda: self.mark("*"))
 
-    def union(self):
+    def union(self) -> Filter:
         return self.chain("union", self.inter, lambda: self.mark("|"))
 
-    def inter(self):
+    def inter(self) -> Filter:
         return self.chain("intersection", self.pair, lambda: self.mark("&"))
 
-    def pair(self):
+    def pair(self) -> Filter:
         at = self.tokens[self.index][0]
         a = self.unary()
         if self.word("attacks", "attackedby"):
@@ -469,7 +488,7 @@ class Parser:
             return Filter(at, w, a, self.unary())
         return a
 
-    def unary(self):
+    def unary(self) -> Filter:
         at = self.tokens[self.index][0]
         if self.mark("~", "#") or self.word("power", "light", "dark"):
             w = self.open(self.kind())
@@ -490,7 +509,7 @@ class Parser:
             return f
         return self.primary()
 
-    def primary(self):
+    def primary(self) -> Filter:
         at, k, v = self.tokens[self.index]
         if k in ("Squares", "Number", "Name"):
             self.index += 1
@@ -546,7 +565,7 @@ class Parser:
         self.bad()
 
 
-def parse(tokens):
+def parse(tokens: list[Token]) -> Query:
     return Parser(tokens).query()
 
 
@@ -567,7 +586,7 @@ SET_FORMS = {
 NUMBER_FORMS = {"number", "elo", "#", "power", "sum", "product", "max", "min", "line"}
 
 
-def kind_of(f):
+def kind_of(f: Filter) -> str:
     if f.form == "family":
         return kind_of(f.args[1])
     if f.form in SET_FORMS:
@@ -577,7 +596,7 @@ def kind_of(f):
     return "position"
 
 
-def atoms_of(parts):
+def atoms_of(parts: list[Constituent]) -> Iterator[Filter]:
     for body, m in parts:
         if body[0] == "atom":
             yield body[1]
@@ -585,7 +604,7 @@ def atoms_of(parts):
             yield from atoms_of(body[1])
 
 
-def parts_of(f):
+def parts_of(f: Filter) -> list[tuple[Filter, str | None, str | None]]:
     """(part, wanted kind or None, name bound there or None)"""
     k, a = f.form, f.args
     if k in ("~", "light", "dark", "#", "power"):
@@ -621,20 +640,25 @@ def parts_of(f):
     return []
 
 
-def names_in(f):
+def names_in(f: Filter) -> set[str]:
     """the names in a filter that stand for a square of a filter around it"""
     if f.names is None:
         f.names = {f.args[0]} if f.form == "name" else set()
         for part, _, bound in parts_of(f):
-            f.names |= names_in(part) - {bound}
+            f.names |= {name for name in names_in(part) if name != bound}
     return f.names
 
 
-def preorder(q):
-    """(filter, wanted kind, names bound, squares around, top, number of the sort item)"""
-    out = []
+# What is met on the way through a query: a filter, the kind that is wanted, names bound, squares around, whether it is at the top, and the
+# number of the sort item.
+Met = Tuple[Filter, Optional[str], FrozenSet[str], int, bool, int]
 
-    def walk(f, want, names, sq, top, nsort):
+
+def preorder(q: Query) -> list[Met]:
+    """(filter, wanted kind, names bound, squares around, top, number of the sort item)"""
+    out: list[Met] = []
+
+    def walk(f: Filter, want: str | None, names: FrozenSet[str], sq: int, top: bool, nsort: int) -> None:
         out.append((f, want, names, sq, top, nsort))
         for p, w, nm in parts_of(f):
             walk(p, w, names | {nm} if nm is not None else names, sq + (f.form == "square"), False, 0)
@@ -647,26 +671,26 @@ def preorder(q):
     return out
 
 
-def places(parts):
+def places(parts: list[Constituent]) -> int:
     t = 0
     for body, m in parts:
-        p = 1 if body[0] == "atom" else places(body[1])
+        p: int = 1 if body[0] == "atom" else places(body[1])
         if m[0] == "times":
             p = p * m[2] if m[2] else p
         t += p
     return t
 
 
-def size(fam):
+def size(fam: str) -> int:
     return {"flip": 8, "rotate90": 4, "shift": 225, "shifthorizontal": 15, "shiftvertical": 15}.get(fam, 2)
 
 
-def weight(f):
+def weight(f: Filter) -> int:
     w = sum(weight(p) for p, _, _ in parts_of(f))
     return 1 + (size(f.args[0]) * w if f.form == "family" else w)
 
 
-def check(q):
+def check(q: Query) -> Query:
     if b"}" in q["match_text"]:
         raise QueryFault(q["match_at"], "text holds brace")
     pre = preorder(q)
@@ -696,5 +720,5 @@ def check(q):
     return q
 
 
-def read_query(b):
+def read_query(b: bytes) -> Query:
     return check(parse(query_tokens(b)))

@@ -1,0 +1,1 @@
+"""The program cqlpgn, as a process beside the model."""

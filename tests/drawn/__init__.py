@@ -1,0 +1,1 @@
+"""Inputs that are drawn at random, by programs beside the model."""

@@ -1,0 +1,1 @@
+"""The Python package: its commands as processes, and the desk."""

@@ -1,0 +1,1 @@
+"""What the pages show, beside the programs and the cases."""

@@ -1,0 +1,1 @@
+"""The program pgnjson, as a process beside the model."""

@@ -1,0 +1,1 @@
+"""The program pgnpieces, as a process beside the model."""

@@ -1,0 +1,1 @@
+"""The scripts of the gate and of those who change the crates."""
