@@ -1,4 +1,4 @@
-"""The checks of re-exports and of comments, on small texts; and on the crates, once `OF_THIS_TREE` is true."""
+"""The checks of re-exports and of comments, on small texts and on the crates."""
 
 from __future__ import annotations
 
@@ -10,9 +10,7 @@ from tests.cases import TOP
 from tests.pages.crates import PAGE, crates_below
 from tests.pages.reading import source
 
-# Whether the crates of this repository are asked, too.
-OF_THIS_TREE = False
-OWN = {"cq_bits", "cq_slides", "cq_run", "cq_answers"}
+OWN = {"cq_bits", "cq_slides", "cq_run", "cq_search"}
 LIST = "| Crate | Re-exports | Of |\n|---|---|---|\n| `cq_bits` | `slide`, `BitSet64` | `cq_square_sets` |\n"
 
 
@@ -46,8 +44,8 @@ def test_what_crates_hand_on(tmp_path: Path) -> None:
             ["cq_bits hands on more, and the page doesn't say so"],
         ),
         (
-            {"cq_bits": {"cq_slides::slide", "cq_slides::BitSet64"}, "cq_answers": {"cq_run::it"}},
-            ["cq_answers hands on it", "cq_answers hands on it, and the page doesn't say so"],
+            {"cq_bits": {"cq_slides::slide", "cq_slides::BitSet64"}, "cq_search": {"cq_run::it"}},
+            ["cq_search hands on it", "cq_search hands on it, and the page doesn't say so"],
         ),
     ],
 )
@@ -95,10 +93,9 @@ def test_one_line_in_fifty(lines: int, is_wrong: bool) -> None:
     assert bool(checks.wrong_comments(found)) == is_wrong
 
 
-if OF_THIS_TREE:
+def test_the_re_exports_of_this_tree() -> None:
+    assert checks.wrong_re_exports(source(PAGE), checks.re_exports(TOP, set(crates_below()))) == []
 
-    def test_the_re_exports_of_this_tree() -> None:
-        assert checks.wrong_re_exports(source(PAGE), checks.re_exports(TOP, set(crates_below()))) == []
 
-    def test_the_comments_of_this_tree() -> None:
-        assert checks.wrong_comments(checks.comments(TOP)) == []
+def test_the_comments_of_this_tree() -> None:
+    assert checks.wrong_comments(checks.comments(TOP)) == []

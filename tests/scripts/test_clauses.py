@@ -13,8 +13,8 @@ from tests.scripts.loading import SCRIPTS, loaded
 CLAUSES = loaded("clauses")
 NAMES = """
 # crates, a type, a definition, and a type that two crates have
-cq_sets cq_square_sets
-cql_same cql_rewrite
+cq_masks cq_square_sets
+cql_equal cql_rewrite
 Crew RunContext
 IsHit IsMatch
 Asked Matcher
@@ -26,12 +26,12 @@ Taker::take visit
 @pytest.mark.parametrize(
     ("text", "wanted"),
     [
-        ("cq_sets::mark(a)", "cq_square_sets::mark(a)"),
+        ("cq_masks::mark(a)", "cq_square_sets::mark(a)"),
         ("ensures { IsHit(a, b) }", "ensures { IsMatch(a, b) }"),
         ("IsHits(a) is_hit my_cq_sets", "IsHits(a) is_hit my_cq_sets"),
         ("cq_first::Asked and cql_eval::Asked", "cq_first::LookTarget and cql_eval::Matcher"),
         ("Asked::new(crew)", "Matcher::new(crew)"),
-        ("cql_same::Crew::Asked", "cql_rewrite::RunContext::Matcher"),
+        ("cql_equal::Crew::Asked", "cql_rewrite::RunContext::Matcher"),
         ("cq_run::Taker::take", "cq_run::Taker::visit"),
         ("take(a)", "take(a)"),
     ],
