@@ -61,6 +61,11 @@ def path_of(variable: str, name: str) -> str:
     return os.path.abspath(os.environ.get(variable) or TOP / "crates" / name / "out" / name)
 
 
+# Commands that are run as processes find the programs there, too.
+for _name in ("cqlpgn", "pgnpieces", "pgnjson"):
+    os.environ[_name.upper()] = path_of(_name.upper(), _name)
+
+
 def program(variable: str, name: str) -> str:
     """The path of a program; the test is skipped where it is not there."""
     path = path_of(variable, name)
