@@ -7,7 +7,7 @@ pub returns-in-Ok : goal.returns-in-Ok
 returns-in-Ok g c =
     let view = desk_view g.D.Desk.told g.D.Source.left g.D.Source.faults g.D.Desk.open_faults in
     archive_answered (view c.open.new.self).file
-    (opened_of c.args.archive.now (view c.args.desk.now) (view c.open.new.self) (view c.answer_many_with.new.source) c.in-Ok.ensures.opened c.in-Ok.ensures.reads
-    (c.in-Ok.ensures.same (λ e. absurd cc)) (g.met.D.Desk.keeps_told c.open.new.self c.answer_many_with.new.source c.answer_many_with.ensures.next)
-    (g.met.D.Desk.keeps_open_faults c.open.new.self c.answer_many_with.new.source c.answer_many_with.ensures.next))
-    c.answer_many_with.ensures.answers
+    (opened_of c.args.archive.now (view c.args.desk.now) (view c.open.new.self) (view c.search_archive_many.new.source) c.in-Ok.ensures.opened c.in-Ok.ensures.reads
+    (c.in-Ok.ensures.same (λ e. absurd cc)) (g.met.D.Desk.keeps_told c.open.new.self c.search_archive_many.new.source c.search_archive_many.ensures.next)
+    (g.met.D.Desk.keeps_open_faults c.open.new.self c.search_archive_many.new.source c.search_archive_many.ensures.next))
+    c.search_archive_many.ensures.answers

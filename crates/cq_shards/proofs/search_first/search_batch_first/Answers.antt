@@ -7,11 +7,11 @@ use Rattle.cq_shards.specs.Internal.WorkerAnswers.{size}
 use Rattle.cq_shards.proofs.FinderAnswers.{are_found, begins, seats_are}
 use Rattle.cq_shards.proofs.search_first.search_batch_first.Goals as goal
 
-pub run_crew-requires-clause-games : goal.run_crew-requires-clause-games
-run_crew-requires-clause-games g c = λ lifetimes live. let few = c.args.batch.now.few in let e : length (games_of c.args.batch.now) ≤ 2 ^ 32 = omega (arith, few) in e
+pub run_workers-requires-clause-games : goal.run_workers-requires-clause-games
+run_workers-requires-clause-games g c = λ lifetimes live. let few = c.args.batch.now.few in let e : length (games_of c.args.batch.now) ≤ 2 ^ 32 = omega (arith, few) in e
 
-pub run_crew-requires-clause-nothing : goal.run_crew-requires-clause-nothing
-run_crew-requires-clause-nothing g c = λ lifetimes live.
+pub run_workers-requires-clause-nothing : goal.run_workers-requires-clause-nothing
+run_workers-requires-clause-nothing g c = λ lifetimes live.
     let query = g.A.Matcher.query c.args.matcher.now in
     let below : board_games c.in_ok-first.first ≡ size c.args.batch.now = search rules in
     All-weaker (IsUnusedSeat c.in_ok-first.first) (λ seat. HasSearched c.in_ok-first.first query c.args.batch.now seat [] [])

@@ -6,11 +6,11 @@ use Rattle.cq_shards.specs.Internal.GameRows.{IsRowFor, row_index}
 use Rattle.cq_shards.proofs.Makings.{are_rows}
 use Rattle.cq_shards.proofs.search_many.search_batch_many.Goals as goal
 
-pub run_crew-requires-clause-games : goal.run_crew-requires-clause-games
-run_crew-requires-clause-games g c = λ lifetimes live. let few = c.args.batch.now.few in let e : length (games_of c.args.batch.now) ≤ 2 ^ 32 = omega (arith, few) in e
+pub run_workers-requires-clause-games : goal.run_workers-requires-clause-games
+run_workers-requires-clause-games g c = λ lifetimes live. let few = c.args.batch.now.few in let e : length (games_of c.args.batch.now) ≤ 2 ^ 32 = omega (arith, few) in e
 
-pub run_crew-requires-clause-nothing : goal.run_crew-requires-clause-nothing
-run_crew-requires-clause-nothing g c = λ lifetimes live k d less.
+pub run_workers-requires-clause-nothing : goal.run_workers-requires-clause-nothing
+run_workers-requires-clause-nothing g c = λ lifetimes live k d less.
     let batch = c.args.batch.now in begins (IsRowFor (g.A.MultiMatcher.queries c.args.matcher.now) batch) row_index (number_of batch) (size batch)
 
 pub by_query-requires : goal.by_query-requires

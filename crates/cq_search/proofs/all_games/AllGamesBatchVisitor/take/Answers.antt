@@ -9,7 +9,7 @@ use Rattle.cq_search.specs.Internal.Visits.{StopsIn, task_of}
 use Rattle.cq_search.specs.Internal.Writing.{FoundSoFar, search_state}
 use Rattle.cq_search.proofs.Known.{reading_on}
 use Rattle.cq_search.proofs.OneBatch.{FoundIn, StoppedIn, found_now, one_answers, one_few, one_wants, one_within}
-use Rattle.cq_search.proofs.all_games.AllGamesTaker.take.Goals as goal
+use Rattle.cq_search.proofs.all_games.AllGamesBatchVisitor.take.Goals as goal
 
 pub returns-in_default : goal.returns-in_default
 returns-in_default g c = λ was games taken index.

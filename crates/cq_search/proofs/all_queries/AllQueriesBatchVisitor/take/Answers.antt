@@ -14,7 +14,7 @@ use Rattle.cq_search.proofs.Known.{reading_on}
 use Rattle.cq_search.proofs.ManyBatch.{FoundInAll, NextBatch, answered, follows, found_now_by_all, many_few, many_wants, tally_few}
 use Rattle.cq_search.proofs.ManyEnds.{kept_long}
 use Rattle.cq_search.proofs.Rows.{many_counted}
-use Rattle.cq_search.proofs.all_queries.AllQueriesTaker.take.Goals as goal
+use Rattle.cq_search.proofs.all_queries.AllQueriesBatchVisitor.take.Goals as goal
 
 pub returns-in_default : goal.returns-in_default
 returns-in_default g c = λ was games taken index.

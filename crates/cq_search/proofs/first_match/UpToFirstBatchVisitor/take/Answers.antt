@@ -9,7 +9,7 @@ use Rattle.cq_search.specs.Internal.Writing.{search_state}
 use Rattle.cq_queries.specs.declared.status.Status.TheVariants.{NoMemory, WriteFault}
 use Rattle.cq_search.proofs.FirstBatch.{NextBatch, NoneIn, batch_up_to, first_answers, first_few, first_halts, first_matches, first_on, first_wants, first_within, none_now}
 use Rattle.cq_queries.proofs.Sinks.{with_err}
-use Rattle.cq_search.proofs.first_match.UpToFirstTaker.take.Goals as goal
+use Rattle.cq_search.proofs.first_match.UpToFirstBatchVisitor.take.Goals as goal
 
 pub returns-in_default : goal.returns-in_default
 returns-in_default g c = λ was games taken index.

@@ -3,7 +3,7 @@ use Rattle.pgn_batches.specs.Games.{games_of}
 use Rattle.pgn_json.specs.Internal.Texts.{AnswersBatch, HasTaken}
 use Rattle.pgn_json.specs.Writing.{sinks_of}
 use Rattle.pgn_json.proofs.Writings.{turned}
-use Rattle.pgn_json.proofs.game_writer.GameWriterTaker.take.Goals as goal
+use Rattle.pgn_json.proofs.game_writer.GameWriterBatchVisitor.take.Goals as goal
 
 pub write_batch-requires : goal.write_batch-requires
 write_batch-requires g c =
