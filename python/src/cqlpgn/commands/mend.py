@@ -69,7 +69,7 @@ class Telling:
             self._row([*place, said.kind, text_of(told.old), text_of(said.new), said.reason])
             self._line(told, f"`{text_of(told.old)}` is now `{text_of(said.new)}` ({said.kind}; {said.reason})")
         else:
-            hint = game_hints.hint(said.reason, told.old.decode("utf-8", "surrogateescape"))
+            hint = game_hints.hint(said.reason, told.old)
             why = f"{said.reason}: {hint}" if hint else said.reason
             self._row([*place, "left", text_of(told.old), "", f"{why}; {said.why}"])
             self._line(told, f"{why}; it is left, since {said.why}")

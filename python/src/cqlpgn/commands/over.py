@@ -17,12 +17,12 @@ from dataclasses import dataclass, field
 from itertools import islice
 from typing import IO, BinaryIO
 
-from .. import archives, origins, process, query
+from .. import archives, game_hints, origins, places, process, query
 from ..archives import Archive
 from ..errors import Error, Stopped
 from ..files import STANDARD_INPUT, Replacing, refuse_inputs, shown, standard_output
 from ..process import Counts, Process
-from . import checks
+from . import checks, doubtful
 from .ends import run, tell
 from .split import split
 from .words import Parser
@@ -87,7 +87,7 @@ def parser() -> argparse.ArgumentParser:
         "cqlpgn-over", "Asks one query, or a file of them, of several archives, packed or not, and says in words what went wrong.", EPILOG
     )
     made.usage = (
-        "cqlpgn-over [OPTION..] QUERY [ARCHIVE..]\n       cqlpgn-over [OPTION..] --many FILE [ARCHIVE..]\n       cqlpgn-over --check FILE.."
+        "cqlpgn-over [OPTION..] QUERY [ARCHIVE..]\n       cqlpgn-over [OPTION..] --many FILE [ARCHIVE..]\n       cqlpgn-over --check FILE..\n       cqlpgn-over --doubtful ARCHIVE.."
     )
     made.add_argument(
         "words",
@@ -138,6 +138,11 @@ def _add_others(made: argparse.ArgumentParser) -> None:
         action="store_true",
         help="each FILE with a query, or several, is checked; a fault is shown with line, column, caret and hint",
     )
+    made.add_argument(
+        "--doubtful",
+        action="store_true",
+        help="no query is asked: games that are read, and may mean something else than was meant, are told with their bytes",
+    )
     made.add_argument("--workers", metavar="N", help="is handed on to cqlpgn")
     made.add_argument("--limit", metavar="B", help="is handed on to cqlpgn")
 
@@ -146,7 +151,9 @@ def refuse_together(made: argparse.ArgumentParser, flags: argparse.Namespace) ->
     """Ends the process where options don't go together."""
     if flags.check and not flags.words:
         made.error("--check wants a file")
-    if not flags.check and flags.many is None and not flags.words:
+    if flags.doubtful and (flags.check or flags.many is not None or flags.out is not None):
+        made.error("--doubtful goes with none of --check, --many and -o")
+    if not flags.check and not flags.doubtful and flags.many is None and not flags.words:
         made.error("a query is wanted")
     if not 1 <= flags.jobs <= 64:
         made.error("-j takes 1 to 64")
@@ -201,6 +208,7 @@ def answered(archive: Archive | Error, job: Job, out: IO[bytes] | None, live: bo
 
 
 def _ask(archive: Archive, answer: Answer, job: Job, out: IO[bytes] | None, told: checks.Telling) -> None:
+    around = places.Around(archive)
     with origins.start(archive, job.words, job.query, out=out, progress=job.progress) as asked:
         job.running.add(asked)
         if job.stopping.is_set():
@@ -212,6 +220,8 @@ def _ask(archive: Archive, answer: Answer, job: Job, out: IO[bytes] | None, told
                 line = f"query {len(answer.counts)}: {line}" if job.mode == "many" else line
             if not job.quiet:
                 told(line, answer.name)
+                if isinstance(said, process.FaultyGame) and (hint := game_hints.hint(said.reason, around.onward(said.byte))):
+                    told(f"    {hint}", answer.name)
         answer.status = asked.finish()
         job.running.discard(asked)
     if words := process.in_words(answer.status):
@@ -437,6 +447,8 @@ def main(words: Sequence[str]) -> int:
     made = parser()
     flags = made.parse_intermixed_args(words)
     refuse_together(made, flags)
+    if flags.doubtful:
+        return doubtful.tell_all(flags.words)
     return checks.check_all(flags.words) if flags.check else ask(flags)
 
 

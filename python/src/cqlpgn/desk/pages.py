@@ -8,7 +8,7 @@ import secrets
 from collections.abc import Awaitable, Callable, Sequence
 from typing import Any, Protocol
 
-from .. import faults
+from .. import faults, game_hints
 from ..errors import Error, Fault
 from .folder import Folder, Refused
 from .found import Found, Room
@@ -291,8 +291,12 @@ class Page:
         return self.run.faults if self.run else []
 
     async def _at(self, words: Words) -> Any:
-        before, after = await asyncio.to_thread(self.shared.folder.around, words.text("archive"), max(0, words.number("byte")))
-        return [before.decode("utf-8", "backslashreplace"), after.decode("utf-8", "backslashreplace")]
+        name, byte = words.text("archive"), max(0, words.number("byte"))
+        before, after = await asyncio.to_thread(self.shared.folder.around, name, byte)
+        faults = self.run.faults if self.run else []
+        reason = next((fault["reason"] for fault in faults if (fault["archive"], fault["byte"]) == (name, byte)), "")
+        hint = game_hints.hint(reason, after) or ""
+        return [before.decode("utf-8", "backslashreplace"), after.decode("utf-8", "backslashreplace"), hint]
 
     async def _queries(self, _words: Words) -> Any:
         return await asyncio.to_thread(self.shared.folder.queries)

@@ -4,16 +4,16 @@ from __future__ import annotations
 
 import os
 import subprocess
-import tempfile
 from collections.abc import Callable, Container, Iterator
 from contextlib import ExitStack
 from dataclasses import dataclass
 from typing import IO, Protocol
 
+from .. import places
 from ..archives import BLOCK, Archive
 from ..errors import Error
 from ..files import STANDARD_INPUT, shown
-from ..process import FaultyGame, Process, executable, raise_for, read_line
+from ..process import FaultyGame, Process, raise_for, read_line
 from . import asking
 from .game import PARAGRAPH, Left, mended
 from .text import Change
@@ -22,7 +22,7 @@ from .text import Change
 NOTHING = b"cql() ply < 0"
 LONG = 1 << 22  # a piece that is longer is looked at no further
 MOST_TURNS = 1000  # how often an archive is read anew after a comment that was not closed
-SHOWN = 20  # bytes of a fault that is left
+SHOWN = 120  # bytes from a fault on that is left
 
 
 @dataclass(frozen=True)
@@ -69,7 +69,7 @@ class Mender:
 
     def run(self) -> Sums:
         """Writes the archive. Raises what reading and writing raise."""
-        with self._opened() as file:
+        with places.in_file(self._archive) as file:
             begin: int | None = 0
             number = turns = 0
             while begin is not None:
@@ -78,19 +78,6 @@ class Mender:
             self._copy(file, None)
         return self.sums
 
-    def _opened(self) -> IO[bytes]:
-        """The archive as a file that can be read anywhere."""
-        if self._archive.is_plain and self._archive.path != STANDARD_INPUT:
-            file = self._archive.open()
-            if file.seekable():
-                return file
-            file.close()
-        room = tempfile.TemporaryFile()
-        for block in self._archive.blocks():
-            room.write(block)
-        room.flush()
-        return room
-
     def _turn(self, file: IO[bytes], begin: int, known: int, may_part: bool) -> tuple[int | None, int]:
         """Mends the archive from a byte on. Gives, where a comment without an end took the games after it, the byte from which these are
         to be read, and the number of the game that they were."""
@@ -98,7 +85,7 @@ class Mender:
             pieces: Iterator[tuple[int, int, int]] | None = None
             for fault in self._faults(file, begin, stack):
                 if pieces is None:
-                    pieces = self._pieces(file, begin, stack)
+                    pieces = stack.enter_context(places.games(file, self._archive.name, begin))
                 place, length = next(((place, length) for place, length, game in pieces if game == fault.game), (-1, 0))
                 if place < 0:
                     raise Error(f"{shown(self._archive.name)}: was changed meanwhile")
@@ -111,22 +98,11 @@ class Mender:
 
     def _faults(self, file: IO[bytes], begin: int, stack: ExitStack) -> Iterator[FaultyGame]:
         words, nowhere = ["run", Process.QUERY, STANDARD_INPUT], subprocess.DEVNULL
-        asked = stack.enter_context(Process(words, NOTHING, blocks=_blocks(file, begin), out=nowhere))
+        asked = stack.enter_context(Process(words, NOTHING, blocks=places.blocks(file, begin), out=nowhere))
         for line in asked.report():
             said = read_line(line)
             if isinstance(said, FaultyGame):
                 yield said
-        raise_for(asked.finish(), shown(self._archive.name))
-
-    def _pieces(self, file: IO[bytes], begin: int, stack: ExitStack) -> Iterator[tuple[int, int, int]]:
-        """First byte, length and number of each game."""
-        program, nowhere = executable("PGNPIECES", "pgnpieces"), subprocess.DEVNULL
-        asked = stack.enter_context(Process([STANDARD_INPUT, "1"], blocks=_blocks(file, begin), err=nowhere, program=program))
-        space = 1 if begin else 0
-        for line in asked.out:
-            _, place, length, game, _ = map(int, line.split())
-            first = max(place - space, 0)
-            yield begin + first, place + length - space - first, game
         raise_for(asked.finish(), shown(self._archive.name))
 
     def _copy(self, file: IO[bytes], end: int | None) -> None:
@@ -161,12 +137,3 @@ class Mender:
         if done.changes:
             self._writer.changed(old, old[:head] + done.bytes)
             self._written += len(old)
-
-
-def _blocks(file: IO[bytes], begin: int) -> Iterator[bytes]:
-    """An archive from a byte on, with a space before it where it is not the first one, as its pieces are read by themselves."""
-    if begin:
-        yield b" "
-    while block := os.pread(file.fileno(), BLOCK, begin):
-        yield block
-        begin += len(block)

@@ -8,7 +8,7 @@ from dataclasses import dataclass
 
 from ..process import FaultyGame
 from . import asking, moves, signs
-from .languages import LANGUAGES, translated
+from .languages import ENGLISH, LANGUAGES, translated
 from .text import Change, Text
 
 AHEAD, BEHIND = 4096, 400  # bytes that are looked at around a fault
@@ -133,7 +133,10 @@ class Mending:
         whole, reached = _text(self.text.bytes[begin:end]), dict[bytes, tuple[int, str, Text]]()
         for language in LANGUAGES:
             text, at, shift = self.text, 0, begin
-            for first, last, letter in translated(whole, language):
+            changes = list(translated(whole, language))
+            if all(whole[first:last] in ENGLISH for first, last, _ in changes):
+                continue
+            for first, last, letter in changes:
                 shift, at = shift + len(_bytes(whole[at:first])), last
                 old = _bytes(whole[first:last])
                 text = text.changed(shift, shift + len(old), _bytes(letter), "letters", f"{fault.reason} ({language})")

@@ -6,6 +6,7 @@ import re
 from collections.abc import Iterator
 
 FIGURINES = dict(zip("♔♕♖♗♘♙♚♛♜♝♞♟", "KQRBN" + "P" + "KQRBN" + "P"))
+ENGLISH = {*"KQRBNP"}  # where these alone would be other men, nothing tells that the language is another one
 # king, queen, rook, bishop, knight
 LANGUAGES = {
     "German": "K D T L S",
@@ -35,7 +36,7 @@ def translated(text: str, language: str) -> Iterator[tuple[int, int, str]]:
         sign = found["move"].lstrip("=")
         letter = letters.get(sign)
         begin = found.end() - len(sign)
-        if letter is None and len(sign) == 2 and sign[:1] in letters and sign[1:] in "abcdefgh":
+        if letter is None and len(sign) == 2 and sign[:1] in letters and sign[1:] in "abcdefghx":
             letter, sign = letters[sign[:1]], sign[:1]
         if letter is not None and letter != sign:
             yield begin, begin + len(sign), letter

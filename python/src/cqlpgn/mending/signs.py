@@ -61,6 +61,10 @@ def _remark(back: re.Match[str], ahead: re.Match[str]) -> str | None:
     return None if SAN.search(inside) or re.search(r"[{}]", inside) else f"{{{inside.strip()}}}"
 
 
+def _nested(back: re.Match[str], ahead: re.Match[str]) -> str:
+    return "{" + (back[0] + ahead[0])[1:-1].replace("{", "(").replace("}", ")") + "}"
+
+
 SIGNS = "|".join(re.escape(sign) for sign in sorted(EVALUATIONS, key=len, reverse=True))
 CHECK_WORD = r"(?:dis(?:c|covered)?\.?\s*)?(?:dbl|double)?\.?\s*(?:ch|check)(?![\w-])\.?|(?:mate|matt|e\.\s?p\.|ep|disch)(?![\w-])\.?"
 RULES = [
@@ -83,6 +87,7 @@ RULES = [
     Rule("numbers", BYTE, ",", "", ""),
     Rule("brackets", "unopened variation", r"\)", ""),
     Rule("brackets", "empty variation", r"\)", lambda back, _: back[1], r"\(((?:\s|\{[^{}()]*\})*)"),
+    Rule("brackets", EITHER, r"[^{}]*\}", _nested, r"\{[^{}]*(?:\{[^{}]*)+\}\s*"),
     Rule("brackets", BYTE, r"\}", ""),
     Rule("bytes", BYTE, "[\x00\x1a\ufeff\u00ad\u200b-\u200f\u2060\x7f]+", ""),
     Rule("bytes", BYTE, "[\u00a0\u2000-\u200a\u202f\u3000\udca0]", " "),

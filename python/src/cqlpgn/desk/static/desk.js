@@ -186,16 +186,17 @@ async function faulty() {
   if (!$("faults").open || !run) return;
   const faults = await ask("faults", { run: run.run, query: 0 }).catch(() => []);
   $("faults").lastElementChild.replaceChildren(...faults.map(fault => {
-    const shown = element("pre", { hidden: true });
+    const shown = element("pre", { hidden: true }), advice = element("p", { className: "hint" });
     const look = async () => {
       shown.hidden = !shown.hidden;
-      const [before, after] = await ask("at", { archive: fault.archive, byte: fault.byte }).catch(refusal => [refusal.message, ""]);
+      const [before, after, hint] = await ask("at", { archive: fault.archive, byte: fault.byte }).catch(refusal => [refusal.message, "", ""]);
       const spot = element("mark", {}, after.slice(0, 1) || "…");
       shown.replaceChildren(before, spot, after.slice(1));
+      advice.textContent = hint;
       spot.scrollIntoView({ block: "nearest" });
     };
     const told = `${fault.archive}: game ${fault.game}, byte ${fault.byte}: ${fault.reason}`;
-    return element("li", {}, element("button", { type: "button", onclick: look }, told), shown);
+    return element("li", {}, element("button", { type: "button", onclick: look }, told), advice, shown);
   }));
 }
 
