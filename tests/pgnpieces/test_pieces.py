@@ -9,31 +9,13 @@ from typing import Any
 
 import pytest
 from model import pgn
+from model.pieces import table, text_of
 from tests import failing
 from tests.cases import EXAMPLES
 from tests.processes import Word, run
 
 USAGE = b"usage: pgnpieces ARCHIVE BYTES\n"
 MOST = 1 << 40
-
-
-def text_of(lines: list[tuple[int, int, int, int]]) -> bytes:
-    """A table as it is written: of each piece its number, where it begins, its bytes, its first game and how many it has."""
-    return b"".join(b"%d %d %d %d %d\n" % (number, *line) for number, line in enumerate(lines, 1))
-
-
-def table(archive: bytes, least: int) -> bytes:
-    """The table of an archive, from the model's list of all its games."""
-    lines: list[tuple[int, int, int, int]] = []
-    begin, first, games = 0, 1, 0
-    for _, end, _ in pgn.cut(archive):
-        games += 1
-        if end - begin >= least:
-            lines.append((begin, end - begin, first, games))
-            begin, first, games = end, first + games, 0
-    if begin < len(archive):
-        lines.append((begin, len(archive) - begin, first, games))
-    return text_of(lines)
 
 
 # Archives, and where each of their games begins and ends.
