@@ -12,7 +12,7 @@ from . import places
 from .archives import Archive
 
 MOST = 1 << 24  # bytes of a game that are looked at
-NAMES = re.compile(rb"^[ \t]*\[\s*(\w+)", re.M)
+NAMES = re.compile(rb'\[\s*(\w+)\s*"')
 EVENT = re.compile(rb"^\[Event ", re.M)
 TOKEN = re.compile(
     rb'(?P<note>\{[^}]*(?:\}|\Z)|;[^\n]*|^%[^\n]*)|"(?:[^"\\\n]|\\[^\n])*"?|(?P<tag>\[\s*(?P<name>[A-Za-z0-9][\w+#=:/-]*)\s*"(?:[^"\\\n]|\\[^\n])*"\s*\])'

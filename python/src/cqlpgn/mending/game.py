@@ -157,11 +157,10 @@ class Mending:
         """The text with a tag's line, a FEN or lines between games written otherwise."""
         whole, at = self.text.bytes, fault.byte
         first = max(begin, whole.rfind(b"\n", 0, at) + 1)
-        if "tags" in self._kinds and whole[first : first + 40].lstrip()[:1] == b"[":
-            for end in self._line_ends(first):
-                new = signs.whole_line(fault.reason, _text(whole[first:end]))
-                if new is not None:
-                    yield self._changed(first, end, new, "tags", fault)
+        if "tags" in self._kinds:
+            yield from self._by_tag(fault, first)
+            if not whole[first:at].strip() and first > begin:  # what the line before lacks is missed at this one
+                yield from self._by_tag(fault, max(begin, whole.rfind(b"\n", 0, first - 1) + 1))
         if "positions" in self._kinds and fault.reason == "bad FEN":
             yield from self._by_fen(fault, first)
         text = signs.text_between(fault.reason, _text(whole[begin:at]), _text(whole[at : at + AHEAD]))
@@ -170,6 +169,14 @@ class Mending:
             first = whole.find(inside, begin)
             if begin <= first <= at:
                 yield self._changed(first, first + len(inside), text, "remarks", fault)
+
+    def _by_tag(self, fault: FaultyGame, first: int) -> Iterator[Text]:
+        """The text with the tag that begins a line written otherwise."""
+        if self.text.bytes[first : first + 40].lstrip()[:1] == b"[":
+            for end in self._line_ends(first):
+                new = signs.whole_line(fault.reason, _text(self.text.bytes[first:end]))
+                if new is not None:
+                    yield self._changed(first, end, new, "tags", fault)
 
     def _line_ends(self, first: int) -> Iterator[int]:
         """Where a tag may end that begins with a line: with the next line, where that goes on with it, and with its own."""

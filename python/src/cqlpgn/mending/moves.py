@@ -13,11 +13,12 @@ Spelling = tuple[str, str]
 DASH = "[-\u2010-\u2015\u2212\udc96\udc97]"
 SQUARE = "[a-h][1-8]"
 # the word of a move: it may have a blank around its dash, and a promotion in parentheses
-WORD = re.compile(
-    rf"[KQRBN]?{SQUARE} ?{DASH} ?{SQUARE}(?:[=/]?\(?[QRBNqrbn]\)?)?[+#]*|[^\s(){{}}\[\];\"$.!?,]+?(?:[=/]?\([QRBNqrbn]\))[+#]*|[^\s(){{}}\[\];\"$.!?,]+"
-)
+SIGN = r"[^\s(){}\[\];\"$.!?,]"
+PROMOTED = r"(?:[=/]?\([QRBNqrbn]\))"
+WORD = re.compile(rf"[KQRBN]?{SQUARE} ?{DASH} ?{SQUARE}(?:[=/]?[QRBNqrbn]|{PROMOTED})?[+#]*|{SIGN}+?(?:{PROMOTED}[+#]*|e\.\s?p\.)|{SIGN}+")
 CHECK = r"(?:dis(?:c)?\.?\s?ch|dbl\.?\s?ch|ch(?:eck)?|mate|[+#†‡]+|e\.?p)\.?"
-TAILS = re.compile(rf"(?P<core>.*?[a-h1-8QRBNqrbn)O0oODTLSFCAVWH])(?P<tail>x|{CHECK}|(?:{'|'.join(map(re.escape, sorted(EVALUATIONS, key=len, reverse=True)))}))\Z")
+SIGNS = "|".join(map(re.escape, sorted(EVALUATIONS, key=len, reverse=True)))
+TAILS = re.compile(rf"(?P<core>.*?[a-h1-8QRBNqrbn)O0oODTLSFCAVWH])(?P<tail>x|{CHECK}|{SIGNS})\Z")
 CASTLES = re.compile(rf"([oO0])(?:{DASH})?\1(?P<long>(?:{DASH})?\1)?")
 SQUARES = re.compile(rf"(?P<man>[KQRBNkqrbn]?)(?P<from>{SQUARE}) ?(?:{DASH}|[x:X×])? ?(?P<to>{SQUARE})[=/]?\(?(?P<new>[QRBNqrbn]?)\)?")
 SHORT = re.compile(r"(?P<from>[a-h])[x:X×]?(?P<to>[a-h])(?:[=/]?\(?(?P<new>[QRBNqrbn])\)?)?")

@@ -128,7 +128,7 @@ def text_between(reason: str, before: str, onward: str) -> str | None:
     said = (before + onward[: end.start() if end else 0]).strip()
     if not re.fullmatch(EITHER, reason) or SAN.search(said) or re.search(r"[{}]|\d+\.(?!\d)|(?:^|\s)(?:1-0|0-1|\*)(?:\s|\Z)", said):
         return None
-    return f"{{{said}}}" if said and not re.search(r"^\s*\[", said, re.M) else None
+    return f"{{{said}}}" if re.search("[A-Za-z]", said) and not re.search(r"^\s*\[", said, re.M) else None
 
 
 def position(text: str) -> str | None:
