@@ -39,9 +39,25 @@ _cqlpgn_over() {
     esac
     case $word in
         -*)
-            mapfile -t COMPREPLY < <(compgen -W '-o -c -q -p -j --keep-partial --first --number --many --summary --check --workers \
-                --limit --help' -- "$word") ;;
+            mapfile -t COMPREPLY < <(compgen -W '-o -c -q -p -j --keep-partial --first --number --many --summary --check --doubtful \
+                --workers --limit --help' -- "$word") ;;
         *) _cqlpgn_files 'cql|pgn|gz|bz2|xz|zst|zip' "$word" ;;
+    esac
+}
+
+_cqlpgn_mend() {
+    local word=${COMP_WORDS[COMP_CWORD]} before=${COMP_WORDS[COMP_CWORD - 1]}
+    COMPREPLY=()
+    case $before in
+        -o) _cqlpgn_files pgn "$word"; return ;;
+        --report) _cqlpgn_files csv "$word"; return ;;
+        --only | --not)
+            mapfile -t COMPREPLY < <(compgen -W 'results notation castling captures checks letters glyphs brackets tags positions numbers nulls remarks bytes' -- "$word")
+            return ;;
+    esac
+    case $word in
+        -*) mapfile -t COMPREPLY < <(compgen -W '-o -q --only --not --report --dry-run --diff --help' -- "$word") ;;
+        *) _cqlpgn_files 'pgn|gz|bz2|xz|zst|zip' "$word" ;;
     esac
 }
 
@@ -118,6 +134,7 @@ complete -o filenames -F _cqlpgn cqlpgn
 complete -o filenames -F _pgnjson pgnjson
 complete -o filenames -F _pgnpieces pgnpieces
 complete -o filenames -F _cqlpgn_over cqlpgn-over
+complete -o filenames -F _cqlpgn_mend cqlpgn-mend
 complete -o nospace -F _cqlpgn_split cqlpgn-split
 complete -o filenames -F _cqlpgn_problems cqlpgn-problems
 complete -o filenames -F _cqlpgn_diagrams cqlpgn-diagrams

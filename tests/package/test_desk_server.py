@@ -59,6 +59,7 @@ def served(tmp_path_factory: pytest.TempPathFactory) -> Iterator[Served]:
     # so much that no program is through before it is stopped
     (folder / "inner" / "huge.pgn.gz").write_bytes(gzip.compress(GAME * 500_000) * 100)
     (folder / "small.pgn").write_bytes(GAME)
+    (folder / "draw.pgn").write_bytes(b"1. e4 e5 1/2\n")
     (folder / "broken.pgn.gz").write_bytes(b"\x1f\x8b\x08\x00" + b"x" * 100)
     (folder / "cut.pgn.gz").write_bytes(gzip.compress(GAME * 1000)[:-9])
     for name in EXAMPLES:
@@ -140,7 +141,7 @@ def test_no_path_leads_out(served: Served) -> None:
         async with Line(served) as line:
             listed = {archive["name"] for archive in line.hello["archives"]}
             inner = {"inner/large.pgn", "inner/huge.pgn.gz"}
-            assert listed == inner | {"broken.pgn.gz", "cut.pgn.gz", "small.pgn", "packed.pgn.gz", "several.zip", *EXAMPLES}
+            assert listed == inner | {"broken.pgn.gz", "cut.pgn.gz", "draw.pgn", "small.pgn", "packed.pgn.gz", "several.zip", *EXAMPLES}
             for name in OUTSIDE:
                 assert str(await line.begin("cql() mate", name)).startswith("refused"), name
                 assert str(await line.ask("at", archive=name, byte=0)).startswith("refused"), name
@@ -191,8 +192,11 @@ def test_archives_of_all_kinds(served: Served) -> None:
             assert [row[6] for row in rows] == ["packed.pgn.gz"] * 3 + ["small.pgn", "several.zip:a.pgn", "several.zip:b.pgn"]
             (fault,) = await line.ask("faults", run=run["run"], query=0)
             assert fault["archive"] == "several.zip:b.pgn"
-            before, after = await line.ask("at", archive=fault["archive"], byte=fault["byte"])
-            assert before.endswith("0-1\n\n1. ") and after.startswith("e5 *")
+            before, after, hint = await line.ask("at", archive=fault["archive"], byte=fault["byte"])
+            assert before.endswith("0-1\n\n1. ") and after.startswith("e5 *") and hint == ""
+            run = await line.over("cql() mate", "draw.pgn")
+            (fault,) = await line.ask("faults", run=run["run"], query=0)
+            assert (await line.ask("at", archive="draw.pgn", byte=fault["byte"]))[2] == "the result of a draw is written `1/2-1/2`"
             run = await line.over("cql() mate", "broken.pgn.gz")
             assert run["state"] == "failed" and (await line.ask("games", run=run["run"], query=0, first=-5, count=10**9)) == []
             assert "cut.pgn.gz" in (await line.over("cql() mate", "cut.pgn.gz"))["troubles"][0]

@@ -74,7 +74,7 @@ def fault_of(text: str) -> tuple[str, bytes]:
     return game[2], data[game[1] :]
 
 
-@pytest.mark.parametrize("row", game_hints.SLIPS, ids=lambda row: row.written)
+@pytest.mark.parametrize("row", game_hints.SLIPS, ids=[row.written for row in game_hints.SLIPS])
 def test_a_row(row: game_hints.GameSlip) -> None:
     """The game is faulty, and is told what the row says."""
     text = SPELLED.get(row.written, f"1. e4 e5 2. {row.written} *")

@@ -35,6 +35,7 @@ MENDED: list[tuple[str, str, str]] = [
     ("1. e4 e5 0 - 1", "1. e4 e5 0-1", "results"),
     ("1. e4 e5 0-0", "1. e4 e5 {0-0} *", "results"),
     ("1. e4 e5 1-0ff", "1. e4 e5 {ff} 1-0", "results"),
+    ("1. e4 e5 1/2\n\n1. d4 *", "1. e4 e5 1/2-1/2\n\n1. d4 *", "results"),
     ("1. e4 e5 draw", "1. e4 e5 1/2-1/2", "results"),
     ("1. e2e4 e7e5 2. g1f3 b8-c6 *", "1. e2e4 e7e5 2. Ng1f3 Nb8c6 *", "notation notation"),
     ("1. e2–e4 e5 *", "1. e2e4 e5 *", "notation"),

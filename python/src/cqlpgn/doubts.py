@@ -15,7 +15,8 @@ MOST = 1 << 24  # bytes of a game that are looked at
 NAMES = re.compile(rb'\[\s*(\w+)\s*"')
 EVENT = re.compile(rb"^\[Event ", re.M)
 TOKEN = re.compile(
-    rb'(?P<note>\{[^}]*(?:\}|\Z)|;[^\n]*|^%[^\n]*)|"(?:[^"\\\n]|\\[^\n])*"?|(?P<tag>\[\s*(?P<name>[A-Za-z0-9][\w+#=:/-]*)\s*"(?:[^"\\\n]|\\[^\n])*"\s*\])'
+    rb'(?P<note>\{[^}]*(?:\}|\Z)|;[^\n]*|^%[^\n]*)|"(?:[^"\\\n]|\\[^\n])*"?|'
+    rb'(?P<tag>\[\s*(?P<name>[A-Za-z0-9][\w+#=:/-]*)\s*"(?:[^"\\\n]|\\[^\n])*"\s*\])'
     rb"|(?P<null>--|Z0(?![\w+#=:/-]))|(?P<word>[A-Za-z0-9][\w+#=:/-]*)",
     re.M,
 )

@@ -25,7 +25,9 @@ SQUARE = "[a-h][1-8]"
 SLIPS = [
     GameSlip("1/2", EITHER, r"(?:1/2|½|\udcbd)(?!-1/2)", "the result of a draw is written `1/2-1/2`"),
     GameSlip("1:0", EITHER, r"[01]:[01](?!\w)", "results are written `1-0`, `0-1`, `1/2-1/2` and `*`"),
-    GameSlip("0-0", MOVE, r"0-0\s*(?:\[|\Z)", "the result of a game that both have lost has no sign in PGN; without a result a game has `*`"),
+    GameSlip(
+        "0-0", MOVE, r"0-0\s*(?:\[|\Z)", "the result of a game that both have lost has no sign in PGN; without a result a game has `*`"
+    ),
     GameSlip("o-o", EITHER, r"(?:o-?o|OO|0–0|O–O)", "castling is written `O-O` or `O-O-O`"),
     GameSlip("e1g1", MOVE, r"K?(?:e1-?[gc]1|e8-?[gc]8)", "castling is written `O-O` or `O-O-O`, and not by the king's squares"),
     GameSlip("Kg1", MOVE, r"K[gc][18](?!\w)", "castling is written `O-O` or `O-O-O`, and not as a move of the king"),
@@ -83,7 +85,11 @@ def position(text: str) -> str | None:
     men = _men(fields[0])
     if men is None:
         return f"of a FEN {PLACEMENT}"
-    wanted = {"w|b": "the side is `w` or `b`", "-|[KQkq]+": "castling has letters of `KQkq`, or `-`", "-|[a-h][36]": "en passant is a square of the third or sixth rank, or `-`"}
+    wanted = {
+        "w|b": "the side is `w` or `b`",
+        "-|[KQkq]+": "castling has letters of `KQkq`, or `-`",
+        "-|[a-h][36]": "en passant is a square of the third or sixth rank, or `-`",
+    }
     for field, (pattern, said) in zip(fields[1:], wanted.items()):
         if re.fullmatch(pattern, field) is None:
             return f"of a FEN {said}"

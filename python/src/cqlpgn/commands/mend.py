@@ -94,7 +94,7 @@ def mend(flags: argparse.Namespace, kinds: set[str]) -> Sums:
     with Replacing() as files:
         rows = files.open(flags.report) if flags.report is not None else None
         out = files.open(flags.out) if flags.out is not None else None if flags.dry_run and not flags.diff else standard_output()
-        writer = Differences(out, os.fsencode(shown(flags.archive))) if flags.diff and out is not None else Whole(out)
+        writer: Differences | Whole = Differences(out, os.fsencode(shown(flags.archive))) if flags.diff and out is not None else Whole(out)
         sums = Mender(archive, kinds, writer, Telling(flags.archive, rows, flags.quiet)).run()
         writer.end()
         if out is not None:

@@ -86,9 +86,8 @@ def parser() -> argparse.ArgumentParser:
     made = Parser(
         "cqlpgn-over", "Asks one query, or a file of them, of several archives, packed or not, and says in words what went wrong.", EPILOG
     )
-    made.usage = (
-        "cqlpgn-over [OPTION..] QUERY [ARCHIVE..]\n       cqlpgn-over [OPTION..] --many FILE [ARCHIVE..]\n       cqlpgn-over --check FILE..\n       cqlpgn-over --doubtful ARCHIVE.."
-    )
+    forms = ["[OPTION..] QUERY [ARCHIVE..]", "[OPTION..] --many FILE [ARCHIVE..]", "--check FILE..", "--doubtful [ARCHIVE..]"]
+    made.usage = "\n       ".join(f"cqlpgn-over {form}" for form in forms)
     made.add_argument(
         "words",
         metavar="QUERY ARCHIVE",

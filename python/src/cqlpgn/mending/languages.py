@@ -24,7 +24,10 @@ LANGUAGES = {
 }
 # what may follow the letter of a man, and what goes before that of a promotion
 ONWARD = "(?=[-x:×]?[a-h]?[1-8]?[-–x:×]?[a-h][1-8])"
-FIELDS = re.compile(r'\{[^}]*(?:\}|\Z)|"(?:[^"\\\n]|\\.)*"|;[^\n]*|^%[^\n]*|(?P<move>(?<![\w=])[^\W\d_]{1,2}' + ONWARD + r"|(?<=[18])=?[^\W\d_](?!\w))", re.M)
+FIELDS = re.compile(
+    r'\{[^}]*(?:\}|\Z)|"(?:[^"\\\n]|\\.)*"|;[^\n]*|^%[^\n]*|(?P<move>(?<![\w=])[^\W\d_]{1,2}' + ONWARD + r"|(?<=[18])=?[^\W\d_](?!\w))",
+    re.M,
+)
 
 
 def translated(text: str, language: str) -> Iterator[tuple[int, int, str]]:

@@ -15,7 +15,7 @@ EVALUATIONS = {
 RESULTS = {"+-", "-+", "+/-", "-/+", "="}
 MOVE, BYTE, TAG = "not a move|illegal move", "bad byte", "bad tag|unclosed string|bad byte"
 EITHER = f"{MOVE}|{BYTE}"
-END = r"(?=\s*(?:\[|\Z))"
+END = r"(?=\s*(?:\[|\Z)|\s*\n\s*\n\s*1\.)"  # of a game
 DASHES = r"[-:\u2010-\u2015\u2212\udc96\udc97]"
 HALF = r"(?:1/2|½|\udcbd)"
 SAN = re.compile(r"(?:^|[\s.])(?:[KQRBN][a-h]?[1-8]?x?[a-h][1-8]|[a-h]x?[a-h]?[1-8]|O-O)")

@@ -100,7 +100,9 @@ def _unified(old: list[bytes], new: list[bytes], first: int, now: int) -> list[b
     found = []
     for group in difflib.SequenceMatcher(None, old, new, autojunk=False).get_grouped_opcodes(CONTEXT):
         begin, end, start, stop = group[0][1], group[-1][2], group[0][3], group[-1][4]
-        lines = [b"@@ -%d,%d +%d,%d @@\n" % (_line(first + begin, end - begin), end - begin, _line(now + start, stop - start), stop - start)]
+        lines = [
+            b"@@ -%d,%d +%d,%d @@\n" % (_line(first + begin, end - begin), end - begin, _line(now + start, stop - start), stop - start)
+        ]
         for kind, a, b, c, d in group:
             if kind == "equal":
                 lines += [_line_of(b" ", line) for line in old[a:b]]
