@@ -59,6 +59,7 @@ def served(tmp_path_factory: pytest.TempPathFactory) -> Iterator[Served]:
     # so much that no program is through before it is stopped
     (folder / "inner" / "huge.pgn.gz").write_bytes(gzip.compress(GAME * 500_000) * 100)
     (folder / "small.pgn").write_bytes(GAME)
+    (folder / "dashes.pgn").write_bytes(b"1. e4 *\n----\n1. d4 *\n")
     (folder / "draw.pgn").write_bytes(b"1. e4 e5 1/2\n")
     (folder / "broken.pgn.gz").write_bytes(b"\x1f\x8b\x08\x00" + b"x" * 100)
     (folder / "cut.pgn.gz").write_bytes(gzip.compress(GAME * 1000)[:-9])
@@ -141,7 +142,16 @@ def test_no_path_leads_out(served: Served) -> None:
         async with Line(served) as line:
             listed = {archive["name"] for archive in line.hello["archives"]}
             inner = {"inner/large.pgn", "inner/huge.pgn.gz"}
-            assert listed == inner | {"broken.pgn.gz", "cut.pgn.gz", "draw.pgn", "small.pgn", "packed.pgn.gz", "several.zip", *EXAMPLES}
+            assert listed == inner | {
+                "broken.pgn.gz",
+                "cut.pgn.gz",
+                "dashes.pgn",
+                "draw.pgn",
+                "small.pgn",
+                "packed.pgn.gz",
+                "several.zip",
+                *EXAMPLES,
+            }
             for name in OUTSIDE:
                 assert str(await line.begin("cql() mate", name)).startswith("refused"), name
                 assert str(await line.ask("at", archive=name, byte=0)).startswith("refused"), name
@@ -194,6 +204,10 @@ def test_archives_of_all_kinds(served: Served) -> None:
             assert fault["archive"] == "several.zip:b.pgn"
             before, after, hint = await line.ask("at", archive=fault["archive"], byte=fault["byte"])
             assert before.endswith("0-1\n\n1. ") and after.startswith("e5 *") and hint == ""
+            assert await line.ask("doubtful", run=run["run"]) == []
+            run = await line.over("cql() mate", "dashes.pgn", "several.zip")
+            wanted = {"archive": "dashes.pgn", "game": 2, "byte": 8, "reason": "it has null moves alone, as a line of dashes is read"}
+            assert await line.ask("doubtful", run=run["run"]) == [wanted]
             run = await line.over("cql() mate", "draw.pgn")
             (fault,) = await line.ask("faults", run=run["run"], query=0)
             assert (await line.ask("at", archive="draw.pgn", byte=fault["byte"]))[2] == "the result of a draw is written `1/2-1/2`"

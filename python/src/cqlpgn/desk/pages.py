@@ -6,14 +6,16 @@ import asyncio
 import json
 import secrets
 from collections.abc import Awaitable, Callable, Sequence
+from contextlib import suppress
+from itertools import islice
 from typing import Any, Protocol
 
-from .. import faults, game_hints
+from .. import doubts, faults, game_hints
 from ..errors import Error, Fault
 from .folder import Folder, Refused
 from .found import Found, Room
 from .program import Program
-from .runs import Run
+from .runs import MOST_FAULTS, Run
 from .shown import articles
 
 PAUSE = 0.15  # seconds between two words on a run
@@ -109,6 +111,21 @@ def told(fault: Fault) -> dict[str, Any]:
     return {"byte": fault.byte, "line": fault.line, "column": fault.column, "reason": fault.reason, "hint": fault.hint}
 
 
+def doubtful(folder: Folder, names: Sequence[str]) -> list[dict[str, Any]]:
+    """The doubtful games of some archives, as many as are told of faulty ones. What can't be read any more has none."""
+    found: list[dict[str, Any]] = []
+    for name in dict.fromkeys(names):
+        with suppress(Error):
+            several = folder.open(name)
+            try:
+                for archive in several:
+                    told = islice(doubts.of_archive(archive), MOST_FAULTS - len(found))
+                    found += [{"archive": archive.name, "game": one.game, "byte": one.byte, "reason": one.said} for one in told]
+            finally:
+                several[0].raw.close()
+    return found
+
+
 class Page:
     """`line` is its socket, None while it is away; what it is told first is the answer to its coming. Of its runs the last one is kept."""
 
@@ -131,6 +148,7 @@ class Page:
             "rows": self._rows,
             "filter": self._filter,
             "faults": self._faults,
+            "doubtful": self._doubtful,
             "at": self._at,
             "queries": self._queries,
             "open": self._open,
@@ -289,6 +307,11 @@ class Page:
     async def _faults(self, words: Words) -> Any:
         self.found(words.number("run"), 0)
         return self.run.faults if self.run else []
+
+    async def _doubtful(self, words: Words) -> Any:
+        self.found(words.number("run"), 0)
+        names = self.run.names if self.run else []
+        return await asyncio.to_thread(doubtful, self.shared.folder, names)
 
     async def _at(self, words: Words) -> Any:
         name, byte = words.text("archive"), max(0, words.number("byte"))

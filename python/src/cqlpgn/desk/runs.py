@@ -50,6 +50,11 @@ class Run:
         self._begun = self._ended = time.monotonic()
 
     @property
+    def names(self) -> list[str]:
+        """The files of the archives that are asked."""
+        return [archive.path for archive in self._archives]
+
+    @property
     def is_over(self) -> bool:
         """Whether nothing more is to come of it."""
         return self.state in OVER

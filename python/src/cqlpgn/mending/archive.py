@@ -21,6 +21,7 @@ from .text import Change
 # a query that no position meets, so that nothing is written but the report
 NOTHING = b"cql() ply < 0"
 LONG = 1 << 22  # a piece that is longer is looked at no further
+SHORT = 1 << 16  # a comment without an end in a piece that is longer has the games after it read anew
 MOST_TURNS = 1000  # how often an archive is read anew after a comment that was not closed
 SHOWN = 120  # bytes from a fault on that is left
 
@@ -91,7 +92,7 @@ class Mender:
                     raise Error(f"{shown(self._archive.name)}: was changed meanwhile")
                 number = known or fault.game
                 self.sums.faulty += 1
-                if length > LONG:
+                if length > LONG or length > SHORT and fault.reason == "unclosed comment":
                     return self._first_part(file, place, number, may_part)
                 self._mend(file, place, os.pread(file.fileno(), length, place), number)
         return None, 0
@@ -117,7 +118,8 @@ class Mender:
         fault = next((one for one in asking.faults(head) if one.reason == "unclosed comment"), None)
         cut = PARAGRAPH.search(head, fault.byte) if fault is not None and may_part and "brackets" in self._kinds else None
         if cut is None:
-            self._tell(Told(number, place, head[:SHOWN], Left(0, "game too long", "it is too long to be mended")))
+            reason = fault.reason if fault is not None else "game too long"
+            self._tell(Told(number, place, head[:SHOWN], Left(0, reason, "it is too long to be mended")))
             return None, 0
         self._mend(file, place, head[: cut.end()], number)
         return place + cut.end(), number

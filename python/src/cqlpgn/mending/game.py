@@ -13,7 +13,8 @@ from .text import Change, Text
 
 AHEAD, BEHIND = 4096, 400  # bytes that are looked at around a fault
 MOST_CHANGES = 4000  # in one piece
-MOST_PROBED = 1 << 28  # bytes that are read to try moves, in one piece
+MOST_PROBED = 1 << 29  # bytes that are read to try changes, in one piece
+MOST_LETTERS = 1500  # of men, in a game whose language is looked for
 MOVE_FAULT = re.compile("not a move|illegal move|bad byte")
 PARAGRAPH = re.compile(rb"\r?\n[ \t\r]*\n\s*(?=\[)")
 
@@ -62,6 +63,7 @@ class Mending:
             self._why = ""
             begin = self._begin_of_game(fault)
             for text in self._tries(fault, begin):
+                self._probed += len(text.bytes)
                 after = asking.faults(text.bytes)
                 following = self._next(after, text)
                 if following is None or text.origin(following.byte) > self.text.origin(fault.byte):
@@ -134,7 +136,7 @@ class Mending:
         for language in LANGUAGES:
             text, at, shift = self.text, 0, begin
             changes = list(translated(whole, language))
-            if all(whole[first:last] in ENGLISH for first, last, _ in changes):
+            if len(changes) > MOST_LETTERS or all(whole[first:last] in ENGLISH for first, last, _ in changes):
                 continue
             for first, last, letter in changes:
                 shift, at = shift + len(_bytes(whole[at:first])), last

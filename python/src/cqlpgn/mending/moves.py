@@ -27,6 +27,7 @@ PROMOTION = re.compile(r"(?P<move>(?:[a-h]x?)?[a-h][18])[=/]?\(?(?P<new>[qrbnQRB
 LOWER = re.compile(rf"[kqrbn][a-h1-8]?x?{SQUARE}")
 KING = re.compile(r"K(?:e[18])?(?P<side>[gc])[18]")
 GLUED = re.compile(r"(?P<number>\d+)(?P<move>[a-hKQRBNO].*)")
+LONGEST = 24  # letters of a word that may be a move
 CASTLED = {"e1g1": "O-O", "e8g8": "O-O", "e1c1": "O-O-O", "e8c8": "O-O-O"}
 
 
@@ -68,6 +69,8 @@ def _by_squares(man: str, start: str, goal: str, new: str) -> Iterator[Spelling]
 
 def spellings(word: str) -> Iterator[Spelling]:
     """Other spellings of a word, a class with each: of the word itself, and of what is left of it without its last mark."""
+    if len(word) > LONGEST:
+        return
     yield from _cores(word)
     rest, kind, kept = word, "", ""
     while found := TAILS.fullmatch(rest):

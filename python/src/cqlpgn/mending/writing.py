@@ -32,61 +32,49 @@ class Differences:
 
     def __init__(self, to: BinaryIO, name: bytes) -> None:
         self._to, self._head = to, b"--- %s\n+++ %s\n" % (name, name)
-        self._lines, self._grown = 0, 0  # lines that are done, and how many more there are of them now
-        self._before: list[bytes] = []  # whole lines before
-        self._old = self._new = b""  # lines of which some differ
-        self._after = 0  # whole lines after the last that differs
+        self._done = self._grown = 0  # lines that are done, and how many more they have become
+        self._before: list[bytes] = []  # the last of them
+        self._old = self._new = b""  # what is not done: a part of a line, or lines of which some differ
+        self._differs, self._after = False, 0  # whether some do, and how many are whole and alike after the last of them
 
     def same(self, data: bytes) -> None:
         """Bytes that stay as they are."""
-        for line in data.splitlines(keepends=True) if b"\r" not in data else _lines(data):
-            self._same(line)
-
-    def _same(self, line: bytes) -> None:
-        if not self._old.endswith(b"\n") and self._old or self._is_open:
+        for line in _lines(data):
             self._old, self._new = self._old + line, self._new + line
-            self._after += line.endswith(b"\n")
-            if self._is_open and self._after > 2 * CONTEXT:
+            if not line.endswith(b"\n"):
+                continue
+            self._after += 1
+            if not self._differs:
+                self._pass([self._old])
+            elif self._after > 2 * CONTEXT:
                 self._flush()
-            elif not self._is_open and self._old.endswith(b"\n"):
-                self._pass()
-        elif line.endswith(b"\n"):
-            self._keep(line)
-        else:
-            self._old, self._new = line, line
-
-    _is_open = False
-
-    def _keep(self, line: bytes) -> None:
-        self._before = [*self._before[-CONTEXT + 1 :], line]
-        self._lines += 1
-
-    def _pass(self) -> None:
-        line, self._old, self._new = self._old, b"", b""
-        self._keep(line)
 
     def changed(self, old: bytes, new: bytes) -> None:
         """Bytes in whose place others come."""
         self._old, self._new = self._old + old, self._new + new
-        self._is_open, self._after = True, 0
+        self._differs, self._after = True, 0
+
+    def _pass(self, lines: list[bytes]) -> None:
+        """Counts lines as done."""
+        self._done += len(lines)
+        self._before = [*self._before, *lines][-CONTEXT:]
+        self._old = self._new = b""
+        self._differs, self._after = False, 0
 
     def _flush(self) -> None:
         """Writes the lines that differ."""
-        before = self._before
-        old, new = [*before, *_lines(self._old)], [*before, *_lines(self._new)]
-        first = self._lines - len(before)
-        for text in _unified(old, new, first, first + self._grown):
+        before, first = self._before, self._done - len(self._before)
+        old, new = _lines(self._old), _lines(self._new)
+        for text in _unified([*before, *old], [*before, *new], first, first + self._grown):
             self._to.write(self._head + text)
             self._head = b""
-        self._lines = first + len(old)
         self._grown += len(new) - len(old)
-        self._before, self._old, self._new, self._is_open, self._after = old[-CONTEXT:], b"", b"", False, 0
+        self._pass(old)
 
     def end(self) -> None:
         """All has come."""
-        if self._is_open:
+        if self._differs:
             self._flush()
-        self._to.flush()
 
 
 def _lines(data: bytes) -> list[bytes]:

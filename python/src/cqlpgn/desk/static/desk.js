@@ -165,8 +165,9 @@ function tell(state) {
   $("sum").textContent = summed(found, marked);
   $("how").textContent = went();
   $("troubles").replaceChildren(...run.troubles.map(trouble => element("li", {}, trouble)));
-  $("faults").hidden = !run.faulty;
-  $("faults").firstElementChild.textContent = count(run.faulty, "game is faulty and was left out", "games are faulty and were left out");
+  $("faults").hidden = !run.faulty && !over(run);
+  $("faults").firstElementChild.textContent = run.faulty
+    ? count(run.faulty, "game is faulty and was left out", "games are faulty and were left out") : "No game is faulty; doubtful games";
   $("links").hidden = !found;
   const page = sessionStorage.getItem("page");
   for (const link of $("links").children) link.href = `save/${page}/${run.run}/${which}/${link.dataset.form}`;
@@ -181,11 +182,11 @@ function where() {
   $("where").textContent = here && run ? `match ${told(here)} of ${told(run.marked[which])}` : "";
 }
 
-// The games that were left out, each with the text around its fault when it is asked for.
+// The games that were left out, and those that are read and may mean something else, each with the text around its fault when it is asked for.
 async function faulty() {
   if (!$("faults").open || !run) return;
   const faults = await ask("faults", { run: run.run, query: 0 }).catch(() => []);
-  $("faults").lastElementChild.replaceChildren(...faults.map(fault => {
+  const item = fault => {
     const shown = element("pre", { hidden: true }), advice = element("p", { className: "hint" });
     const look = async () => {
       shown.hidden = !shown.hidden;
@@ -197,7 +198,10 @@ async function faulty() {
     };
     const told = `${fault.archive}: game ${fault.game}, byte ${fault.byte}: ${fault.reason}`;
     return element("li", {}, element("button", { type: "button", onclick: look }, told), advice, shown);
-  }));
+  };
+  $("faults").lastElementChild.replaceChildren(...faults.map(item));
+  const asked = run.run, doubts = await ask("doubtful", { run: asked }).catch(() => []);
+  if (run && run.run === asked) $("faults").lastElementChild.append(...doubts.map(item));
 }
 
 around.at = figure => {
