@@ -51,6 +51,7 @@ def served(tmp_path_factory: pytest.TempPathFactory) -> Iterator[Served]:
     games = (GAME + b"1. e4 e5 2. Nf3 Nc6 3. Bb5 a6 4. Bxc6 dxc6 5. O-O f6 *\n\n" * 5) * 100_000
     (folder / "large.pgn.gz").write_bytes(gzip.compress(games) * 100)  # so that no program is through before it is stopped
     (folder / "hostile.pgn").write_bytes(HOSTILE.encode() + ODD)
+    (folder / "doubtful.pgn").write_bytes(b'1. e4 *\n----\n[A "b"]\n1. 1/2\n')
     (folder / "long.pgn").write_bytes(LONG.encode())
     (folder / NAMED).write_bytes(ODD)
     desk = Served(folder, CQLPGN=program("CQLPGN", "cqlpgn"), PGNJSON=program("PGNJSON", "pgnjson"))
@@ -414,6 +415,20 @@ def test_several_queries_archives_and_faults(browser: Browser) -> None:
     )
     assert browser.run("return document.querySelector('#faults mark').getBoundingClientRect().bottom <= innerHeight")
     assert "1. e4 e5 2. Ke3 *" in shown[0] and shown[1] == "K"
+
+
+def test_hints_and_doubtful_games(browser: Browser) -> None:
+    """Below a faulty game that is looked at is a hint, and after the faulty games come doubtful ones."""
+    browser.ask("cql() mate", "doubtful.pgn")
+    browser.ended()
+    browser.until("const f = document.getElementById('faults'); return !f.hidden && (f.open || (f.open = true))")
+    told = browser.until("const b = [...document.querySelectorAll('#faults button')]; return b.length > 1 && b.map(one => one.textContent)")
+    assert told[:1] == ["doubtful.pgn: game 3, byte 24: not a move"] and told[1].startswith(
+        "doubtful.pgn: game 2, byte 8: it has null moves alone"
+    )
+    browser.run("document.querySelector('#faults button').click()")
+    wanted = "the result of a draw is written `1/2-1/2`"
+    browser.until("return document.querySelector('#faults .hint').textContent === arguments[0]", wanted)
 
 
 def test_explained_kept_and_varied(browser: Browser) -> None:

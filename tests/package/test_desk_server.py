@@ -59,7 +59,7 @@ def served(tmp_path_factory: pytest.TempPathFactory) -> Iterator[Served]:
     # so much that no program is through before it is stopped
     (folder / "inner" / "huge.pgn.gz").write_bytes(gzip.compress(GAME * 500_000) * 100)
     (folder / "small.pgn").write_bytes(GAME)
-    (folder / "dashes.pgn").write_bytes(b"1. e4 *\n----\n1. d4 *\n")
+    (folder / "dashes.pgn").write_bytes(b'1. e4 *\n----\n[A "b"]\n1. d4 *\n')
     (folder / "draw.pgn").write_bytes(b"1. e4 e5 1/2\n")
     (folder / "broken.pgn.gz").write_bytes(b"\x1f\x8b\x08\x00" + b"x" * 100)
     (folder / "cut.pgn.gz").write_bytes(gzip.compress(GAME * 1000)[:-9])
