@@ -11,9 +11,12 @@ from collections.abc import Callable
 from pathlib import Path
 
 import pytest
+from cqlpgn import archives
+from cqlpgn.commands.mend import parser
+from cqlpgn.mending.archive import Mender, Told
 from cqlpgn.mending.classes import CLASSES
-from cqlpgn.mending.text import Text
-from model import program
+from cqlpgn.mending.text import Change, Text
+from model import pgn, program
 from tests.conftest import TOP, Answer, Asking
 
 Mend = Callable[..., Answer]
@@ -44,6 +47,8 @@ MENDED: list[tuple[str, str, str]] = [
     ("1. e4 e5 2. Nf3 Nf6 3. Be2 Be7 4. e1g1 Ke8-g8 *", "1. e4 e5 2. Nf3 Nf6 3. Be2 Be7 4. O-O O-O *", "castling castling"),
     ("1. e4 e5 2. Nf3 Nf6 3. Be2 Be7 4. Kg1 *", "1. e4 e5 2. Nf3 Nf6 3. Be2 Be7 4. O-O *", "castling"),
     ("1. e4 d5 2. ed Q:d5 *", "1. e4 d5 2. exd5 Qxd5 *", "captures captures"),
+    ("1. Nf3 d5 2. Nf3x e5 Nc6 *", "1. Nf3 d5 2. Nf3xe5 Nc6 *", "captures"),
+    ("1. Nf3 e5 2. Nf3 : e5 Nc6 *", "1. Nf3 e5 2. Nf3xe5 Nc6 *", "captures"),
     ("1. e4 d5 2. exd *", "1. e4 d5 2. exd5 *", "captures"),
     ("1. e4 d5 2. Bb5 + c6 *", "1. e4 d5 2. Bb5 c6 *", "checks"),
     ("1. e4 d5 2. Bb5 dis ch *", "1. e4 d5 2. Bb5 *", "checks"),
@@ -53,6 +58,7 @@ MENDED: list[tuple[str, str, str]] = [
     ("1. e4 a6 2. e5 d5 3. exd6e.p. *", "1. e4 a6 2. e5 d5 3. exd6 *", "checks"),
     ("1. e4 e5 2. Sf3 Sc6 3. Lb5 *", "1. e4 e5 2. Nf3 Nc6 3. Bb5 *", "letters letters letters"),
     ("1. e4 e5 2. Cf3 {Cf3} Cc6 3. Fb5 *", "1. e4 e5 2. Nf3 {Cf3} Nc6 3. Bb5 *", "letters letters letters"),
+    ("1. e4 e5 2. Nf3 (2. Sc3) Sc6 *", "1. e4 e5 2. Nf3 (2. Nc3) Nc6 *", "letters letters"),
     ("1. e4 e5 2. ♘f3 *", "1. e4 e5 2. Nf3 *", "letters"),
     ("1. e4 e5 2. Кf3 *", "1. e4 e5 2. Nf3 *", "letters"),
     ("1. e4 e5 2. Nf3 = Nc6 3. Bb5 +- *", "1. e4 e5 2. Nf3 $10 Nc6 3. Bb5 $18 *", "glyphs glyphs"),
@@ -116,6 +122,8 @@ def test_a_position(mend: Mend, fen: str, wanted: str) -> None:
 
 # What is left as it is, and what is told of it.
 LEFT = [
+    ('1. e4 [clk "0:01"] e5 *', "bad tag"),
+    ("1. e4 (2. Zf3) e5 *", "not a move"),
     ("1. e4 e5 2. Ke3 *", "illegal move; it is left, since no other spelling fits"),
     ('[FEN "7k/P7/8/8/8/8/8/K7 w - - 0 1"]\n\n1. a8 *', "two moves fit, as a8=Q and a8=R"),
     ('[FEN "k7/8/8/8/8/2p1p3/3P4/K7 w - - 0 1"]\n\n1. dxf *', "no other spelling fits"),
@@ -199,6 +207,53 @@ def test_nothing_sound_is_touched(mend: Mend, room: Path) -> None:
     examples = (TOP / "examples" / "games.pgn").read_bytes()
     answer = mend("-", data=examples)
     assert (answer.status, answer.out) == (1, examples)
+
+
+class Written:
+    """What a mender writes and tells."""
+
+    def __init__(self, path: Path) -> None:
+        self.out, self.told = b"", list[Told]()
+        self.sums = Mender(archives.single(str(path)), CLASSES, self, self.told.append).run()
+
+    def same(self, data: bytes) -> None:
+        self.out += data
+
+    def changed(self, _old: bytes, new: bytes) -> None:
+        self.out += new
+
+
+ALPHABET = b'()[]{}"\\;%$!?*.-+=#/:, \n\r1abehBNKQRSOo\x00\x1a\xa0\xef'
+
+
+@pytest.mark.usefixtures("cqlpgn", "pgnjson", "pgnpieces")
+@pytest.mark.parametrize("seed", range(12))
+def test_drawn_archives(room: Path, seed: int) -> None:
+    """Games with some wrong bytes: the changes that are told are those between the archives, all of them in games that are faulty; and
+    what is mended is read."""
+    draw = random.Random(seed)
+    data = bytearray((TOP / "examples" / "games.pgn").read_bytes())
+    for _ in range(8):
+        data[draw.randrange(len(data))] = draw.choice(ALPHABET)
+    (room / "a.pgn").write_bytes(data)
+    written, made = Written(room / "a.pgn"), bytes(data)
+    faulty, before = set[int](), 0
+    for span in pgn.cut(bytes(data)):
+        faulty.update(range(before, span[1] + 1) if isinstance(pgn.read_game(bytes(data), span), tuple) else ())
+        before = span[1]
+    for told in reversed([told for told in written.told if isinstance(told.said, Change)]):
+        assert isinstance(told.said, Change) and told.byte in faulty and data[told.byte :].startswith(told.old)
+        made = made[: told.byte] + told.said.new + made[told.byte + len(told.old) :]
+    assert made == written.out
+    refused = sum(isinstance(game, tuple) for game in program.games_of(written.out))
+    assert (refused == 0) == (written.sums.mended == written.sums.faulty)
+
+
+def test_the_manual_has_all_options_and_classes() -> None:
+    page = (TOP / "docs" / "cqlpgn-mend.1").read_text()
+    assert [name for name in CLASSES if f".B {name}\n" not in page] == []
+    options = [option.replace("-", "\\-") for action in parser()._actions for option in action.option_strings if "help" not in option[-4:]]
+    assert [option for option in options if option != "\\-h" and option not in page] == []
 
 
 def test_a_comment_without_an_end_in_a_long_archive(mend: Mend, room: Path) -> None:

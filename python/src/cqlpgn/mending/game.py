@@ -16,6 +16,8 @@ MOST_CHANGES = 4000  # in one piece
 MOST_PROBED = 1 << 29  # bytes that are read to try changes, in one piece
 MOST_LETTERS = 1500  # of men, in a game whose language is looked for
 MOVE_FAULT = re.compile("not a move|illegal move|bad byte")
+# a move that may have the letter of another language
+FOREIGN = re.compile(r"[^\W\d_]{1,2}[-x:×]?[a-h]?[1-8]?[-x:×]?[a-h][1-8]|(?:[a-h]x)?[a-h][18]=?[^\W\d_]")
 PARAGRAPH = re.compile(rb"\r?\n[ \t\r]*\n\s*(?=\[)")
 
 
@@ -99,12 +101,14 @@ class Mending:
                 if made is not None or self._why:
                     yield from [made] if made is not None else []
                     return
+            if FOREIGN.match(onward) and "letters" in self._kinds:
+                yield from self._by_language(fault, begin)
+                if self._why:
+                    return
         for kind, back, ahead, new in signs.matching(fault.reason, before, onward):
             if kind in self._kinds:
                 first = at - len(_bytes(before[len(before) - back :]))
                 yield self._changed(first, at + len(_bytes(onward[:ahead])), new, kind, fault)
-        if MOVE_FAULT.fullmatch(fault.reason) and "letters" in self._kinds:
-            yield from self._by_language(fault, begin)
         yield from self._by_lines(fault, begin)
         yield from self._by_brackets(fault, begin)
 

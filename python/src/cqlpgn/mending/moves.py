@@ -15,12 +15,16 @@ SQUARE = "[a-h][1-8]"
 # the word of a move: it may have a blank around its dash, and a promotion in parentheses
 SIGN = r"[^\s(){}\[\];\"$.!?,]"
 PROMOTED = r"(?:[=/]?\([QRBNqrbn]\))"
-WORD = re.compile(rf"[KQRBN]?{SQUARE} ?{DASH} ?{SQUARE}(?:[=/]?[QRBNqrbn]|{PROMOTED})?[+#]*|{SIGN}+?(?:{PROMOTED}[+#]*|e\.\s?p\.)|{SIGN}+")
+WORD = re.compile(
+    rf"[KQRBN]?{SQUARE} ?(?:{DASH}|[x:X×]) ?{SQUARE}(?:[=/]?[QRBNqrbn]|{PROMOTED})?[+#]*|{SIGN}+?(?:{PROMOTED}[+#]*|e\.\s?p\.)|{SIGN}+"
+)
 CHECK = r"(?:dis(?:c)?\.?\s?ch|dbl\.?\s?ch|ch(?:eck)?|mate|[+#†‡]+|e\.?p)\.?"
 SIGNS = "|".join(map(re.escape, sorted(EVALUATIONS, key=len, reverse=True)))
 TAILS = re.compile(rf"(?P<core>.*?[a-h1-8QRBNqrbn)O0oODTLSFCAVWH])(?P<tail>x|{CHECK}|{SIGNS})\Z")
 CASTLES = re.compile(rf"([oO0])(?:{DASH})?\1(?P<long>(?:{DASH})?\1)?")
-SQUARES = re.compile(rf"(?P<man>[KQRBNkqrbn]?)(?P<from>{SQUARE}) ?(?:{DASH}|[x:X×])? ?(?P<to>{SQUARE})[=/]?\(?(?P<new>[QRBNqrbn]?)\)?")
+SQUARES = re.compile(
+    rf"(?P<man>[KQRBNkqrbn]?)(?P<from>{SQUARE}) ?(?P<sign>{DASH}|[x:X×])? ?(?P<to>{SQUARE})[=/]?\(?(?P<new>[QRBNqrbn]?)\)?"
+)
 SHORT = re.compile(r"(?P<from>[a-h])[x:X×]?(?P<to>[a-h])(?:[=/]?\(?(?P<new>[QRBNqrbn])\)?)?")
 CAPTURE = re.compile(rf"(?P<man>[KQRBNP]?[a-h]?[1-8]?)[:X×](?P<to>{SQUARE}.*)")
 PROMOTION = re.compile(r"(?P<move>(?:[a-h]x?)?[a-h][18])[=/]?\(?(?P<new>[qrbnQRBN])\)?")
@@ -40,7 +44,7 @@ def _cores(word: str) -> Iterator[Spelling]:
     if found := CAPTURE.fullmatch(word):
         yield "captures", f"{found['man']}x{found['to']}"
     if found := SQUARES.fullmatch(word):
-        yield from _by_squares(found["man"].upper(), found["from"], found["to"], found["new"].upper())
+        yield from _by_squares(found["man"].upper(), found["from"], found["to"], found["new"].upper(), (found["sign"] or " ") in "x:X×")
     if found := SHORT.fullmatch(word):
         new = f"={found['new'].upper()}" if found["new"] else ""
         ranks = "18" if new else "234567"
@@ -59,12 +63,12 @@ def _cores(word: str) -> Iterator[Spelling]:
         yield "letters", "".join(FIGURINES.get(sign, sign) for sign in word)
 
 
-def _by_squares(man: str, start: str, goal: str, new: str) -> Iterator[Spelling]:
+def _by_squares(man: str, start: str, goal: str, new: str, takes: bool) -> Iterator[Spelling]:
     if man in ("", "K") and start + goal in CASTLED:
         yield "castling", CASTLED[start + goal]
     promotion = f"={new}" if new else ""
     for letter in [man] if man else ["", *"NBRQK"]:
-        yield "notation", f"{letter}{start}{goal}{promotion}"
+        yield "captures" if takes else "notation", f"{letter}{start}{'x' * takes}{goal}{promotion}"
 
 
 def spellings(word: str) -> Iterator[Spelling]:

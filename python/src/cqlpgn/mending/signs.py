@@ -18,7 +18,8 @@ EITHER = f"{MOVE}|{BYTE}"
 END = r"(?=\s*(?:\[|\Z)|\s*\n\s*\n\s*1\.)"  # of a game
 DASHES = r"[-:\u2010-\u2015\u2212\udc96\udc97]"
 HALF = r"(?:1/2|½|\udcbd)"
-SAN = re.compile(r"(?:^|[\s.])(?:[KQRBN][a-h]?[1-8]?x?[a-h][1-8]|[a-h]x?[a-h]?[1-8]|O-O)")
+# what may be a move, of whatever language
+SAN = re.compile(r"(?:^|[\s.])(?:[^\W\d_]{0,2}[a-h]?[1-8]?[-x:]?[a-h][1-8]|O-O)(?![\w@])")
 
 
 @dataclass(frozen=True)
@@ -97,7 +98,8 @@ RULES = [
     Rule("remarks", "not a move|bad byte", r"[^(){}\n;]*\)", _remark, r"\([\s\d.]*"),
     Rule("remarks", "variation without move", r"\([^(){}\n;]*\)", _remark),
     Rule("tags", "bad tag", r"(?=\[\s*[A-Za-z0-9]\w*\s*\")", "", r"(?<=\n)[ \t]+"),
-    Rule("tags", "bad tag", r"(?=\[\s*[A-Za-z0-9]\w*\s*\")", "\n", r"(?<=[\s\w*])"),
+    Rule("tags", "bad tag", r"(?=\[\s*[A-Za-z0-9]\w*\s*\")", "\n", r"(?<=\r)"),
+    Rule("tags", "bad tag", r"(?=\[Event\s*\")", "\n", r"(?<=[\s\w*])"),
 ]  # fmt: skip
 
 
