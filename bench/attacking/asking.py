@@ -163,6 +163,15 @@ def has_come(file: int, seconds: float) -> bool:
     return bool(waiting.poll(seconds * 1000))
 
 
+def peak(number: int) -> float:
+    """The greatest resident size of a process so far, in MB. What wait4 tells has in it that of the process that began it."""
+    try:
+        found = re.search(r"VmHWM:\s*(\d+)", Path(f"/proc/{number}/status").read_text(encoding="utf-8", errors="replace"))
+    except OSError:
+        return 0.0
+    return int(found[1]) / 1024 if found else 0.0
+
+
 def has_ended(number: int) -> bool:
     """Whether a process has ended, and nobody has asked for its status yet, or somebody has."""
     try:
@@ -243,8 +252,9 @@ class Running:
 
     def end(self, patience: float, lingers: float = 0.5) -> Seen:
         """Waits so long for its end, and ends it and all that it has left."""
-        usage, status, limit = None, 0, self.begun + patience
+        memory, limit = 0.0, self.begun + patience
         while True:
+            memory = max(memory, peak(self.process.pid))
             number, code, usage = os.wait4(self.process.pid, os.WNOHANG)
             if number or time.monotonic() > limit:
                 break
@@ -262,7 +272,7 @@ class Running:
             stream.seek(0)
             said.append(stream.read(64 * MEGABYTE))
             stream.close()
-        return Seen(status, said[0], said[1], seconds, usage.ru_utime + usage.ru_stime, usage.ru_maxrss / 1024, is_hung, left)
+        return Seen(status, said[0], said[1], seconds, usage.ru_utime + usage.ru_stime, memory, is_hung, left)
 
 
 def ask(

@@ -11,7 +11,7 @@ from collections.abc import Iterator
 from itertools import product
 from pathlib import Path
 
-from .asking import MEGABYTE, Bounds, Place, Running, ask, has_ended
+from .asking import MEGABYTE, Bounds, Place, Running, Seen, ask, has_ended
 from .inputs import GAME, MARKED, QUERY, pipe, written, zipped
 from .served import Desk
 
@@ -55,20 +55,26 @@ def small_zips(place: Place) -> Iterator[str]:
                 yield f"{told}: {memory:.0f} MB" if memory > MOST + 60 else ""
 
 
+def _is_bounded(seen: Seen) -> bool:
+    """Whether a zip is refused because it has so many members, in words."""
+    return seen.status == 5 and b"more than" in seen.err and not seen.trouble()
+
+
 def many_members(place: Place) -> Iterator[str]:
     """Point 7: zips of many members; what one more costs, a bound, and how often the page is told their names."""
     long = "n" * 150
     shapes = {"short": "{}.pgn", "long": long + "{}.pgn", "folders": "a/b/c/{}.pgn", "capitals": "{}.PGN"}
-    for (shape, name), others in product(shapes.items(), (6000, 12000)):
+    for (shape, name), others in product(shapes.items(), (4000, 9000)):
         work = []
         for number in (30, 230):
             members = {name.format(one): b"" for one in range(number)} | {f"{long}{one}.txt": b"" for one in range(others)}
             path = zipped(place.work / f"{shape}{others}-{number}.zip", members, zipfile.ZIP_STORED)
             seen = ask(place, place.command("over", "-q", QUERY, path), patience=60)
             work.append(seen.work)
-            if said := seen.trouble((1,)):
+            said = "" if _is_bounded(seen) else seen.trouble((1,))
+            if said or seen.status == 5:
                 break
-        each = (work[-1] - work[0]) / 200
+        each = (work[-1] - work[0]) / 200 if len(work) > 1 else 0.0
         # a member takes some ms by itself, and a reading of the directory 30 to 100 ms
         yield said or (f"{each * 1000:.0f} ms of a processor for each member, beside {others} other files" if each > 0.025 else "")
     path = zipped(place.work / "very-many.zip", {f"{one}.pgn": b"" for one in range(70000)}, zipfile.ZIP_STORED)

@@ -16,7 +16,7 @@ from pathlib import Path
 from types import TracebackType
 from typing import Any
 
-from .asking import USUAL, Bounds, Place, Untried, ended, has_come
+from .asking import USUAL, Bounds, Place, Untried, ended, has_come, peak
 
 ADDRESS = re.compile(rb"http://127\.0\.0\.1:(\d+)/([^/\s]+)/")
 
@@ -68,8 +68,7 @@ class Desk:
 
     def memory(self) -> float:
         """The greatest resident size so far, in MB."""
-        found = re.search(r"VmHWM:\s*(\d+)", Path(f"/proc/{self.process.pid}/status").read_text(encoding="ascii"))
-        return int(found[1]) / 1024 if found else 0.0
+        return peak(self.process.pid)
 
     def ends(self, kind: int = signal.SIGINT, patience: float = 8.0) -> str:
         """What is to be said of its end after a signal: nothing, where it ends in time with status 0."""
