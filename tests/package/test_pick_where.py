@@ -107,7 +107,14 @@ def test_conditions(asked: Asking, expression: str, wanted: list[int]) -> None:
 
 
 def test_variations(asked: Asking) -> None:
-    for expression, wanted in (("glyph = 2", [1]), ('comment ~ "time"', [1]), ("eval < -100000", [1, 4]), ("plies = 3", [1])):
+    for expression, wanted in (
+        ("glyph = 2", [1]),
+        ('comment ~ "time"', [1]),
+        ("eval < -100000", [1, 4]),
+        ("plies = 3", [1]),
+        ("white glyph = 2", [1]),
+        ("black glyph = 2", []),
+    ):
         assert numbers(asked, "--variations", "--where", expression) == wanted
 
 

@@ -14,7 +14,7 @@ import operator
 import os
 import re
 import warnings
-from collections.abc import Callable, Iterator
+from collections.abc import Callable, Iterable, Iterator
 from difflib import get_close_matches
 from typing import Any, NamedTuple, NoReturn
 
@@ -46,6 +46,11 @@ FIELDS = {
     "clock": "the clock after a move, in seconds, from [%clk]",
     "eval": "the evaluation after a move, in pawns, from [%eval]; a mate is beyond every number",
 }
+MEASURED: dict[str, Callable[[Facts, str | None], Iterable[Any]]] = {
+    "glyph": Facts.glyphs,
+    "clock": Facts.clocks,
+    "eval": Facts.evaluations,
+}
 WORDS = [*FIELDS, "tag", "white", "black", "and", "or", "not"]
 GLYPHS = {"!": 1, "?": 2, "!!": 3, "??": 4, "!?": 5, "?!": 6}
 # What other languages write, at the place of a fault, and what to write instead.
@@ -62,7 +67,7 @@ SLIPS = [
     (r"\d+:\d", "a time stands in double quotes for a tag, and in seconds for `clock`"),
     (r"\d", "a number is written as 2400 or -1.5, a date as 1990, 1990.05 or 1990.05.31"),
 ]
-DEEPEST, LONGEST, PATIENCE = 100, 20_000, 1.0
+DEEPEST, LONGEST, SHORT, PATIENCE = 100, 20_000, 200, 1.0
 
 
 class Token(NamedTuple):
@@ -106,7 +111,12 @@ def _search(pattern: str, fault: Callable[[str, str | None], Fault]) -> Callable
     if not any(sign in pattern for sign in "\\^$.|?*+()[]{}"):
         return lambda value: pattern in value
 
+    # one repetition at most, and no choice: no more steps than the square of the length, and to look at the clock costs more than these
+    is_plain = not set(pattern) & set("|(") and sum(map(pattern.count, "*+?{")) <= 1
+
     def found(value: str) -> bool:
+        if is_plain and len(value) < SHORT:
+            return compiled.search(value) is not None
         try:
             return compiled.search(value, timeout=PATIENCE) is not None
         except TimeoutError as late:
@@ -259,11 +269,7 @@ class _Parser:
         if name == "comment":
             return _some(Facts.comments, self._text_test(sign), side)
         test = self._number(sign, name)
-        if name == "glyph":
-            return _some(Facts.glyphs, test, side)
-        values = Facts.clocks if name == "clock" else Facts.evaluations
-        sided = side is not None
-        return _some(lambda facts: values(facts, sided), test, side)
+        return _some(MEASURED[name], test, side)
 
     def _text_test(self, sign: Token) -> Callable[[str], bool]:
         value = self._take()
@@ -313,13 +319,6 @@ def _unquoted(text: str) -> str:
     return text[1:-1].replace('\\"', '"')
 
 
-def _some(values: Callable[[Facts], Any], test: Callable[[Any], bool], side: str | None) -> Asked:
+def _some(values: Callable[[Facts, str | None], Iterable[Any]], test: Callable[[Any], bool], side: str | None) -> Asked:
     """Whether some value of a move, or of one of that side, passes a test."""
-    if side is None:
-        return lambda facts: any(test(value) for _, value in values(facts))
-
-    def asked(facts: Facts) -> bool:
-        wanted = facts.starts_with if side == "white" else 1 - facts.starts_with
-        return any(test(value) for ply, value in values(facts) if ply and ply % 2 == wanted)
-
-    return asked
+    return lambda facts: any(map(test, values(facts, side)))

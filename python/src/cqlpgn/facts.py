@@ -7,35 +7,35 @@ from __future__ import annotations
 
 import json
 import re
-from collections.abc import Callable, Iterator
+from collections.abc import Callable
 from functools import lru_cache
 from math import inf
 
-from .games import Game, game_of
+from .games import NODE, Game, game_of
 
 NODES = b'"nodes":['
-PLY = '"ply":'
+PLY = re.compile(r'"ply":(\d+)', re.ASCII)
+# within so many letters a node has its ply
+WITHIN = 40
 CLOCK = re.compile(r"\[%clk (\d{1,4}):(\d{1,2}):(\d{1,2}(?:\.\d{1,6})?)\]", re.ASCII)
-EVALUATION = re.compile(r"\[%eval (?:#(?P<mate>[+-]?\d{1,4})|(?P<pawns>[+-]?\d{0,6}\.?\d{1,6}))(?:,\d{1,4})?\]", re.ASCII)
+EVALUATION = re.compile(r"\[%eval (?:#([+-]?\d{1,4})|([+-]?\d{0,6}\.?\d{1,6}))(?:,\d{1,4})?\]", re.ASCII)
 GLYPHS = re.compile(r'"nags":\[([\d,]+)\]', re.ASCII)
-COMMENTS = '"comments":'
+COMMENTS = re.compile(r'"comments":\[((?:"[^"\\]*(?:\\.[^"\\]*)*",?)+)\]')
 NUMBER = re.compile(r"\s*([+-]?\d{1,300}(?:\.\d{1,300})?)\s*", re.ASCII)
 DATE = re.compile(r"(\d{4})(?:[./-]([\d?]{1,2})(?:[./-]([\d?]{1,2}))?)?", re.ASCII)
 decode = json.JSONDecoder().raw_decode
-# Of a move: how many moves led there, 0 the start, and the value.
-Said = tuple[int, float]
 
 
-def seconds(found: re.Match[str]) -> float:
+def seconds(hours: str, minutes: str, rest: str) -> float:
     """What a clock shows, in seconds."""
-    return int(found[1]) * 3600 + int(found[2]) * 60 + float(found[3])
+    return int(hours) * 3600 + int(minutes) * 60 + float(rest)
 
 
-def pawns(found: re.Match[str]) -> float:
+def pawns(mate: str, number: str) -> float:
     """An evaluation in pawns; a mate is beyond every number."""
-    if mate := found["mate"]:
+    if mate:
         return -inf if mate.startswith("-") else inf
-    return float(found["pawns"])
+    return float(number)
 
 
 @lru_cache(maxsize=4096)
@@ -65,8 +65,8 @@ class Facts:
         self.result: str = head["result"]
         self.line, self._variations = line, variations
         self._game: Game | None = None
-        self._nodes: str | None = None
-        self._known: dict[re.Pattern[str], list[Said]] = {}
+        self._nodes: dict[str | None, str] = {}
+        self._known: dict[tuple[re.Pattern[str], str | None], list[float]] = {}
 
     @property
     def game(self) -> Game:
@@ -80,62 +80,51 @@ class Facts:
         """How many moves the main line has."""
         return self.game.plies
 
-    @property
-    def starts_with(self) -> int:
-        """1 where White has the first move, so that White's moves are those of odd numbers, else 0."""
-        return int(self.game.start.split(" ")[1] == "w")
-
-    @property
-    def nodes(self) -> str:
-        """The nodes that are asked, as they stand in the line."""
-        if self._nodes is None:
-            self._nodes = self.game.line[self.game.at :] if self._variations else self.game.main_line
-        return self._nodes
-
-    def _ply(self, at: int) -> int:
-        """Of the node in which a place is."""
-        begin = self.nodes.rfind(PLY, 0, at) + len(PLY)
-        return int(self.nodes[begin : self.nodes.index(",", begin)])
-
-    def measured(self, pattern: re.Pattern[str], sign: str, value_of: Callable[[re.Match[str]], float], sided: bool) -> list[Said]:
-        """The values that comments have by a pattern, which begins with the sign; without `sided` the moves are not looked for."""
-        if sign.encode() not in self.line:
-            return []
-        known = self._known.get(pattern)
-        if known is None or sided and any(ply < 0 for ply, _ in known):
-            known = [(0, value_of(found)) for comment in self.game.comments for found in pattern.finditer(comment)]
-            known += [(self._ply(found.start()) if sided else -1, value_of(found)) for found in pattern.finditer(self.nodes)]
-            self._known[pattern] = known
+    def nodes(self, side: str | None) -> str:
+        """The nodes that are asked, those of a side's moves or all, as they stand in the line."""
+        known = self._nodes.get(side)
+        if known is None:
+            game = self.game
+            known = game.line[game.at :] if self._variations else game.main_line
+            if side is not None:
+                # White's moves are those of odd numbers where White begins
+                odd = (side == "white") == (game.start.split(" ")[1] == "w")
+                nodes = known.split(NODE)[1:]
+                if self._variations:
+                    known = "".join(node for node in nodes if int(PLY.findall(node, 0, WITHIN)[0]) % 2 == odd)
+                else:
+                    known = "".join(nodes[1 - odd :: 2])
+            self._nodes[side] = known
         return known
 
-    def clocks(self, sided: bool) -> list[Said]:
+    def _measured(self, pattern: re.Pattern[str], sign: bytes, side: str | None, value_of: Callable[..., float]) -> list[float]:
+        if sign not in self.line:
+            return []
+        known = self._known.get((pattern, side))
+        if known is None:
+            before = self.game.comments if side is None else []
+            said = [found for text in (*before, self.nodes(side)) for found in pattern.findall(text)]
+            known = self._known[pattern, side] = [value_of(*found) for found in said]
+        return known
+
+    def clocks(self, side: str | None) -> list[float]:
         """What clocks show after moves, in seconds."""
-        return self.measured(CLOCK, "[%clk ", seconds, sided)
+        return self._measured(CLOCK, b"[%clk ", side, seconds)
 
-    def evaluations(self, sided: bool) -> list[Said]:
+    def evaluations(self, side: str | None) -> list[float]:
         """Evaluations of moves, in pawns."""
-        return self.measured(EVALUATION, "[%eval ", pawns, sided)
+        return self._measured(EVALUATION, b"[%eval ", side, pawns)
 
-    def glyphs(self) -> Iterator[Said]:
-        """The glyphs of moves, by their numbers."""
+    def glyphs(self, side: str | None) -> list[int]:
+        """The glyphs of moves, and of the start where all are asked, by their numbers."""
         if b'"nags":[' not in self.line:
-            return
-        for glyph in self.game.nags:
-            yield 0, glyph
-        for found in GLYPHS.finditer(self.nodes):
-            ply = self._ply(found.start())
-            for word in found[1].split(","):
-                yield ply, int(word)
+            return []
+        found = [int(word) for words in GLYPHS.findall(self.nodes(side)) for word in words.split(",")]
+        return found if side else self.game.nags + found
 
-    def comments(self) -> Iterator[tuple[int, str]]:
-        """The comments of moves, and of the start, whose ply is 0."""
-        if COMMENTS.encode() not in self.line:
-            return
-        for comment in self.game.comments:
-            yield 0, comment
-        nodes, at = self.nodes, 0
-        while (at := nodes.find(COMMENTS, at)) >= 0:
-            ply = self._ply(at)
-            found, at = decode(nodes, at + len(COMMENTS))
-            for comment in found:
-                yield ply, comment
+    def comments(self, side: str | None) -> list[str]:
+        """The comments of moves, and of the start where all are asked."""
+        if b'"comments":[' not in self.line:
+            return []
+        found: list[str] = json.loads("[" + ",".join(COMMENTS.findall(self.nodes(side))) + "]")
+        return found if side else self.game.comments + found
