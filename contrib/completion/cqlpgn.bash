@@ -105,6 +105,25 @@ _cqlpgn_rows() {
     esac
 }
 
+_cqlpgn_pick() {
+    local word=${COMP_WORDS[COMP_CWORD]} before=${COMP_WORDS[COMP_CWORD - 1]}
+    COMPREPLY=()
+    case $before in
+        --where | --sample | --seed | --split | --limit) return ;;
+        --by) mapfile -t COMPREPLY < <(compgen -W 'moves players' -- "$word"); return ;;
+        --split-by) mapfile -t COMPREPLY < <(compgen -W 'year player Event White Black ECO' -- "$word"); return ;;
+        --workers) mapfile -t COMPREPLY < <(compgen -W '1 2 4 8 16 32 64' -- "$word"); return ;;
+        --rows) _cqlpgn_files csv "$word"; return ;;
+        -o) _cqlpgn_files pgn "$word"; return ;;
+    esac
+    case $word in
+        -*)
+            mapfile -t COMPREPLY < <(compgen -W '--where --variations --faulty --duplicates --by --rows --sample --seed -v --as-given \
+                --split-by --split -o --workers --limit --help' -- "$word") ;;
+        *) _cqlpgn_files 'pgn|gz|bz2|xz|zst|zip' "$word" ;;
+    esac
+}
+
 _cqlpgn_desk() {
     local word=${COMP_WORDS[COMP_CWORD]}
     COMPREPLY=()
@@ -139,4 +158,5 @@ complete -o nospace -F _cqlpgn_split cqlpgn-split
 complete -o filenames -F _cqlpgn_problems cqlpgn-problems
 complete -o filenames -F _cqlpgn_diagrams cqlpgn-diagrams
 complete -o filenames -F _cqlpgn_rows cqlpgn-rows
+complete -o filenames -F _cqlpgn_pick cqlpgn-pick
 complete -o filenames -F _cqlpgn_desk cqlpgn-desk

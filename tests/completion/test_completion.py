@@ -43,6 +43,9 @@ LINES = [
     ("cqlpgn-desk --", "--port --runs --no-browser"),
     ("cqlpgn-diagrams g", "games.pgn"),
     ("cqlpgn-rows p", "packed.pgn.gz"),
+    ("cqlpgn-pick g", "games.pgn"),
+    ("cqlpgn-pick --", "--where --variations --faulty --duplicates --by --rows --sample --seed --as-given --split-by --split"),
+    ("cqlpgn-pick --by ", "moves players"),
 ]
 
 BASH = r"""

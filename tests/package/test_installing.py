@@ -13,7 +13,9 @@ import pytest
 from tests.conftest import BIN, TOP
 from tests.processes import PATIENCE
 
-COMMANDS = ["cqlpgn-desk", "cqlpgn-diagrams", "cqlpgn-mend", "cqlpgn-over", "cqlpgn-problems", "cqlpgn-rows", "cqlpgn-split"]
+COMMANDS = [
+    *("cqlpgn-desk", "cqlpgn-diagrams", "cqlpgn-mend", "cqlpgn-over", "cqlpgn-pick", "cqlpgn-problems", "cqlpgn-rows", "cqlpgn-split"),
+]
 # What a command is run with: no variable that names a place of the package.
 ENVIRONMENT = {name: value for name, value in os.environ.items() if name != "PYTHONPATH"}
 

@@ -62,6 +62,23 @@ class Game:
     is_start_marked: bool
     line: str = field(repr=False)
     at: int = field(repr=False)
+    nags: list[int] = field(default_factory=list)
+
+    @property
+    def main_line(self) -> str:
+        """The nodes of the main line as they stand in `line`, of which they are a first part."""
+        line, at = self.line, self.at
+        if not self._has_variations:
+            return line[at:]
+        for number, found in enumerate(PARENT.finditer(line, at)):
+            if int(found[1]) != number:
+                return line[at : found.start()]
+        return line[at:]
+
+    @property
+    def plies(self) -> int:
+        """How many moves the main line has, null moves included."""
+        return self._place(self.line.rfind(NODE, self.at))[1] if not self._has_variations else self.main_line.count(NODE)
 
     @cached_property
     def _depths(self) -> list[int]:
@@ -130,7 +147,16 @@ def game_of(line: str) -> Game:
     head = json.loads(line[:at] + "[]}")
     tags = dict(head["tags"])
     return Game(
-        head["game"], head["byte"], tags, head["start"], head["result"], head.get("comments", []), head.get("marked", False), line, at
+        head["game"],
+        head["byte"],
+        tags,
+        head["start"],
+        head["result"],
+        head.get("comments", []),
+        head.get("marked", False),
+        line,
+        at,
+        head.get("nags", []),
     )
 
 
@@ -174,9 +200,14 @@ class Reader:
         self.process = Process(words, blocks=blocks, err=err, program=executable("PGNJSON", "pgnjson"), stdin=stdin)
 
     def __iter__(self) -> Iterator[Game]:
+        for line in self.lines():
+            yield game_of(line.decode())
+
+    def lines(self) -> Iterator[bytes]:
+        """The games as pgnjson writes them, a line for each."""
         for line in self.process.out:
             if line.endswith(b"\n"):  # else it was ended within a line, as its status says
-                yield game_of(line.decode())
+                yield line
         self.status = self.process.finish()
         raise_for(self.status, shown(self._name))
 
