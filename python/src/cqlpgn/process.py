@@ -2,6 +2,8 @@
 
 from __future__ import annotations
 
+import contextlib
+import fcntl
 import os
 import re
 import shutil
@@ -14,6 +16,7 @@ from types import TracebackType
 from typing import IO, BinaryIO
 
 from .errors import STATUS_WORDS, Error, NotFound, Stopped, Unreadable
+from .launch import Launch, lasting
 from .signals import unbroken
 
 # what a pipe holds, so that two programs seldom wait for one another
@@ -44,6 +47,12 @@ class FaultyGame:
     game: int
     byte: int
     reason: str
+
+
+def widen(stream: IO[bytes]) -> None:
+    """Asks for a larger pipe; a user who has many of them does with a small one."""
+    with contextlib.suppress(OSError, AttributeError):
+        fcntl.fcntl(stream, fcntl.F_SETPIPE_SZ, BUFFER)
 
 
 def read_line(line: str) -> Counts | FaultyGame | None:
@@ -85,7 +94,7 @@ class Process:
     """A run of cqlpgn, or of another program, whose standard input is fed from a thread where there are blocks to feed.
 
     `words` are those after the program's name; the word `QUERY` among them becomes the name of a file with the bytes of `query`, in
-    memory alone where that can be. At the end of the `with` nothing of it is left, whatever ended it.
+    memory alone where that can be. At the end of the `with` nothing of it is left, whatever ended it; and it ends with this process.
     """
 
     QUERY = "/QUERY/"
@@ -111,11 +120,8 @@ class Process:
                 self._room.flush()
             call += [name or self._room_name if word == self.QUERY else word for word in words]
             source = subprocess.PIPE if blocks is not None else stdin
-            with unbroken(), _starting:
-                self._process = subprocess.Popen(
-                    call, stdin=source, stdout=out, stderr=err, pass_fds=(file,), bufsize=BUFFER, pipesize=BUFFER
-                )
-                _running.add(self)
+            with unbroken(), Launch(call, (file,)) as launch:
+                self._begin(launch, source, out, err)
         except OSError as fault:
             raise NotFound(f"{call[0]}: {fault.strerror}") from fault
         finally:
@@ -123,6 +129,22 @@ class Process:
         if blocks is not None:
             self._thread = threading.Thread(target=self._feed, args=(blocks,), daemon=True)
             self._thread.start()
+
+    def _begin(self, launch: Launch, stdin: int | IO[bytes] | None, out: int | IO[bytes] | None, err: int | IO[bytes] | None) -> None:
+        def begun() -> subprocess.Popen[bytes]:
+            return subprocess.Popen(launch.call, stdin=stdin, stdout=out, stderr=err, pass_fds=launch.files, bufsize=BUFFER)
+
+        with _starting:
+            self._process = lasting(begun)
+            _running.add(self)
+        for stream in (self._process.stdin, self._process.stdout, self._process.stderr):
+            if stream is not None:
+                widen(stream)
+        try:
+            launch.wait()
+        except OSError:
+            self.__exit__(None, None, None)
+            raise
 
     @property
     def _room_name(self) -> str:

@@ -4,24 +4,31 @@ from __future__ import annotations
 
 import argparse
 import asyncio
+import contextlib
 import logging
 import os
 import signal
+import socket
 import tempfile
 import webbrowser
 from collections.abc import Sequence
+from typing import TYPE_CHECKING
 
 from ..errors import Error, NotFound
 from ..files import shown
-from ..process import executable
+from ..process import end_all, executable
 from .ends import run, say
 from .words import Parser
+
+if TYPE_CHECKING:
+    from ..desk.server import Desk
 
 EPILOG = """The page is served to this machine alone, and to whoever knows the address that is printed. Archives are *.pgn, plain or
 packed (gz, bz2, xz, zst, zip). Nothing is written into FOLDER but the queries that are saved. Ctrl+C ends the desk and all that it has
 started. The exit status is 0; 3 for words that are not as above; 4 where the folder, a program or a package of Debian is not there, or the
 port is taken. CQLPGN and PGNJSON name the programs, if they are not those on the path."""
-WAITING = 4096  # connections that may wait while the desk has much to do; the system resets what comes beyond
+WAITING = 1024  # connections that may wait while the desk has much to do; the system resets what comes beyond
+GRACE = 3.0  # seconds that what is under way has at the end
 
 
 def parser() -> argparse.ArgumentParser:
@@ -53,6 +60,7 @@ async def serve(flags: argparse.Namespace, program: str) -> None:
     """Serves the page until a signal ends it. Raises `NotFound` where the port can't be had."""
     from aiohttp import web
 
+    from ..desk.door import Door
     from ..desk.server import Desk
 
     desk = Desk(flags.folder, program, max(1, flags.runs))
@@ -61,27 +69,58 @@ async def serve(flags: argparse.Namespace, program: str) -> None:
     over = asyncio.Event()
     for kind in (signal.SIGINT, signal.SIGTERM, signal.SIGHUP):
         asyncio.get_running_loop().add_signal_handler(kind, over.set)
-    try:
-        await web.TCPSite(runner, "127.0.0.1", flags.port, shutdown_timeout=3.0, backlog=WAITING).start()
-    except (OSError, OverflowError) as fault:
-        await runner.cleanup()
-        raise NotFound(f"port {flags.port} can't be had: {getattr(fault, 'strerror', None) or fault}") from fault
-    desk.host = f"127.0.0.1:{runner.addresses[0][1]}"
+    assert runner.server is not None
+    with listening(flags.port) as port:
+        desk.host = f"127.0.0.1:{port.getsockname()[1]}"
+        door = asyncio.create_task(Door(runner.server).open(port))
+        try:
+            await greeted(desk, over, is_led=not flags.no_browser)
+            await over.wait()
+        finally:
+            door.cancel()
+            await runner.shutdown()
+            await runner.server.shutdown(GRACE)
+            await runner.cleanup()
+
+
+async def greeted(desk: Desk, over: asyncio.Event, is_led: bool) -> None:
+    """Tells the address, and waits until the first page has come, or the end. The file that leads the browser there goes then; somebody
+    else may have taken it away."""
     address = f"http://{desk.host}/{desk.token}/"
-    path = None
+    say(f"The desk of {shown(desk.shared.folder.path)} is at {address}\nCtrl+C ends it.")
+    path = led_on(address) if is_led else None
+    first = [asyncio.create_task(event.wait()) for event in (desk.seen, over)]
     try:
-        say(f"The desk of {shown(desk.shared.folder.path)} is at {address}\nCtrl+C ends it.")
-        path = None if flags.no_browser else led_on(address)
-        first = [asyncio.create_task(event.wait()) for event in (desk.seen, over)]
         await asyncio.wait(first, return_when=asyncio.FIRST_COMPLETED)
-        if path is not None:
-            os.unlink(path)
-            path = None
-        await over.wait()
     finally:
-        await runner.cleanup()
+        for task in first:
+            task.cancel()
         if path is not None:
-            os.unlink(path)
+            with contextlib.suppress(OSError):
+                os.unlink(path)
+
+
+def listening(port: int) -> socket.socket:
+    """A port of this machine. Raises `NotFound` where it can't be had."""
+    try:
+        made = socket.create_server(("127.0.0.1", port), backlog=WAITING)
+    except (OSError, OverflowError) as fault:
+        raise NotFound(f"port {port} can't be had: {getattr(fault, 'strerror', None) or fault}") from fault
+    made.setblocking(False)
+    return made
+
+
+def served(flags: argparse.Namespace, program: str) -> None:
+    """Serves the page until a signal ends it. No thread is waited for that still reads an archive: it ends with the process."""
+    loop = asyncio.new_event_loop()
+    try:
+        loop.run_until_complete(serve(flags, program))
+    finally:
+        end_all()
+        if left := asyncio.all_tasks(loop):
+            for task in left:
+                task.cancel()
+            loop.run_until_complete(asyncio.wait(left, timeout=GRACE))
 
 
 def main(words: Sequence[str]) -> int:
@@ -98,7 +137,7 @@ def main(words: Sequence[str]) -> int:
         raise Error("the desk needs aiohttp, which is in Debian's package python3-aiohttp", 4) from fault
     # it would tell a traceback of each request that is none
     logging.getLogger("aiohttp.server").setLevel(logging.CRITICAL)
-    asyncio.run(serve(flags, program))
+    served(flags, program)
     return 0
 
 

@@ -4,12 +4,15 @@ from __future__ import annotations
 
 import os
 import sys
+import traceback
 from collections.abc import Callable, Sequence
 from typing import TextIO
 
 from ..errors import Error
+from ..files import shown
 from ..process import end_all
 from ..signals import Ended, raised
+from .begin import FAILED
 
 Main = Callable[[Sequence[str]], int]
 
@@ -59,11 +62,21 @@ def status_of(main: Main, words: Sequence[str]) -> int:
             except RecursionError:
                 tell("the text is nested too deep")
                 return 3
+            except Exception as fault:
+                tell(f"this is a fault of the command, please report it: {_place(fault)}")
+                return FAILED
     except Ended as end:
         end_all()
         return end.status
     except (Failed, BrokenPipeError):
         return 6
+
+
+def _place(fault: Exception) -> str:
+    """The kind of an exception, what it says, and the line that has raised it."""
+    last = traceback.extract_tb(fault.__traceback__)[-1]
+    said = str(fault).encode("utf-8", "backslashreplace").decode()
+    return f"{type(fault).__name__}: {shown(said)} ({os.path.basename(last.filename)}, line {last.lineno})"
 
 
 def _fill(number: int) -> None:

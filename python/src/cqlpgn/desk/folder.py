@@ -3,18 +3,19 @@
 from __future__ import annotations
 
 import os
+import secrets
 import stat
-import tempfile
 from collections.abc import Iterator
 from dataclasses import dataclass, field
 from io import BufferedReader
+from itertools import islice
 from typing import BinaryIO
 
 from ..archives import ENDINGS, Archive, members, named
 from ..errors import Error, Unreadable
 from ..files import shown
 
-MOST_FILES = 5000
+MOST_FILES, MOST_COUNTED = 5000, 100_000
 MOST_QUERY = 1 << 20
 QUERY = ".cql"
 AROUND = 160  # bytes before and after a fault that are shown
@@ -51,6 +52,11 @@ def _is_told(name: str) -> bool:
     return name.isprintable()
 
 
+def _told(name: str) -> str:
+    """A name that the page has sent, as it is told; it may have half a letter of UTF-16."""
+    return shown(name[:300].encode("utf-8", "replace").decode())
+
+
 class Folder:
     """A folder by its path; all names are of files below it."""
 
@@ -71,30 +77,30 @@ class Folder:
                 if stat.S_ISREG(facts.st_mode) and _is_told(told):
                     yield told, facts.st_size
 
-    def _listed(self, endings: tuple[str, ...]) -> list[tuple[str, int]]:
-        return [found for found, _ in zip(self._files(endings), range(MOST_FILES))]
-
-    def archives(self) -> list[dict[str, str | int]]:
-        """The archives, each with its name in the folder and its size in bytes."""
-        return [{"name": name, "size": size} for name, size in self._listed(ENDINGS)]
+    def archives(self) -> tuple[list[dict[str, str | int]], int]:
+        """The archives, each with its name in the folder and its size in bytes, as many as are listed; and how many more there are, where
+        more than `MOST_COUNTED` are not counted."""
+        found = self._files(ENDINGS)
+        listed: list[dict[str, str | int]] = [{"name": name, "size": size} for name, size in islice(found, MOST_FILES)]
+        return listed, sum(1 for _ in islice(found, MOST_COUNTED))
 
     def queries(self) -> list[str]:
         """The names of the saved queries."""
-        return [name for name, _ in self._listed((QUERY,))]
+        return [name for name, _ in islice(self._files((QUERY,)), MOST_FILES)]
 
     def _opened(self, name: str, endings: tuple[str, ...]) -> BinaryIO:
         """The file of this name. It is asked of the open file where it lies, so neither `..` nor a link that was just changed leads out;
         and it is opened without waiting, so that a pipe of that name does not hold up the server."""
         if not name.lower().endswith(endings) or not _is_told(name):
-            raise Refused(f"{shown(name[:300])}: is none of the files that can be read here")
+            raise Refused(f"{_told(name)}: is none of the files that can be read here")
         try:
             number = os.open(os.path.join(self.path, name), os.O_RDONLY | os.O_NONBLOCK | os.O_CLOEXEC)
         except (OSError, ValueError) as fault:
-            raise Refused(f"{shown(name[:300])}: {getattr(fault, 'strerror', None) or 'no name of a file'}") from fault
+            raise Refused(f"{_told(name)}: {getattr(fault, 'strerror', None) or 'no name of a file'}") from fault
         real = os.readlink(f"/proc/self/fd/{number}")
         if not stat.S_ISREG(os.fstat(number).st_mode) or not real.startswith(os.path.join(self.path, "")):
             os.close(number)
-            raise Refused(f"{shown(name[:300])}: is no file of this folder")
+            raise Refused(f"{_told(name)}: is no file of this folder")
         return os.fdopen(number, "rb", buffering=0)
 
     def open(self, name: str) -> list[Held]:
@@ -123,7 +129,7 @@ class Folder:
                     return _around(archive, byte)
         finally:
             several[0].raw.close()
-        raise Refused(f"{shown(name)}: is not there any more")
+        raise Refused(f"{_told(name)}: is not there any more")
 
     def query(self, name: str) -> str:
         """The text of a saved query."""
@@ -152,13 +158,14 @@ class Folder:
 
 
 def _replace(target: str, data: bytes) -> None:
-    number, beside = tempfile.mkstemp(".new", ".cqlpgn-", os.path.dirname(target))
+    """Puts a new file, which has the mode that the user's mask leaves, in the place of what has this name."""
+    beside = os.path.join(os.path.dirname(target), f".cqlpgn-{secrets.token_hex(8)}.new")
+    number = os.open(beside, os.O_WRONLY | os.O_CREAT | os.O_EXCL | os.O_CLOEXEC | os.O_NOFOLLOW, 0o666)
     try:
         with os.fdopen(number, "wb") as to:
             to.write(data)
             to.flush()
             os.fsync(to.fileno())
-        os.chmod(beside, 0o644)
         os.rename(beside, target)
     except BaseException:
         os.unlink(beside)
@@ -166,6 +173,12 @@ def _replace(target: str, data: bytes) -> None:
 
 
 def _around(archive: Held, byte: int) -> tuple[bytes, bytes]:
+    """The bytes before and from a byte. What is packed is read from its beginning. Raises `Unreadable` where there are not so many."""
+    if archive.is_plain:
+        begin, file = max(0, byte - AROUND), archive.raw.fileno()
+        if os.fstat(file).st_size < byte:
+            raise Unreadable(f"{shown(archive.name)}: has become shorter")
+        return os.pread(file, byte - begin, begin), os.pread(file, AROUND, byte)
     begin, seen, kept = max(0, byte - AROUND), 0, bytearray()
     for block in archive.blocks():
         if seen + len(block) > begin:

@@ -14,6 +14,7 @@ from collections.abc import Callable, Iterator, Sequence
 from typing import Any
 
 from ..boards import UNKNOWN
+from ..errors import Stopped
 
 MOST_BYTES = 1 << 33
 BLOCK = 1 << 18
@@ -94,20 +95,35 @@ class Found:
         return next((name for first, name in reversed(self._archives) if first <= number), "")
 
     def take(self, data: bytes) -> None:
-        """Keeps what the program has written; a game is tags, an empty line, moves, an empty line, and has no other empty line."""
+        """Keeps what the program has written; a game is tags, an empty line, moves, an empty line, and has no other empty line. Games count
+        once they are written. Raises `Full`, and `OSError` where the disk is full; nothing of these bytes is kept then."""
         self._rest += data
-        begin = 0
+        begin, ends, marks = 0, array("Q"), array("Q")
         while (tags := self._rest.find(b"\n\n", begin)) >= 0 and (last := self._rest.find(b"\n\n", tags + 2)) >= 0:
-            marks = len(self._pattern.findall(self._rest, tags, last)) if self._pattern else 0
-            self.ends.append(self.ends[-1] + last + 2 - begin)
-            self.marks.append(self.marks[-1] + marks)
             begin = last + 2
-        self._room.take(begin)
-        with memoryview(self._rest)[:begin] as whole:
-            written = 0
-            while written < begin:
-                written += os.write(self._file.fileno(), whole[written:])
+            ends.append(self.ends[-1] + begin)
+            found = len(self._pattern.findall(self._rest, tags, last)) if self._pattern else 0
+            marks.append((marks or self.marks)[-1] + found)
+        try:
+            self._write(begin)
+        except BaseException:
+            self._rest.clear()
+            raise
+        self.ends.extend(ends)
+        self.marks.extend(marks)
         del self._rest[:begin]
+
+    def _write(self, count: int) -> None:
+        """Writes so many bytes behind the games that count."""
+        self._room.take(count)
+        try:
+            with memoryview(self._rest)[:count] as whole:
+                written = 0
+                while written < count:
+                    written += os.pwrite(self._file.fileno(), whole[written:], self.ends[-1] + written)
+        except BaseException:
+            self._room.left += count
+            raise
 
     @contextlib.contextmanager
     def held(self) -> Iterator[None]:
@@ -142,10 +158,12 @@ class Found:
                 yield number + 1, name
 
     def blocks(self, count: int) -> Iterator[bytes]:
-        """The first so many games, in blocks."""
+        """The first so many games, in blocks. Raises `Stopped` where the file has become shorter."""
         at, end = 0, self.ends[count]
         while at < end:
             block = os.pread(self._file.fileno(), min(BLOCK, end - at), at)
+            if not block:
+                raise Stopped("what was found could not be read to its end")
             at += len(block)
             yield block
 

@@ -15,7 +15,7 @@ from ..errors import Error, Fault
 from .folder import Folder, Refused
 from .found import Found, Room
 from .program import Program
-from .runs import MOST_FAULTS, Run
+from .runs import MOST_FAULTS, Run, told_of
 from .shown import articles
 
 PAUSE = 0.15  # seconds between two words on a run
@@ -167,11 +167,11 @@ class Page:
     async def hello(self, library: dict[str, Any]) -> None:
         """What a page is told first."""
         folder = self.shared.folder
-        there, saved = await asyncio.to_thread(folder.archives), await asyncio.to_thread(folder.queries)
+        there, saved = await self._archives(), await asyncio.to_thread(folder.queries)
         run = self.run.words() if self.run else None
         self.is_greeted = True
-        said = {"page": self.name, "folder": folder.path, "archives": there, "queries": saved, "history": self.shared.history, "run": run}
-        await self.send(said | library)
+        said = {"page": self.name, "folder": folder.path, "queries": saved, "history": self.shared.history, "run": run}
+        await self.send(said | there | library)
 
     def changed(self, run: Run) -> None:
         """Tells the page of its run: its end at once, the rest now and then."""
@@ -212,8 +212,8 @@ class Page:
             if answer is None:
                 raise Refused(NOT_UNDERSTOOD)
             await self.send({"n": number, "is": await answer(words)})
-        except (Error, OSError) as fault:
-            await self.send({"n": number, "refused": str(fault)})
+        except Exception as fault:
+            await self.send({"n": number, "refused": told_of(fault)})
 
     async def _check(self, words: Words) -> Any:
         text = words.bytes("query")
@@ -324,8 +324,10 @@ class Page:
     async def _queries(self, _words: Words) -> Any:
         return await asyncio.to_thread(self.shared.folder.queries)
 
-    async def _archives(self, _words: Words) -> Any:
-        return await asyncio.to_thread(self.shared.folder.archives)
+    async def _archives(self, _words: Words | None = None) -> dict[str, Any]:
+        """The archives that are listed, and how many more are left out."""
+        listed, left = await asyncio.to_thread(self.shared.folder.archives)
+        return {"archives": listed, "left": left}
 
     async def _open(self, words: Words) -> Any:
         return await asyncio.to_thread(self.shared.folder.query, words.text("name"))

@@ -12,6 +12,7 @@ from typing import Any
 
 from .. import faults, query
 from ..errors import Fault
+from ..launch import Launch
 from ..process import in_words
 from .folder import Refused
 
@@ -28,11 +29,38 @@ async def start(program: str, words: Sequence[str], text: bytes, **pipes: Any) -
         with os.fdopen(os.dup(file), "wb") as to:
             to.write(text)
         call = [f"/proc/self/fd/{file}" if word == QUERY else word for word in words]
-        return await asyncio.create_subprocess_exec(program, *call, pass_fds=[file], limit=PIECE, **pipes)
+        return await begun([program, *call], [file], limit=PIECE, **pipes)
     except OSError as fault:
         raise Refused(f"the program {program} can't be started: {fault.strerror}. {MEND}") from fault
     finally:
         os.close(file)
+
+
+async def begun(call: Sequence[str], files: Sequence[int], **how: Any) -> Process:
+    """A process that inherits these files and ends with the desk, however that ends. Raises `OSError` where the program can't be begun."""
+    with Launch(call, files) as launch:
+        process = await asyncio.create_subprocess_exec(*launch.call, pass_fds=launch.files, **how)
+        launch.release()
+        try:
+            await _readable(launch.report)
+            launch.wait()
+        except BaseException:
+            await end(process)
+            raise
+    return process
+
+
+async def _readable(file: int) -> None:
+    """Waits until a file has something to be read, or is at its end."""
+    if file < 0:
+        return
+    loop = asyncio.get_running_loop()
+    came = asyncio.Event()
+    loop.add_reader(file, came.set)
+    try:
+        await came.wait()
+    finally:
+        loop.remove_reader(file)
 
 
 def kill(process: Process) -> None:

@@ -21,6 +21,15 @@ MOST_FAULTS = 1000
 OVER = ("done", "stopped", "failed")
 
 
+def told_of(fault: Exception) -> str:
+    """What the page is told of an exception."""
+    if isinstance(fault, (Error, OSError)):
+        return str(fault)
+    if isinstance(fault, MemoryError):
+        return "there was not enough memory"
+    return f"this is a fault of the desk, please report it: {type(fault).__name__}: {fault}"
+
+
 def joined(blocks: Iterator[bytes]) -> Iterator[bytes]:
     """The same bytes in blocks that are not small."""
     kept = bytearray()
@@ -92,8 +101,8 @@ class Run:
                 self.state = "failed" if self._failed == len(self._archives) else "done"
         except asyncio.CancelledError:
             self.state = "stopped"
-        except (Error, OSError) as fault:
-            self._fail(str(fault), "failed")
+        except Exception as fault:
+            self._fail(told_of(fault), "failed")
         finally:
             self._ended = time.monotonic()
             for archive in self._archives:
@@ -112,10 +121,16 @@ class Run:
             found.begin(archive.name)
         words = ["run" if len(self.founds) == 1 else "many", QUERY, "-", *["--first"] * self._is_first]
         process = await start(self._program, words, self.text, stdin=PIPE, stdout=PIPE, stderr=PIPE)
+        works = (self._feed(process, archive, before), self._take(process), self._listen(process, archive.name))
+        tasks = [asyncio.ensure_future(work) for work in works]
         try:
-            await asyncio.gather(self._feed(process, archive, before), self._take(process), self._listen(process, archive.name))
+            await asyncio.gather(*tasks)
             status = await process.wait()
         finally:
+            kill(process)
+            for task in tasks:
+                task.cancel()
+            await asyncio.gather(*tasks, return_exceptions=True)
             await end(process)
         if status > 1 or status < 0 and len(self.troubles) == troubles:
             said = in_words(status) or f"cqlpgn ended with status {status}"

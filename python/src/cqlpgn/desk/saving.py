@@ -16,13 +16,10 @@ from typing import IO
 
 from ..errors import Stopped
 from .found import Found
-from .program import end
+from .program import begun, end, kill
 from .shown import NEVER
 
-BEGIN = "import sys; from cqlpgn.commands.{0} import entry; sys.argv[0] = 'cqlpgn-{0}'; entry()"
 PACKAGE = os.path.dirname(os.path.dirname(os.path.dirname(os.path.realpath(__file__))))
-
-
 MOST_ON_A_PAGE = 5000  # games: a browser has them all at once, and so has the command
 
 
@@ -41,7 +38,7 @@ class Form:
         """The command's words for so many games of those that are there."""
         left_out = f": the first {count:,} of {there:,} games" if count < there else ""
         title = [f"--title={self.title}{left_out}"] if self.title else []
-        return [sys.executable, "-B", "-c", BEGIN.format(self.command), *self.words, *title]
+        return [sys.executable, "-P", "-B", "-m", "cqlpgn.commands", self.command, *self.words, *title]
 
 
 COLUMNS = ("--columns", "archive,found,ply,move,side,san,uci,fen,depth,mainline,White,Black,Event,Site,Date,Result")
@@ -55,13 +52,25 @@ FORMS = {
 }
 
 
+def environment() -> dict[str, str]:
+    """The environment of a command: this package comes first on the path of modules, and nothing of the working folder is on it."""
+    places = [place for place in os.environ.get("PYTHONPATH", "").split(os.pathsep) if os.path.isabs(place)]
+    return os.environ | {"PYTHONPATH": os.pathsep.join([PACKAGE, *places])}
+
+
 async def _feed(process: Process, blocks: Iterator[bytes]) -> None:
     assert process.stdin is not None
-    with contextlib.suppress(BrokenPipeError, ConnectionResetError):
+    try:
         for block in blocks:
             process.stdin.write(block)
             await process.stdin.drain()
-    process.stdin.close()
+    except (BrokenPipeError, ConnectionResetError):
+        pass
+    except Exception:
+        kill(process)  # so that what has come is not taken for all
+        raise
+    finally:
+        process.stdin.close()
 
 
 def _index(found: Found, count: int) -> IO[str]:
@@ -94,14 +103,13 @@ async def _written(call: list[str], found: Found, count: int, wants_index: bool)
     with await asyncio.to_thread(_index, found, count) as index:
         number = index.fileno()
         call += [f"--index=/proc/self/fd/{number}"] * wants_index
-        environment = os.environ | {"PYTHONPATH": PACKAGE}
-        process = await asyncio.create_subprocess_exec(*call, stdin=PIPE, stdout=PIPE, stderr=DEVNULL, env=environment, pass_fds=[number])
+        process = await begun(call, [number], stdin=PIPE, stdout=PIPE, stderr=DEVNULL, env=environment())
     feeding = asyncio.ensure_future(_feed(process, found.blocks(count)))
     assert process.stdout is not None
     try:
         while data := await process.stdout.read(1 << 16):
             yield data
-        if await process.wait() not in (0, 1):
+        if await process.wait() not in (0, 1) or feeding.done() and feeding.exception():
             raise Stopped("the file could not be written to its end")
     finally:
         feeding.cancel()

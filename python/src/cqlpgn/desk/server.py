@@ -13,11 +13,13 @@ from collections.abc import Awaitable, Callable
 
 from aiohttp import WSMsgType, web
 
-from ..errors import Error, NotFound
+from ..errors import NotFound
 from ..page import own_file
+from .door import admit
 from .folder import Folder
 from .pages import Page, Shared
 from .program import Program
+from .runs import told_of
 from .saving import FORMS, saved
 
 PACKAGE = os.path.dirname(os.path.dirname(os.path.realpath(__file__)))
@@ -175,12 +177,15 @@ class Desk:
         with found.held():
             async with self._saving, contextlib.aclosing(saved(found, form)) as pieces:
                 try:
+                    first = await anext(pieces, b"")
+                except Exception as fault:
+                    raise web.HTTPInternalServerError(text=told_of(fault) + "\n") from fault
+                try:
                     await response.prepare(request)
+                    await response.write(first)
                     async for data in pieces:
                         await response.write(data)
-                except OSError:
-                    pass  # the download was broken off
-                except Error:
+                except Exception:  # also where the download was broken off
                     if request.transport:
                         request.transport.abort()  # so that what has come is not taken for the whole file
         return response
@@ -189,7 +194,12 @@ class Desk:
         """What answers requests: those of this desk's own pages, and 403 to all others."""
 
         async def guard(request: web.Request, handler: Handler) -> web.StreamResponse:
-            return await handler(request) if self._is_own(request) else web.Response(status=403, text=STRANGER)
+            if self._is_own(request):
+                admit(request.transport)
+                return await handler(request)
+            response = web.Response(status=403, text=STRANGER)
+            response.force_close()
+            return response
 
         app = web.Application(middlewares=[web.middleware(guard)])
         app.on_response_prepare.append(self._head)

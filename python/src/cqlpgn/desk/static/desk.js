@@ -20,7 +20,7 @@ function welcome(message) {
   lost("");
   $("folder").textContent = message.folder;
   $("folder").title = message.folder;
-  list(message.archives);
+  list(message);
   if (!hasEditor()) {
     shelve(message.cookbook);
     keeping(text);
@@ -34,14 +34,15 @@ function welcome(message) {
   else if (isNew || run) { run = null; clear(); }
 }
 
-// The archives of the folder, each to be chosen; those that were chosen before, or else the first one, are.
-function list(archives) {
+// The archives of the folder, each to be chosen; those that were chosen before, or else the first one, are. How many are left out is told.
+function list({ archives, left }) {
   const before = new Set(chosen().length ? chosen() : JSON.parse(sessionStorage.getItem("archives") || "[]"));
   const isChosen = a => before.has(a.name);
   if (!archives.some(isChosen)) before.add(archives.length ? archives[0].name : "");
   $("archives").lastElementChild.replaceChildren(...archives.map(a => element("label", {},
     element("input", { type: "checkbox", value: a.name, checked: isChosen(a), onchange: choice }),
-    ` ${a.name} `, element("span", { className: "soft" }, bytes(a.size)))));
+    ` ${a.name} `, element("span", { className: "soft" }, bytes(a.size)))),
+  ...(left ? [element("p", { className: "soft" }, `${count(left, "archive is", "archives are")} left out: choose a smaller folder.`)] : []));
   choice();
   if (!archives.length) say("There is no archive (*.pgn, also .gz .bz2 .xz .zst, or *.zip) in this folder.");
 }
@@ -240,7 +241,7 @@ $("ask").onsubmit = event => {
 };
 document.querySelectorAll(".tabs button").forEach(b => { b.onclick = () => tab(b.dataset.to); });
 document.querySelectorAll("#panes button").forEach(b => { b.onclick = () => pane(b); });
-$("archives").ontoggle = async () => { if ($("archives").open) list(await ask("archives").catch(() => [])); };
+$("archives").ontoggle = async () => { if ($("archives").open) list(await ask("archives").catch(() => ({ archives: [], left: 0 }))); };
 $("look").onchange = () => {
   localStorage.setItem("look", $("look").value);
   paint();
