@@ -105,7 +105,7 @@ class Found:
             found = len(self._pattern.findall(self._rest, tags, last)) if self._pattern else 0
             marks.append((marks or self.marks)[-1] + found)
         try:
-            self._write(begin)
+            self._write(bytes(self._rest[:begin]))
         except BaseException:
             self._rest.clear()
             raise
@@ -113,16 +113,15 @@ class Found:
         self.marks.extend(marks)
         del self._rest[:begin]
 
-    def _write(self, count: int) -> None:
-        """Writes so many bytes behind the games that count."""
-        self._room.take(count)
+    def _write(self, games: bytes) -> None:
+        """Writes games behind those that count."""
+        self._room.take(len(games))
+        written = 0
         try:
-            with memoryview(self._rest)[:count] as whole:
-                written = 0
-                while written < count:
-                    written += os.pwrite(self._file.fileno(), whole[written:], self.ends[-1] + written)
+            while written < len(games):
+                written += os.pwrite(self._file.fileno(), memoryview(games)[written:], self.ends[-1] + written)
         except BaseException:
-            self._room.left += count
+            self._room.left += len(games)
             raise
 
     @contextlib.contextmanager

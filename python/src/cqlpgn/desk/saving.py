@@ -109,7 +109,7 @@ async def _written(call: list[str], found: Found, count: int, wants_index: bool)
     try:
         while data := await process.stdout.read(1 << 16):
             yield data
-        if await process.wait() not in (0, 1) or feeding.done() and feeding.exception():
+        if await process.wait() or feeding.done() and feeding.exception():
             raise Stopped("the file could not be written to its end")
     finally:
         feeding.cancel()
