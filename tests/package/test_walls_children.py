@@ -26,7 +26,20 @@ from tests.desks import GAME, Line, Served
 from tests.processes import PATIENCE, all_end, becomes, children, words_of
 
 PROGRAMS = {"CQLPGN": "cqlpgn", "PGNJSON": "pgnjson"}
-MODULES = ("argparse", "array", "asyncio", "bz2", "contextlib", "csv", "ctypes", "dataclasses", "encodings", "fcntl", "gzip", "html")
+MODULES: tuple[str, ...] = (
+    "argparse",
+    "array",
+    "asyncio",
+    "bz2",
+    "contextlib",
+    "csv",
+    "ctypes",
+    "dataclasses",
+    "encodings",
+    "fcntl",
+    "gzip",
+    "html",
+)
 MODULES += ("io", "json", "logging", "lzma", "os", "queue", "re", "secrets", "shutil", "signal", "site", "sitecustomize", "socket")
 MODULES += ("subprocess", "tempfile", "threading", "types", "typing", "warnings", "yaml", "zipfile", "zstandard", "tqdm", "aiohttp", "sys")
 PACKAGES = ("cqlpgn/__init__", "cqlpgn/__main__", "cqlpgn/commands/__init__", "cqlpgn/commands/__main__", "cqlpgn/commands/rows")
@@ -109,7 +122,7 @@ def begun(process: subprocess.Popen[bytes]) -> list[int]:
     found: list[int] = []
 
     def has_begun() -> bool:
-        found[:] = [number for number in children(process.pid) if "run" in words_of(number) or "many" in words_of(number)]
+        found[:] = [number for number in children(process.pid) if {"run", "-"} <= set(words_of(number))]
         return bool(found)
 
     assert becomes(has_begun)

@@ -12,6 +12,7 @@ import subprocess
 import sys
 import time
 from pathlib import Path
+from typing import Any
 
 import pytest
 from tests.conftest import BIN, program
@@ -100,14 +101,15 @@ def test_half_a_letter_gets_an_answer(tmp_path: Path) -> None:
 
     async def ask() -> None:
         async with Line(desk) as line:
-            for do, words in (
+            asked: list[tuple[str, dict[str, Any]]] = [
                 ("open", {"name": HALF + ".cql"}),
                 ("at", {"archive": HALF + ".pgn", "byte": 1}),
                 ("at", {"archive": HALF + ".zip:a", "byte": 1}),
                 ("run", {"query": "cql() mate", "archives": [HALF + ".pgn"]}),
                 ("save", {"name": HALF, "query": "x", "over": True}),
                 (HALF, {}),
-            ):
+            ]
+            for do, words in asked:
                 assert str(await asyncio.wait_for(line.ask(do, **words), SECONDS)).startswith("refused: "), do
             assert (await asyncio.wait_for(line.ask("check", query="cql() " + HALF), SECONDS))["fault"]
             assert (await asyncio.wait_for(line.ask("save", name="q", query=HALF, over=True), SECONDS))["name"] == "q.cql"
