@@ -9,6 +9,8 @@ A run has a folder, which each machine that answers pieces must see under the sa
     N.out, N.err, N.status    the answer of piece N; `status` comes last and has the sizes of the other two
     N.match      piece N has a match: made in runs that want the first match alone
     .N.*         what is left of a try that was ended
+
+Who can write there names the program that is asked. So the folder is one's own, nobody else can write in it, and no file in it is a link.
 """
 
 from __future__ import annotations
@@ -18,15 +20,19 @@ import json
 import os
 import re
 import shutil
+import stat
 import subprocess
 import sys
 import tempfile
 import threading
 from collections.abc import Callable, Iterator
-from typing import IO, Any, NamedTuple, cast
+from typing import IO, Any, NamedTuple, NoReturn, cast
 
-FAULT = re.compile(rb"game (\d+) byte (\d+): ([^\n]*)\n")
-COUNTS = re.compile(rb"games (\d+) matched (\d+) refused (\d+)\n")
+FAULT = re.compile(rb"game (\d{1,15}) byte (\d{1,15}): ([^\n]*)\n")
+COUNTS = re.compile(rb"games (\d{1,15}) matched (\d{1,15}) refused (\d{1,15})\n")
+ROW = re.compile(rb"\d{1,15}(?: \d{1,15}){4}")
+# What the file `job` has: the names of its values and their types.
+JOB = {"program": str, "first": bool, "words": list, "archive": str, "size": int, "changed": int, "bytes": str}
 BLOCK = 1 << 20
 # How many games are read, match and are faulty.
 Counts = tuple[int, int, int]
@@ -55,21 +61,79 @@ class NoAnswer(Exception):
         self.status = status
 
 
+def shown(text: str) -> str:
+    """a text as it is told: control characters, and bytes that are no UTF-8, as escapes"""
+    told = text.encode("utf-8", "surrogateescape").decode("utf-8", "backslashreplace")
+    return "".join(letter if letter.isprintable() else letter.encode("unicode_escape").decode() for letter in told)
+
+
+def tell(text: str) -> None:
+    """writes lines to standard error, if that takes any"""
+    with contextlib.suppress(OSError, ValueError, AttributeError):
+        for line in text.splitlines():
+            print(shown(line), file=sys.stderr, flush=True)
+
+
+def own(folder: str) -> str:
+    """The folder of a run. Raises `NoAnswer` where it is another user's, or where other users can write in it."""
+    try:
+        found = os.stat(folder)
+    except (OSError, ValueError) as fault:
+        raise NoAnswer("%s: %s" % (folder, getattr(fault, "strerror", None) or fault), 4) from fault
+    if not stat.S_ISDIR(found.st_mode):
+        raise NoAnswer("%s: is no folder" % folder, 4)
+    if found.st_uid != os.geteuid() or found.st_mode & stat.S_IWOTH:
+        raise NoAnswer("%s: the folder of a run must be your own, and no other user may write in it" % folder, 4)
+    return folder
+
+
+def opened(flags: int, *names: str) -> IO[bytes]:
+    """A file of a run, by its name alone: a link is refused."""
+    name = os.path.join(*names)
+    mode = "rb" if flags == os.O_RDONLY else "wb"
+    try:
+        number = os.open(name, flags | os.O_NOFOLLOW | os.O_NONBLOCK | os.O_CLOEXEC, 0o666)
+    except OSError as fault:
+        if os.path.islink(name):
+            raise NoAnswer("%s: is a link, and the files of a run are none" % name) from fault
+        raise
+    if not stat.S_ISREG(os.fstat(number).st_mode):
+        os.close(number)
+        raise NoAnswer("%s: is no regular file" % name)
+    return os.fdopen(number, mode)
+
+
+def new(*names: str) -> IO[bytes]:
+    """A new file of a run; what a try has left under the name is removed, a link too."""
+    with contextlib.suppress(FileNotFoundError):
+        os.remove(os.path.join(*names))
+    return opened(os.O_WRONLY | os.O_CREAT | os.O_EXCL, *names)
+
+
 def read(*names: str) -> bytes:
-    with open(os.path.join(*names), "rb") as file:
+    """all bytes of a file of a run"""
+    with opened(os.O_RDONLY, *names) as file:
         return file.read()
 
 
 def write(data: bytes, *names: str) -> None:
     """makes a file that is there with all of its bytes or not at all"""
     name = os.path.join(*names)
-    with open(name + ".new", "wb") as file:
+    with new(name + ".new") as file:
         file.write(data)
     os.rename(name + ".new", name)
 
 
 def read_job(folder: str) -> dict[str, Any]:
-    return cast("dict[str, Any]", json.loads(read(folder, "job")))
+    """The job of a run. Raises `NoAnswer` where it is damaged."""
+    try:
+        job = json.loads(read(own(folder), "job"))
+    except (ValueError, RecursionError) as fault:
+        raise NoAnswer("%s: is damaged" % os.path.join(folder, "job")) from fault
+    known = isinstance(job, dict) and job.keys() == JOB.keys() and all(type(job[name]) is kind for name, kind in JOB.items())
+    if not known or not all(isinstance(word, str) for word in job["words"]):
+        raise NoAnswer("%s: is damaged" % os.path.join(folder, "job"))
+    return cast("dict[str, Any]", job)
 
 
 def pieces_of(table: bytes, size: int) -> list[Piece]:
@@ -77,8 +141,8 @@ def pieces_of(table: bytes, size: int) -> list[Piece]:
     found: list[Piece] = []
     at, first = 0, 1
     for line in table.split(b"\n")[:-1]:
-        if not re.fullmatch(rb"\d+( \d+){4}", line):
-            raise NoAnswer("the table has the line %r" % line)
+        if not ROW.fullmatch(line):
+            raise NoAnswer("the table has the line %r" % line[:100])
         piece = Piece(*map(int, line.split()))
         if (piece.number, piece.offset, piece.first) != (len(found) + 1, at, first) or piece.length == 0:
             raise NoAnswer("piece %d of the table does not follow the one before" % piece.number)
@@ -192,9 +256,9 @@ def answer(folder: str, number: int) -> None:
         return
     job = read_job(folder)
     piece = read_pieces(folder)[number - 1]
-    own = tempfile.mkdtemp(prefix=".%d." % number, dir=folder)
+    room = tempfile.mkdtemp(prefix=".%d." % number, dir=folder)
     try:
-        out, err, last = (os.path.join(own, name) for name in ("out", "err", "status"))
+        out, err, last = (os.path.join(room, name) for name in ("out", "err", "status"))
         with open(out, "wb") as to, open(err, "wb") as report:
             words = [job["program"], "run", os.path.join(folder, "ask.cql"), "-", *job["words"]]
             status, taken = ask(words, job["archive"], piece, to, report)
@@ -212,7 +276,7 @@ def answer(folder: str, number: int) -> None:
         for name in (out, err, last):
             os.rename(name, os.path.join(folder, "%d.%s" % (number, os.path.basename(name))))
     finally:
-        shutil.rmtree(own, ignore_errors=True)
+        shutil.rmtree(room, ignore_errors=True)
 
 
 def sweep(folder: str) -> None:
@@ -257,8 +321,63 @@ def join(folder: str) -> tuple[list[Piece], bytes, Counts, int]:
 def copy_games(folder: str, joined: list[Piece], to: IO[bytes]) -> None:
     """the exports of some pieces, as they stand"""
     for piece in joined:
-        with open(os.path.join(folder, "%d.out" % piece.number), "rb") as exports:
+        with opened(os.O_RDONLY, folder, "%d.out" % piece.number) as exports:
             shutil.copyfileobj(exports, to, BLOCK)
+
+
+def _identity(name: str | int) -> tuple[int, int] | None:
+    """Device and inode of a regular file; None for all else."""
+    try:
+        found = os.stat(name)
+    except (OSError, ValueError):
+        return None
+    return (found.st_dev, found.st_ino) if stat.S_ISREG(found.st_mode) else None
+
+
+def refuse_streams(names: list[str]) -> None:
+    """Raises `NoAnswer` where standard output or standard error is one of the files that are read."""
+    written = {1: "standard output", 2: "standard error"}
+    for name in names:
+        for number, stream in written.items():
+            if (found := _identity(name)) is not None and found == _identity(number):
+                raise NoAnswer("%s is %s, which is to be read; nothing was written" % (stream, name), 3)
+
+
+def begin() -> None:
+    """Ends with status 6 where standard output or standard error is closed; standard input that is closed becomes an empty one."""
+    if sys.stdout is None or sys.stderr is None:
+        os._exit(6)
+    try:
+        os.fstat(0)
+    except OSError:
+        os.open(os.devnull, os.O_RDONLY)
+
+
+def end_with(status: int) -> NoReturn:
+    """Ends the process with the status, or with 6 where the streams don't take what is still kept for them."""
+    try:
+        sys.stdout.flush()
+        sys.stderr.flush()
+    except (OSError, ValueError):
+        status = status or 6
+    os._exit(status)
+
+
+def ended_by(main: Callable[[], int], name: str) -> NoReturn:
+    """Ends the process with the status of its main function; what this raises is told in lines, after the name."""
+    begin()
+    try:
+        status = main()
+    except NoAnswer as fault:
+        tell("\n".join("%s: %s" % (name, line) for line in str(fault).splitlines()))
+        status = fault.status
+    except OSError as fault:
+        tell("%s: %s" % (name, fault))
+        status = 6
+    except SystemExit as fault:
+        status = fault.code if isinstance(fault.code, int) else 3 if fault.code else 0
+        tell(fault.code if isinstance(fault.code, str) else "")
+    end_with(status)
 
 
 def write_answer(copy: Callable[[IO[bytes]], object], report: bytes, status: int) -> int:

@@ -1,9 +1,20 @@
 # Completion of cqlpgn, pgnjson, pgnpieces and the commands of the Python package for bash: `source contrib/completion/cqlpgn.bash` in ~/.bashrc, where `make install` or the package has not put it where bash-completion finds it.
 
+_cqlpgn_offer() {
+    # those of the lines that are names of files; a name with a line end comes as several lines, which are none. Bash quotes them
+    local name
+    while IFS= read -r name; do
+        [[ $name != \~* && ! -e $name && ! -L $name ]] || COMPREPLY+=("$name")
+    done
+}
+
 _cqlpgn_files() {
     # files whose names end so, and folders
-    local IFS=$'\n'
-    mapfile -t -O "${#COMPREPLY[@]}" COMPREPLY < <(compgen -d -- "$2"; compgen -f -- "$2" | grep -iE "\.($1)\$")
+    _cqlpgn_offer < <(compgen -d -- "$2"; compgen -f -- "$2" | grep -iE "\.($1)\$")
+}
+
+_cqlpgn_folders() {
+    _cqlpgn_offer < <(compgen -d -- "$1")
 }
 
 _cqlpgn() {
@@ -63,7 +74,7 @@ _cqlpgn_mend() {
 
 _cqlpgn_split() {
     COMPREPLY=()
-    [ "$COMP_CWORD" != 1 ] || mapfile -t COMPREPLY < <(compgen -d -S / -- "${COMP_WORDS[1]}")
+    [ "$COMP_CWORD" != 1 ] || _cqlpgn_folders "${COMP_WORDS[1]}"
 }
 
 _cqlpgn_problems() {
@@ -129,7 +140,7 @@ _cqlpgn_desk() {
     COMPREPLY=()
     case $word in
         -*) mapfile -t COMPREPLY < <(compgen -W '--port --runs --no-browser --help' -- "$word") ;;
-        *) mapfile -t COMPREPLY < <(compgen -d -- "$word") ;;
+        *) _cqlpgn_folders "$word" ;;
     esac
 }
 
@@ -154,7 +165,7 @@ complete -o filenames -F _pgnjson pgnjson
 complete -o filenames -F _pgnpieces pgnpieces
 complete -o filenames -F _cqlpgn_over cqlpgn-over
 complete -o filenames -F _cqlpgn_mend cqlpgn-mend
-complete -o nospace -F _cqlpgn_split cqlpgn-split
+complete -o filenames -o nospace -F _cqlpgn_split cqlpgn-split
 complete -o filenames -F _cqlpgn_problems cqlpgn-problems
 complete -o filenames -F _cqlpgn_diagrams cqlpgn-diagrams
 complete -o filenames -F _cqlpgn_rows cqlpgn-rows

@@ -2,9 +2,12 @@
 
 from __future__ import annotations
 
+import tempfile
 import unicodedata
 from collections.abc import Iterable, Iterator
 from dataclasses import dataclass
+from itertools import islice
+from typing import IO
 
 from .boards import Match
 
@@ -103,39 +106,67 @@ def _board(match: Match, style: Style) -> str:
     return f"\\match{{{','.join(keys)}}}{{{match.fen}}}{{{_caption(match, style)}}}"
 
 
-def _rows(matches: list[Match], style: Style) -> Iterator[str]:
+def _rows(matches: Iterable[Match], style: Style) -> Iterator[str]:
     """The boards in rows, numbered across; a page has so many."""
-    for first in range(0, len(matches), style.columns):
-        row = "\\hfill\n".join(_board(match, style) for match in matches[first : first + style.columns])
-        filled = "\\hfill\\null" if first + style.columns > len(matches) else ""
-        yield row + filled + "\\par\n"
-        yield "\\newpage\n" if (first + style.columns) % style.per_page == 0 and first + style.columns < len(matches) else "\\vfill\n"
+    rest, place = iter(matches), 0
+    row = list(islice(rest, style.columns))
+    while row:
+        following = list(islice(rest, style.columns))
+        place += style.columns
+        filled = "\\hfill\\null" if len(row) < style.columns else ""
+        yield "\\hfill\n".join(_board(match, style) for match in row) + filled + "\\par\n"
+        yield "\\newpage\n" if following and place % style.per_page == 0 else "\\vfill\n"
+        row = following
 
 
-def _solutions(matches: Iterable[Match]) -> Iterator[str]:
-    yield "\\clearpage\n\\begin{center}\\large Solutions\\end{center}\n"
-    for match in matches:
-        where = ", ".join(filter(None, [_names(match), *map(plain, match.tree.where)]))
-        said = "".join(f" {plain(comment)}" for comment in match.comments)
-        moves = match.solution(plain, lambda comment: rf"\emph{{{plain(comment[:LONGEST])}}}")
-        yield rf"\textbf{{{match.number}}} {moves}{said} \hfill {{\footnotesize {where}}}\par" + "\n"
+def _solution(match: Match) -> str:
+    where = ", ".join(filter(None, [_names(match), *map(plain, match.tree.where)]))
+    said = "".join(f" {plain(comment)}" for comment in match.comments)
+    moves = match.solution(plain, lambda comment: rf"\emph{{{plain(comment[:LONGEST])}}}")
+    return rf"\textbf{{{match.number}}} {moves}{said} \hfill {{\footnotesize {where}}}\par" + "\n"
 
 
-def document(files: Iterable[tuple[str, list[Match]]], style: Style) -> Iterator[str]:
-    """The text, in pieces: of each file its title and its boards."""
+class _Solutions:
+    """The solutions of exercises, in a file until all boards are written."""
+
+    def __init__(self, file: IO[str]) -> None:
+        self._file, self._is_empty = file, True
+
+    def added(self, matches: Iterable[Match]) -> Iterator[Match]:
+        """The same matches, whose solutions are written."""
+        for match in matches:
+            self._file.write(_solution(match))
+            self._is_empty = False
+            yield match
+
+    def pages(self) -> Iterator[str]:
+        """The last pages, in pieces."""
+        if self._is_empty:
+            return
+        yield "\\clearpage\n\\begin{center}\\large Solutions\\end{center}\n"
+        self._file.seek(0)
+        while piece := self._file.read(1 << 16):
+            yield piece
+
+
+def document(files: Iterable[tuple[str, Iterable[Match]]], style: Style) -> Iterator[str]:
+    """The text, in pieces: of each file its title and its boards. A few games are in memory at a time."""
     parts = {"@SIZE@": "15pt" if style.per_page == 8 else "13pt", "@LABEL@": "true" if style.coordinates else "false"}
     parts |= {"@WIDTH@": "0.48" if style.columns == 2 else "0.31"}
-    every: list[Match] = []
-    for place, (title, matches) in enumerate(files):
-        if place:
-            yield f"\\clearpage\n\\begin{{center}}\\large {plain(title)}\\end{{center}}\n"
-        else:
-            head = HEAD
-            for name, value in {**parts, "@TITLE@": plain(title)}.items():
-                head = head.replace(name, value)
-            yield head
-        yield from _rows(matches, style)
-        every += matches
-    if style.exercises and every:
-        yield from _solutions(every)
+    with tempfile.TemporaryFile("w+", encoding="utf-8", errors="replace", newline="") as file:
+        solutions = _Solutions(file)
+        for place, (title, matches) in enumerate(files):
+            yield _title(title, parts if place == 0 else None)
+            yield from _rows(solutions.added(matches) if style.exercises else matches, style)
+        yield from solutions.pages()
     yield "\\end{document}\n"
+
+
+def _title(title: str, parts: dict[str, str] | None) -> str:
+    """The head of the text, with the title of the first file, by its parts; or the title of another file."""
+    if parts is None:
+        return f"\\clearpage\n\\begin{{center}}\\large {plain(title)}\\end{{center}}\n"
+    head = HEAD
+    for name, value in {**parts, "@TITLE@": plain(title)}.items():
+        head = head.replace(name, value)
+    return head

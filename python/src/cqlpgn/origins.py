@@ -10,7 +10,7 @@ import os
 import subprocess
 import tempfile
 from collections import defaultdict
-from collections.abc import Iterator, Sequence
+from collections.abc import Callable, Iterable, Iterator, Sequence
 from hashlib import blake2b
 from typing import IO, BinaryIO
 
@@ -39,6 +39,15 @@ def start(
     return Process(words, query, blocks=archive.blocks(progress), out=out, err=err)
 
 
+def state(archive: Archive) -> tuple[int, ...]:
+    """What differs where a file was changed; empty where it can't be known."""
+    try:
+        found = os.stat(archive.path)
+    except (OSError, ValueError):
+        return ()
+    return found.st_dev, found.st_ino, found.st_size, found.st_mtime_ns
+
+
 def kept(archive: Archive, room: IO[bytes]) -> Archive:
     """An archive that can be read several times: standard input is copied into the open file `room`, which has a name."""
     if archive.path != STANDARD_INPUT:
@@ -51,8 +60,14 @@ def kept(archive: Archive, room: IO[bytes]) -> Archive:
 
 def units(source: BinaryIO) -> Iterator[bytes]:
     """Games as cqlpgn writes them, and lines of its report between them: each as it stands."""
+    read: Callable[[int], bytes] = source.read1 if hasattr(source, "read1") else source.read
+    return units_of(iter(lambda: read(BLOCK), b""))
+
+
+def units_of(blocks: Iterable[bytes]) -> Iterator[bytes]:
+    """The same, from blocks of bytes; what is left at the end is no whole one."""
     rest = b""
-    while block := source.read1(BLOCK) if hasattr(source, "read1") else source.read(BLOCK):
+    for block in blocks:
         rest += block
         at = 0
         while end := _end_of_unit(rest, at):
@@ -109,7 +124,8 @@ def numbers(archive: Archive, query: bytes) -> Iterator[int]:
         yield from _in_order(archive, silent)
 
 
-def _changed(archive: Archive) -> Error:
+def changed(archive: Archive) -> Error:
+    """What is to be said of an archive whose second reading does not fit the first one."""
     return Error(f"{shown(archive.name)}: was changed meanwhile")
 
 
@@ -122,7 +138,7 @@ def _in_order(archive: Archive, silent: bytes) -> Iterator[int]:
                 yield number
                 break
         else:
-            raise _changed(archive)
+            raise changed(archive)
 
 
 def _in_any_order(archive: Archive, silent: bytes) -> Iterator[int]:
@@ -137,7 +153,7 @@ def _in_any_order(archive: Archive, silent: bytes) -> Iterator[int]:
         rest.reverse()
     for key in found:
         if not places[key]:
-            raise _changed(archive)
+            raise changed(archive)
         yield places[key].pop()
 
 
@@ -163,7 +179,7 @@ def _one_by_one(archive: Archive, silent: bytes) -> Iterator[int]:
     for game in games(archive, silent):
         equal = [number for number, text in matched.items() if text == game]
         if not equal:
-            raise _changed(archive)
+            raise changed(archive)
         del matched[equal[0]]
         yield equal[0]
 

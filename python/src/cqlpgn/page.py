@@ -5,10 +5,12 @@ from __future__ import annotations
 import base64
 import hashlib
 import re
+import tempfile
 from collections.abc import Iterable, Iterator
 from dataclasses import dataclass
 from html import escape
 from importlib import resources
+from typing import IO
 
 from .boards import STANDARD, SUFFIXES, UNKNOWN, Match, Tree, moved
 from .games import Node
@@ -23,10 +25,10 @@ SHOWN = ("Event", "Site", "Date", "White", "Black", "Result", "FEN", "SetUp")
 
 @dataclass(frozen=True)
 class Section:
-    """A file of games: its title, and its games with their matches."""
+    """A file of games: its title, and its games with their matches, which are read one by one."""
 
     title: str
-    games: list[tuple[Tree, list[Match]]]
+    games: Iterable[tuple[Tree, list[Match]]]
 
 
 def isolated(text: str) -> str:
@@ -156,27 +158,31 @@ def _row(tree: Tree, number: int, count: int) -> str:
     return f'<tr><td>{number}<td><a href="#g{number}">{players(tree)}</a> {where}<td>{count}\n'
 
 
-def _games(sections: list[Section], style: Style) -> tuple[str, str]:
-    """The contents and the articles."""
-    rows, articles, number = [], [], 0
-    for section in sections:
-        if len(sections) > 1:
-            articles.append(f"<h1>{isolated(section.title)}</h1>\n")
+class _Body:
+    """The games of all files as HTML, and the table of contents. Both are written into files, so that one game is in memory at a time."""
+
+    def __init__(self, contents: IO[str], articles: IO[str], style: Style, has_titles: bool) -> None:
+        self._contents, self._articles, self._style, self._has_titles = contents, articles, style, has_titles
+        self.games, self.matches = 0, 0
+
+    def add(self, section: Section) -> None:
+        """Writes the games of a file."""
+        if self._has_titles:
+            self._articles.write(f"<h1>{isolated(section.title)}</h1>\n")
+        if self._style.exercises:
+            self._articles.write('<article class="exercises">\n<div class="boards">\n')
         for tree, matches in section.games:
-            number += 1
-            rows.append(_row(tree, number, len(matches)))
-            articles.append(Writer(tree, matches, style).article(number))
-    return "".join(rows), "".join(articles)
+            self.games, self.matches = self.games + 1, self.matches + len(matches)
+            self._add_game(tree, matches)
+        if self._style.exercises:
+            self._articles.write("</div>\n</article>\n")
 
-
-def _exercises(sections: list[Section], style: Style) -> str:
-    out = []
-    for section in sections:
-        if len(sections) > 1:
-            out.append(f"<h1>{isolated(section.title)}</h1>\n")
-        boards = [figure(match, exercise(match), style) for _, matches in section.games for match in matches]
-        out.append(f'<article class="exercises">\n<div class="boards">\n{"".join(boards)}</div>\n</article>\n')
-    return "".join(out)
+    def _add_game(self, tree: Tree, matches: list[Match]) -> None:
+        if self._style.exercises:
+            self._articles.writelines(figure(match, exercise(match), self._style) for match in matches)
+            return
+        self._contents.write(_row(tree, self.games, len(matches)))
+        self._articles.write(Writer(tree, matches, self._style).article(self.games))
 
 
 def _counts(games: int, matches: int) -> str:
@@ -198,24 +204,45 @@ def _template() -> str:
     return re.sub("|".join(parts), lambda name: own_file(parts[name.group()]), own_file("page.html"))
 
 
-def document(sections: Iterable[Section], style: Style) -> Iterator[str]:
-    """The page, in pieces. Its style and its script are told by their digests, so that nothing else in it can be either."""
-    listed = list(sections)
-    games = sum(len(section.games) for section in listed)
-    count = sum(len(matches) for section in listed for _, matches in section.games)
-    contents, articles = ("", _exercises(listed, style)) if style.exercises else _games(listed, style)
-    text = _template()
+def _file() -> IO[str]:
+    """A file without a name, for text."""
+    return tempfile.TemporaryFile("w+", encoding="utf-8", errors="replace", newline="")
+
+
+def _text(file: IO[str]) -> Iterator[str]:
+    """What is in such a file, in pieces."""
+    file.seek(0)
+    while piece := file.read(1 << 16):
+        yield piece
+
+
+def _policy(text: str) -> str:
+    """What the page may run: its style and its script are told by their digests, so that nothing else in it can be either."""
     sheet, script = (re.findall(rf"<{tag}>(.*?)</{tag}>", text, re.S)[0] for tag in ("style", "script"))
+    return f"default-src 'none'; style-src {_digest(sheet)}; script-src {_digest(script)}; base-uri 'none'; form-action 'none'"
+
+
+def document(sections: Iterable[Section], style: Style) -> Iterator[str]:
+    """The page, in pieces, of which none is there before all games are read."""
+    listed = list(sections)
+    titles = " · ".join(section.title for section in listed)
     kinds = ["exercises"] * style.exercises + ["coordinates"] * style.coordinates + [f"by{style.per_page}"]
-    parts = {
-        "@POLICY@": f"default-src 'none'; style-src {_digest(sheet)}; script-src {_digest(script)}; base-uri 'none'; form-action 'none'",
-        "@TITLE@": escape(" · ".join(section.title for section in listed)),
-        "@HEADING@": isolated(" · ".join(section.title for section in listed)),
-        "@KINDS@": " ".join(kinds),
-        "@COUNTS@": _counts(games, count),
-        "@MATCHES@": str(count),
-        "@OPEN@": "open" if games <= 2000 else "",
-        "@CONTENTS@": contents,
-        "@GAMES@": articles,
-    }
-    yield re.sub("|".join(parts), lambda name: parts[name.group()], text)
+    with _file() as contents, _file() as articles:
+        body = _Body(contents, articles, style, len(listed) > 1)
+        for section in listed:
+            body.add(section)
+        text = _template()
+        parts = {
+            "@POLICY@": _policy(text),
+            "@TITLE@": escape(titles),
+            "@HEADING@": isolated(titles),
+            "@KINDS@": " ".join(kinds),
+            "@COUNTS@": _counts(body.games, body.matches),
+            "@MATCHES@": str(body.matches),
+            "@OPEN@": "open" if body.games <= 2000 else "",
+        }
+        before, between, after = re.split("@CONTENTS@|@GAMES@", text)
+        for piece, file in ((before, contents), (between, articles), (after, None)):
+            yield re.sub("|".join(parts), lambda name: parts[name.group()], piece)
+            if file is not None:
+                yield from _text(file)

@@ -10,7 +10,7 @@ import subprocess
 import tempfile
 from collections.abc import Callable, Iterable, Iterator, Mapping, Sequence
 from hashlib import blake2b
-from itertools import count
+from itertools import chain, count
 
 from . import games, process
 from .archives import Archive
@@ -21,11 +21,13 @@ from .files import shown
 from .games import Game
 from .origins import start
 from .process import Counts, FaultyGame, Process, raise_for
+from .rows import text_of
 
 # a query that no position meets: what is asked for is the report
 NOTHING = b"cql() wtm btm"
 UCI = re.compile(r'"uci":"(\w+)"')
 RANGE = re.compile(r"(\d{1,15})(?:-(\d{1,15}))?", re.ASCII)
+HEAD = re.compile(r'(?:.*,)?("?)game\1(?:,.*)?')
 NUMBERS = re.compile(r"\d{1,15}(?:-\d{1,15})?(?:,\d{1,15}(?:-\d{1,15})?)*", re.ASCII)
 REPORT = re.compile(r"(?:.*: )?(?:game (\d{1,15}) byte \d+: .*|games \d+ matched \d+ refused \d+)", re.ASCII)
 # What makes two games the same, by the word of `--by`.
@@ -56,15 +58,14 @@ def places(lines: Iterable[str], name: str) -> Iterator[Places]:
     rest, number, rows = iter(lines), 0, None
     try:
         for number, line in enumerate(rest, 1):
-            fields = line.rstrip("\r\n").split(",")
-            if number == 1 and "game" in fields:
-                rows = csv.DictReader(rest, fields)
+            if number == 1 and HEAD.fullmatch(line.rstrip("\r\n")):
+                rows = csv.DictReader(chain([line], rest))
                 for row in rows:
                     yield from _of_row(row)
                 return
             yield from _of_line(line)
     except (ValueError, KeyError, TypeError, RecursionError, csv.Error) as fault:
-        at = number if rows is None else rows.line_num + 1
+        at = number if rows is None else rows.line_num
         raise Unreadable(f"{shown(name)}: line {at}: is no number of a game, and no row of one") from fault
 
 
@@ -86,8 +87,7 @@ def _of_row(row: Mapping[str, object]) -> Iterator[Places]:
         return
     if not RANGE.fullmatch(str(number)) or int(str(number)) < 1:
         raise ValueError(number)
-    # a cell that a spreadsheet would take for a formula has a quote before it
-    name = re.sub(r"^'(?=[=+\-@\t\r])", "", str(archive)) if archive else None
+    name = text_of(str(archive)) if archive else None
     yield name, int(str(number)), int(str(number))
 
 

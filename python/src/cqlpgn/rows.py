@@ -5,6 +5,7 @@ from __future__ import annotations
 import csv
 import io
 import json
+import re
 from collections.abc import Callable, Iterable, Iterator, Sequence
 from itertools import islice
 from operator import itemgetter
@@ -30,8 +31,10 @@ COLUMNS = {
     "comments": "what else is said of the position",
 }
 USUAL = ["archive", "game", "found", "ply", "move", "side", "san", "uci", "fen", "depth", "mainline"]
-# What a spreadsheet takes for a formula begins so.
-FORMULA = frozenset("=+-@\t\r")
+# A cell that a spreadsheet takes for a formula, or that looks like the cell of one, begins so.
+FORMULA = re.compile("'*[=+\\-@\t\r]")
+FIRST = frozenset("'=+-@\t\r")  # the first letters of these
+DIGEST = re.compile("sha256:[0-9a-f]{64}")
 # What ends a line, or a text, of EPD.
 WITHIN_EPD = {ord('"'): "'"} | {code: " " for code in (*range(32), *range(127, 160), 0x2028, 0x2029)}
 BATCH = 64  # rows that are written together
@@ -80,15 +83,35 @@ def positions(game: Game, mark: str, archive: str | None = None, number: int | N
         yield _position(game, node, mark, archive, number)
 
 
+def cell(text: str) -> str:
+    """A text as a cell of CSV: what a spreadsheet would take for a formula has a `'` before it."""
+    return "'" + text if FORMULA.match(text) else text
+
+
+def text_of(cell_text: str) -> str:
+    """The text of such a cell."""
+    return cell_text[1:] if cell_text[:1] == "'" and FORMULA.match(cell_text) else cell_text
+
+
 class Index:
-    """Where the games of a file came from, as `cqlpgn-over --number` writes it: rows `found,archive,game` by ascending numbers `found`;
-    `game` is empty where it is not known. It is read as it is asked, by ascending numbers. Raises `Unreadable`."""
+    """Where the games of a file came from, as `cqlpgn-over --number` writes it: rows `found,archive,game,of` by ascending numbers `found`.
+    `game` is empty where it is not known. `of` is the digest of the file, in the first row alone; an index without it has no such column.
+    It is read as it is asked, by ascending numbers. Raises `Unreadable`."""
+
+    COLUMNS = ("found", "archive", "game", "of")
 
     def __init__(self, lines: Iterable[str], name: str) -> None:
         self._rows, self._name = csv.reader(lines), name
         self._place = 0
         self._origin: tuple[str, int | None] = ("", None)
-        if self._next() != ["found", "archive", "game"]:
+        head = self._next()
+        if head is None or head not in ([*self.COLUMNS], [*self.COLUMNS[:3]]):
+            raise self._fault()
+        self._width = len(head)
+        self._first = self._next()
+        self.is_empty = self._first is None
+        self.digest = self._first[3] if self._first is not None and len(self._first) == self._width == 4 else ""
+        if self.digest and not DIGEST.fullmatch(self.digest):
             raise self._fault()
 
     def _fault(self) -> Unreadable:
@@ -100,13 +123,19 @@ class Index:
         except (ValueError, csv.Error) as fault:
             raise self._fault() from fault
 
+    def _row(self) -> list[str] | None:
+        row, self._first = self._first or self._next(), None
+        if row is not None and len(row) != self._width:
+            raise self._fault()
+        return row
+
     def origin(self, found: int) -> tuple[str, int | None] | None:
         """Archive and number there of the game with this number in the file; None where there is no row of it."""
-        while self._place < found and (row := self._next()) is not None:
+        while self._place < found and (row := self._row()) is not None:
             try:
-                place, archive, game = row
+                place, archive, game = row[:3]
                 before, self._place = self._place, int(place)
-                self._origin = (archive, int(game) if game else None)
+                self._origin = (text_of(archive), int(game) if game else None)
             except ValueError as fault:
                 raise self._fault() from fault
             if self._place <= before:
@@ -135,8 +164,8 @@ def _cells(columns: Sequence[str]) -> Callable[[Position], Sequence[Value]]:
         values = list(values_of(row))
         for number in guarded:
             value = values[number]
-            if isinstance(value, str) and value[:1] in FORMULA:
-                values[number] = "'" + value
+            if isinstance(value, str) and value[:1] in FIRST:
+                values[number] = cell(value)
         return values
 
     return cells
@@ -149,11 +178,11 @@ def _batches(rows: Iterable[Position]) -> Iterator[list[Position]]:
 
 
 def as_csv(rows: Iterable[Position], columns: Sequence[str]) -> Iterator[str]:
-    """The rows as CSV (RFC 4180) with a first line of names, some at a time. A cell that a spreadsheet would take for a formula has a `'`
-    before it."""
+    """The rows as CSV (RFC 4180) with a first line of names, some at a time. Each cell has quotes. A cell that a spreadsheet would take for
+    a formula has a `'` before it."""
     text = io.StringIO()
-    writer = csv.writer(text)
-    writer.writerow(["'" + column if column[:1] in FORMULA else column for column in columns])
+    writer = csv.writer(text, quoting=csv.QUOTE_ALL)
+    writer.writerow(map(cell, columns))
     cells = _cells(columns)
     for batch in _batches(rows):
         writer.writerows(map(cells, batch))

@@ -63,14 +63,14 @@ class Source:
                     tell(f"{shown(name)}: {line.decode().rstrip()}")
 
     def sections(self) -> Iterator[page.Section]:
-        """The games of each file with their matches. Raises what `games.read` does."""
+        """The games of each file with their matches, which are read as they are taken. Taking them raises what `games.read` does."""
         for place, name in enumerate(self._files):
-            yield page.Section(self._title(place, name), list(self._read(name)))
+            yield page.Section(self._title(place, name), self._read(name))
 
-    def matches(self) -> Iterator[tuple[str, list[boards.Match]]]:
+    def matches(self) -> Iterator[tuple[str, Iterator[boards.Match]]]:
         """The matches of each file with its title, likewise."""
         for section in self.sections():
-            yield section.title, [match for _, found in section.games for match in found]
+            yield section.title, (match for _, found in section.games for match in found)
 
     def tell_nothing(self) -> None:
         """Says so where there is no board."""

@@ -16,6 +16,7 @@ from ..mending.archive import Mender, Sums, Told
 from ..mending.classes import CLASSES
 from ..mending.text import Change
 from ..mending.writing import Differences, Whole
+from ..rows import cell
 from .ends import run, tell
 from .words import Parser
 
@@ -81,8 +82,7 @@ class Telling:
     def _row(self, cells: list[str]) -> None:
         if self._rows is not None:
             text = io.StringIO()
-            # what a spreadsheet would take for a formula has a ' before it
-            csv.writer(text).writerow(["'" + cell if cell[:1] in ("=", "+", "-", "@") else cell for cell in cells])
+            csv.writer(text, quoting=csv.QUOTE_ALL).writerow(map(cell, cells))
             self._rows.write(text.getvalue().encode("utf-8", "surrogateescape"))
 
 

@@ -3,8 +3,6 @@
 from __future__ import annotations
 
 import argparse
-import csv
-import io
 import os
 import tempfile
 import threading
@@ -20,11 +18,11 @@ from typing import IO, BinaryIO
 from .. import archives, game_hints, origins, places, process, query
 from ..archives import Archive
 from ..errors import Error, Stopped
-from ..files import STANDARD_INPUT, Replacing, refuse_inputs, shown, standard_output
+from ..files import STANDARD_INPUT, Replacing, refuse_inputs, shown
 from ..process import Counts, Process
 from . import checks, doubtful
 from .ends import run, tell
-from .split import split
+from .outputs import Outputs, index_name
 from .words import Parser
 
 EPILOG = """The games of each archive come in the archive's order, or in that of the query's `sort` items within the archive. Each line of
@@ -104,7 +102,11 @@ def parser() -> argparse.ArgumentParser:
 def _add_outputs(made: argparse.ArgumentParser) -> None:
     """The options that say what is written, and where."""
     made.add_argument("-o", metavar="FILE", dest="out", help="the games go to FILE, which is made when all is answered, with status 0 or 1")
-    made.add_argument("--keep-partial", action="store_true", help="with -o: FILE is made with any status, of what was found")
+    made.add_argument(
+        "--keep-partial",
+        action="store_true",
+        help="with -o: FILE is made with any status, of the games that were found, each of them whole",
+    )
     made.add_argument("-c", dest="count", action="store_true", help="counts alone: no games are written")
     made.add_argument(
         "-q", dest="quiet", action="store_true", help="nothing is written but failures; the status says whether a game was found"
@@ -116,8 +118,8 @@ def _add_outputs(made: argparse.ArgumentParser) -> None:
     made.add_argument(
         "--number",
         action="store_true",
-        help="rows `found,archive,game`: which game of which archive each game is; in FILE.csv beside the FILE of -o, or with -c on "
-        "standard output",
+        help="rows `found,archive,game`: which game of which archive each game is; in FILE.csv beside the FILE of -o, with the digest of "
+        "FILE in a fourth column, or with -c on standard output",
     )
 
 
@@ -196,9 +198,13 @@ def answered(archive: Archive | Error, job: Job, out: IO[bytes] | None, live: bo
         with ExitStack() as rooms:
             if job.number and archive.path == STANDARD_INPUT:
                 archive = origins.kept(archive, rooms.enter_context(tempfile.NamedTemporaryFile()))
+            seen = origins.state(archive) if job.number else ()
             _ask(archive, answer, job, out, told)
             if job.number and answer.status in (0, 1):
                 answer.numbers = _numbers(archive, answer, job)
+                # the numbers come of a second reading
+                if not job.first and (len(answer.numbers) != answer.counts[0].matched or origins.state(archive) != seen):
+                    raise origins.changed(archive)
     except Error as fault:
         told(str(fault))
         answer.status, answer.counts, answer.numbers = fault.status, [], []
@@ -271,61 +277,6 @@ def at_once(wanted: Iterable[Archive | Error], job: Job, jobs: int) -> Iterator[
         finally:
             pool.shutdown(wait=False, cancel_futures=True)
             job.stop()
-
-
-class Outputs:
-    """Where the games go: standard output, a file, a file for each query, or nowhere; and the rows of where they came from."""
-
-    def __init__(self, flags: argparse.Namespace, files: Replacing, queries: int) -> None:
-        self._files, self._rows, self._found = files, flags.number, 0
-        self._to: list[BinaryIO] = []
-        self._row_text = io.StringIO()
-        self.nowhere = flags.count or flags.quiet
-        self.direct: BinaryIO | None = None
-        if flags.out is not None and flags.many is not None:
-            self._to = [files.open(f"{flags.out}{number:02}.pgn") for number in range(1, queries + 1)]
-        elif flags.out is not None:
-            self.direct = files.open(flags.out)
-        self._index = files.open(index_name(flags.out)) if self._rows and flags.out is not None else None
-        if self._rows:
-            csv.writer(self._row_text).writerow(["found", "archive", "game"])
-
-    def take(self, answer: Answer) -> None:
-        """Hands on what an archive gave, where it is not written yet."""
-        if answer.out is not None and not self.nowhere and answer.status not in (2, 3, 4):
-            answer.out.seek(0)
-            if self._to and answer.status in (0, 1):
-                split(answer.out, self._to)
-            elif not self._to:
-                copy(answer.out, self.direct or standard_output())
-        rows = csv.writer(self._row_text)
-        for number in answer.numbers:
-            self._found += 1
-            rows.writerow([self._found, answer.name, number])
-        self._write_rows()
-
-    def _write_rows(self) -> None:
-        if self._rows:
-            text = self._row_text.getvalue().encode("utf-8", "surrogateescape")
-            to = self._index or standard_output()
-            to.write(text)
-            to.flush()
-            self._row_text = io.StringIO()
-
-
-def index_name(out: str) -> str:
-    """The file beside the games that says where they came from."""
-    return out + ".csv"
-
-
-def copy(source: IO[bytes], to: BinaryIO) -> None:
-    """Copies a file. Raises `Stopped` where the other one takes nothing."""
-    try:
-        while block := source.read(archives.BLOCK):
-            to.write(block)
-        to.flush()
-    except OSError as fault:
-        raise Stopped(process.in_words(6) or "", 6) from fault
 
 
 def all_answers(job: Job, names: Sequence[str], flags: argparse.Namespace, outputs: Outputs) -> list[Answer]:
@@ -431,11 +382,14 @@ def ask(flags: argparse.Namespace) -> int:
         outputs if flags.out is not None else [], [*inputs, *([] if flags.many is None and query.is_query(os.fsencode(word)) else [word])]
     )
     with Replacing() as files:
-        done = all_answers(job, names, flags, Outputs(flags, files, queries))
+        to = Outputs(flags, files, queries)
+        done = all_answers(job, names, flags, to)
         tell_end(done, queries, flags)
         status = status_of(done, flags)
         if status < 2 or flags.keep_partial:
+            to.finish()
             files.commit()
+            to.drop_index()
         elif flags.out is not None:
             tell(f"{shown(flags.out)}: was not written, since not all was answered; with --keep-partial it has what was found")
     return status
