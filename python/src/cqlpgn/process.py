@@ -21,6 +21,7 @@ from .signals import unbroken
 
 # what a pipe holds, so that two programs seldom wait for one another
 BUFFER = 1 << 20
+SHORT = 1 << 16  # bytes
 COUNTS = re.compile(r"games (\d+) matched (\d+) refused (\d+)")
 FAULTY_GAME = re.compile(r"game (\d+) byte (\d+): (.*)")
 
@@ -120,7 +121,7 @@ class Process:
                 self._room.flush()
             call += [name or self._room_name if word == self.QUERY else word for word in words]
             source = subprocess.PIPE if blocks is not None else stdin
-            with unbroken(), Launch(call, (file,)) as launch:
+            with unbroken(), Launch(call, (file,), _is_short(blocks)) as launch:
                 self._begin(launch, source, out, err)
         except OSError as fault:
             raise NotFound(f"{call[0]}: {fault.strerror}") from fault
@@ -222,6 +223,11 @@ def end_all() -> None:
     for process in list(_running):
         process.kill()
         process.clear()
+
+
+def _is_short(blocks: Iterable[bytes] | None) -> bool:
+    """Whether the input of a program is a short text in memory, which comes to its end when this process does."""
+    return isinstance(blocks, (list, tuple)) and sum(map(len, blocks)) <= SHORT
 
 
 def _in_memory(data: bytes) -> tuple[int, str]:
