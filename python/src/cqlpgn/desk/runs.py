@@ -158,7 +158,7 @@ class Run:
             pipe.close()
             # else asyncio tells on standard error that the pipe broke
             with suppress(BrokenPipeError, ConnectionResetError):
-                await pipe.wait_closed()
+                await asyncio.shield(pipe.wait_closed())
 
     async def _take(self, process: Process) -> None:
         """Keeps what is found."""
