@@ -4,13 +4,25 @@ from __future__ import annotations
 
 import asyncio
 import contextlib
+import resource
 import socket
 from collections.abc import Callable
 
-MOST_STRANGERS = 64
+MOST_FILES = 8192  # that are asked of the system; strangers have a quarter of those that it gives
 PATIENCE = 10.0  # seconds that a stranger may be there
-CROWDED = 0.1  # the same, where there are as many strangers as may be
+CROWDED = 0.25  # the same, where there are as many strangers as may be
 NO_FILES = 0.05  # seconds until the next try where the system gives no more files
+
+
+def most_strangers() -> int:
+    """How many connections may be strangers, by the files that this process may have open; it asks for more of them."""
+    soft, hard = resource.getrlimit(resource.RLIMIT_NOFILE)
+    most = MOST_FILES if hard == resource.RLIM_INFINITY else min(hard, MOST_FILES)
+    with contextlib.suppress(OSError, ValueError):
+        if soft != resource.RLIM_INFINITY and soft < most:
+            resource.setrlimit(resource.RLIMIT_NOFILE, (most, hard))
+            soft = most
+    return max(16, (most if soft == resource.RLIM_INFINITY else min(soft, most)) // 4)
 
 
 class Guest(asyncio.Protocol):
@@ -68,7 +80,7 @@ class Door:
     """`serve` makes the protocol of a connection; `strangers` are the guests that have not shown the token, the oldest first."""
 
     def __init__(self, serve: Callable[[], asyncio.Protocol]) -> None:
-        self._serve = serve
+        self._serve, self._most = serve, most_strangers()
         self.strangers: dict[Guest, None] = {}
         self.changed = asyncio.Event()
 
@@ -90,7 +102,7 @@ class Door:
 
     async def _make_place(self) -> None:
         """Waits until there is place for one more stranger; the oldest goes when its time is over."""
-        while len(self.strangers) >= MOST_STRANGERS:
+        while len(self.strangers) >= self._most:
             oldest = next(iter(self.strangers))
             left = oldest.since + CROWDED - asyncio.get_running_loop().time()
             if left <= 0:

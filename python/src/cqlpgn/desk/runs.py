@@ -42,6 +42,12 @@ def joined(blocks: Iterator[bytes]) -> Iterator[bytes]:
         yield bytes(kept)
 
 
+async def _closed(pipe: asyncio.StreamWriter) -> None:
+    """Waits until a pipe is closed, whatever becomes of what was written into it."""
+    with suppress(BrokenPipeError, ConnectionResetError):
+        await pipe.wait_closed()
+
+
 class Run:
     """`state` is waiting, reading, done, stopped or failed; `changed` is called when there is something to be told."""
 
@@ -158,9 +164,8 @@ class Run:
             self._fail(str(fault))
         finally:
             pipe.close()
-            # else asyncio tells on standard error that the pipe broke
-            with suppress(BrokenPipeError, ConnectionResetError):
-                await pipe.wait_closed()
+            # asyncio tells on standard error of a pipe that broke, or for whose end nobody waits any more
+            await asyncio.shield(_closed(pipe))
 
     async def _take(self, process: Process) -> None:
         """Keeps what is found."""
