@@ -21,7 +21,7 @@ SHELLS = {
     "zsh": (["zsh", "-f", "-i"], f"fpath=({FOLDER} $fpath); autoload -U compinit; compinit -u -D; unsetopt beep"),
     "fish": (["fish", "-N", "-i"], f"source {FOLDER}/cqlpgn.fish"),
 }
-STUB = "#!/bin/sh\nfor word in \"$@\"; do printf '%s\\0' \"$word\"; done > {0}.new\nmv {0}.new {0}\n"
+STUB = '#!/bin/sh\nfor word in "$@"; do printf \'%s\\0\' "$word"; done > {0}.new\nmv {0}.new {0}\n'
 LONG = 40.0  # seconds that a shell has, at most
 
 
@@ -67,8 +67,8 @@ def typed(tmp_path: Path, shell: str, name: str, line: str) -> list[str]:
         (tools / command).write_text(STUB.format(tools / ("touched" if command == "touch" else "said")))
         (tools / command).chmod(0o755)
     words, begin = SHELLS[shell]
-    environment = {**os.environ, "PATH": f"{tools}:{os.environ['PATH']}", "PS1": "> ", "INPUTRC": "/dev/null", "HISTFILE": "", "TERM": "dumb"}
-    environment["HOME"] = str(tools)
+    environment = {**os.environ, "PATH": f"{tools}:{os.environ['PATH']}", "PS1": "> ", "INPUTRC": "/dev/null", "HISTFILE": ""}
+    environment |= {"HOME": str(tools), "TERM": "dumb"}
     terminal = Terminal(words, folder, environment)
     try:
         assert b"ready" in terminal.type(begin + "; echo rea''dy\r", LONG, b"ready")

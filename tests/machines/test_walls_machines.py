@@ -15,7 +15,7 @@ from tests.processes import PATIENCE
 
 # the engine of these tests finds nothing in a piece, and takes all of it
 ENGINE = '#!/bin/sh\ncase "$3" in /dev/null) ;; *) cat "$3" > /dev/null ;; esac\necho "games 0 matched 0 refused 0" >&2\n'
-PIECES = "#!/bin/sh\necho 1 0 $(wc -c < \"$1\") 1 0\n"
+PIECES = '#!/bin/sh\necho 1 0 $(wc -c < "$1") 1 0\n'
 QUERY = "cql() check"
 pytestmark = pytest.mark.usefixtures("stubs")
 LINKS = ["query.cql", "query.cql.new", "ask.cql.new", "job.new", "table.new", "table", "log", "todo.new"]

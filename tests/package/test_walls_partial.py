@@ -64,7 +64,9 @@ def test_a_file_that_takes_no_more(room: Path, size: int, jobs: list[str], numbe
 def test_an_archive_that_is_cut_off(asked: Asking, room: Path, jobs: list[str]) -> None:
     """The archives before it and after it have their numbers; the games of it have none."""
     (room / "a.pgn").write_bytes(GAME % 1)
-    (room / "b.pgn.gz").write_bytes(gzip.compress(b"".join(GAME.replace(b"%d", os.urandom(100).hex().encode()) for _ in range(99)))[:9000])
+    # more than one block, of games that are not packed well
+    long = b"".join(GAME.replace(b"e5", b"{%s} e5" % os.urandom(20_000).hex().encode()) % number for number in range(40))
+    (room / "b.pgn.gz").write_bytes(gzip.compress(long)[:-20_000])
     answer = asked("cqlpgn-over", *jobs, "--keep-partial", "--number", "-o", "out.pgn", QUERY, "a.pgn", "b.pgn.gz", "a.pgn")
     assert answer.status == 5
     rows = fit(room)
