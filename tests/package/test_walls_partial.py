@@ -54,7 +54,8 @@ def fit(room: Path) -> list[list[str]]:
 def test_a_file_that_takes_no_more(room: Path, size: int, jobs: list[str], number: list[str]) -> None:
     (room / "a.pgn").write_bytes(ARCHIVE[: size // 3].rpartition(b"\n\n[Event")[0] + b"\n\n")
     status = over(room, size, *jobs, *number, QUERY, "a.pgn", "a.pgn", "a.pgn", "a.pgn")
-    assert status == 6 and games_in((room / "out.pgn").read_bytes()) > 0
+    # an engine that writes into the file itself may be ended by a signal
+    assert status in (6, 7) and games_in((room / "out.pgn").read_bytes()) > 0
     if number:
         rows = fit(room)
         assert all(int(row[2]) > 0 for row in rows if row[2])
