@@ -10,6 +10,15 @@ function __cqlpgn_mode
     test (count $words) -ge 2; and contains -- $words[2] $argv
 end
 
+function __cqlpgn_folders --description 'folders; a name with a line end comes as several lines, which are none'
+    for line in (__fish_complete_directories)
+        set -l name (string split -m 1 \t -- $line)[1]
+        if test -d "$name"; or string match -q -- '~*' "$name"
+            printf '%s\n' $line
+        end
+    end
+end
+
 complete -c cqlpgn -f
 complete -c cqlpgn -n '__cqlpgn_place 1' -a run -d 'answers the query in a file over an archive'
 complete -c cqlpgn -n '__cqlpgn_place 1' -a eval -d 'answers a query that is given as a word over an archive'
@@ -58,7 +67,7 @@ complete -c cqlpgn-mend -l diff -d 'what differs'
 complete -c cqlpgn-mend -l help -d 'explains the words'
 
 complete -c cqlpgn-split -f
-complete -c cqlpgn-split -n '__cqlpgn_place 1' -a '(__fish_complete_directories)' -d 'where the files go'
+complete -c cqlpgn-split -n '__cqlpgn_place 1' -a '(__cqlpgn_folders)' -d 'where the files go'
 complete -c cqlpgn-split -l help -d 'explains the words'
 
 complete -c cqlpgn-problems -s o -r -d 'where the games go'
@@ -102,7 +111,7 @@ complete -c cqlpgn-pick -l limit -x -d 'refuses an archive of more bytes'
 complete -c cqlpgn-pick -l help -d 'explains the words'
 
 complete -c cqlpgn-desk -f
-complete -c cqlpgn-desk -n '__cqlpgn_place 1' -a '(__fish_complete_directories)' -d 'where the archives are'
+complete -c cqlpgn-desk -n '__cqlpgn_place 1' -a '(__cqlpgn_folders)' -d 'where the archives are'
 complete -c cqlpgn-desk -l port -x -d 'a port of this machine'
 complete -c cqlpgn-desk -l runs -x -d 'how many runs go at once'
 complete -c cqlpgn-desk -l no-browser -d 'the address is printed alone'

@@ -2,7 +2,9 @@
 
 from __future__ import annotations
 
+import csv
 import gzip
+import io
 from pathlib import Path
 from typing import Any
 
@@ -42,22 +44,26 @@ def test_equal_games(room: Path, query: str, wanted: list[int]) -> None:
     assert [game.game_number for game in package.found(query, "equal.pgn")] == wanted
 
 
+def table(data: bytes) -> list[list[str]]:
+    return list(csv.reader(io.StringIO(data.decode(), newline="")))
+
+
 def test_rows_of_several_archives(asked: Asking, room: Path) -> None:
     (room / "equal.pgn.gz").write_bytes(gzip.compress(EQUAL))
-    equal = [f"{found},equal.pgn.gz,{game}" for found, game in enumerate((1, 3, 5, 8, 10, 11), 2)]
-    rows = ["found,archive,game", "1,one.pgn,2", *equal, "8,two.pgn,3"]
+    equal = [[f"{found}", "equal.pgn.gz", f"{game}"] for found, game in enumerate((1, 3, 5, 8, 10, 11), 2)]
+    rows = [["found", "archive", "game"], ["1", "one.pgn", "2"], *equal, ["8", "two.pgn", "3"]]
     names = ["one.pgn", "equal.pgn.gz", "two.pgn"]
     choices: list[list[str]] = [[], ["-j", "3"]]
     for options in choices:
         answer = asked("cqlpgn-over", "--number", "-c", *options, QUERY, *names)
-        assert (answer.status, answer.out.decode().splitlines()) == (1, rows)
+        assert (answer.status, table(answer.out)) == (1, rows)
         assert asked("cqlpgn-over", "--number", "-o", "out.pgn", *options, QUERY, *names).status == 1
-        assert (room / "out.pgn.csv").read_text().splitlines() == rows
+        assert [row[:3] for row in table((room / "out.pgn.csv").read_bytes())] == rows
         assert (room / "out.pgn").read_bytes().count(b"[Event ") == 8
     answer = asked("cqlpgn-over", "--number", "-c", QUERY, data=EQUAL)
-    assert answer.out.decode().splitlines()[1:] == [f"{n},-,{g}" for n, g in enumerate((1, 3, 5, 8, 10, 11), 1)]
+    assert table(answer.out)[1:] == [[f"{n}", "'-", f"{g}"] for n, g in enumerate((1, 3, 5, 8, 10, 11), 1)]
     answer = asked("cqlpgn-over", "--first", "--number", "-c", "cql() Pe4", "equal.pgn.gz", "two.pgn")
-    assert answer.out.decode().splitlines()[1:] == ["1,equal.pgn.gz,2"]
+    assert table(answer.out)[1:] == [["1", "equal.pgn.gz", "2"]]
 
 
 @pytest.mark.usefixtures("pgnpieces")

@@ -4,6 +4,7 @@ from __future__ import annotations
 
 import bz2
 import gzip
+import hashlib
 import lzma
 import zipfile
 from collections.abc import Callable
@@ -59,7 +60,9 @@ def test_a_name_that_is_not_utf_8(over: Over, room: Path) -> None:
     assert (answer.status, answer.out, answer.err) == (0, found(ONE), f"m\\xfcller.pgn: {COUNTS_ONE}\n")
     answer = over("--number", "-o", b"\xfc.pgn", QUERY, b"m\xfcller.pgn")
     with open(b"\xfc.pgn.csv", "rb") as file:
-        assert (answer.status, file.read()) == (0, b"found,archive,game\r\n1,m\\xfcller.pgn,2\r\n")
+        of = hashlib.sha256(found(ONE)).hexdigest().encode()
+        rows = b'"found","archive","game","of"\r\n"1","m\\xfcller.pgn","2","sha256:' + of + b'"\r\n'
+        assert (answer.status, file.read()) == (0, rows)
 
 
 def test_a_folder(over: Over, room: Path) -> None:

@@ -54,7 +54,8 @@ def fit(room: Path) -> list[list[str]]:
 def test_a_file_that_takes_no_more(room: Path, size: int, jobs: list[str], number: list[str]) -> None:
     (room / "a.pgn").write_bytes(ARCHIVE[: size // 3].rpartition(b"\n\n[Event")[0] + b"\n\n")
     status = over(room, size, *jobs, *number, QUERY, "a.pgn", "a.pgn", "a.pgn", "a.pgn")
-    assert status == 6 and games_in((room / "out.pgn").read_bytes()) > 0
+    # an engine that writes into the file itself may be ended by a signal
+    assert status in (6, 7) and games_in((room / "out.pgn").read_bytes()) > 0
     if number:
         rows = fit(room)
         assert all(int(row[2]) > 0 for row in rows if row[2])
@@ -64,7 +65,9 @@ def test_a_file_that_takes_no_more(room: Path, size: int, jobs: list[str], numbe
 def test_an_archive_that_is_cut_off(asked: Asking, room: Path, jobs: list[str]) -> None:
     """The archives before it and after it have their numbers; the games of it have none."""
     (room / "a.pgn").write_bytes(GAME % 1)
-    (room / "b.pgn.gz").write_bytes(gzip.compress(b"".join(GAME % number + os.urandom(200).hex().encode() for number in range(99)))[:9000])
+    # more than one block, of games that are not packed well
+    long = b"".join(GAME.replace(b"e5", b"{%s} e5" % os.urandom(20_000).hex().encode()) % number for number in range(40))
+    (room / "b.pgn.gz").write_bytes(gzip.compress(long)[:-20_000])
     answer = asked("cqlpgn-over", *jobs, "--keep-partial", "--number", "-o", "out.pgn", QUERY, "a.pgn", "b.pgn.gz", "a.pgn")
     assert answer.status == 5
     rows = fit(room)

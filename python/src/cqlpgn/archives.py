@@ -14,39 +14,16 @@ from dataclasses import dataclass
 from io import BufferedReader
 from typing import Any, BinaryIO, Protocol, cast
 
+from . import zips
 from .errors import Error, NotFound, Unreadable
 from .files import STANDARD_INPUT, shown
+from .zips import Unpacking
 
-BLOCK = 1 << 18
+BLOCK = zips.BLOCK
 # of so many bytes zstd makes at most some megabytes
 PIECE = 256
 PACKED = (".gz", ".bz2", ".xz", ".zst")
 ENDINGS = (".pgn", ".zip", *(".pgn" + kind for kind in PACKED))
-# zstd and xz name how much memory their reader needs; no more is given to an archive of anybody
-MOST_WINDOW = 1 << 27
-
-
-class _Unpacking(Protocol):
-    """The objects of bz2 and lzma that unpack one stream."""
-
-    @property
-    def eof(self) -> bool:
-        """Whether the stream has come to its end."""
-        ...
-
-    @property
-    def needs_input(self) -> bool:
-        """Whether it gives nothing more before it is fed."""
-        ...
-
-    @property
-    def unused_data(self) -> bytes:
-        """What was fed and lies behind the end of the stream."""
-        ...
-
-    def decompress(self, data: bytes, max_length: int = -1) -> bytes:
-        """What the data unpack to, at most so many bytes, if any number is said. Raises what the library does."""
-        ...
 
 
 @dataclass(frozen=True)
@@ -88,8 +65,9 @@ class Archive:
 
     def _unpacked(self, file: BufferedReader, told: _Progress) -> Iterator[bytes]:
         if self.member is not None:
-            with zipfile.ZipFile(file) as packed, packed.open(self.member) as inside:
-                yield from _read(inside, file, told)
+            for block, count in zips.blocks(file, self.member):
+                told.update(count)
+                yield block
         elif _ending(self.path) == ".gz":
             with gzip.GzipFile(fileobj=file) as inside:
                 # a file without a byte is none of gzip's, which its reader lets pass
@@ -106,12 +84,12 @@ class Archive:
                 yield block
 
 
-def _bz2() -> _Unpacking:
+def _bz2() -> Unpacking:
     return bz2.BZ2Decompressor()
 
 
-def _xz() -> _Unpacking:
-    return lzma.LZMADecompressor(lzma.FORMAT_AUTO, MOST_WINDOW)
+def _xz() -> Unpacking:
+    return lzma.LZMADecompressor(lzma.FORMAT_AUTO, zips.MOST_WINDOW)
 
 
 def _zstandard(name: str) -> Any:
@@ -119,7 +97,7 @@ def _zstandard(name: str) -> Any:
         import zstandard
     except ImportError as fault:
         raise Unreadable(f"{shown(name)}: python3-zstandard, which unpacks it, is not installed") from fault
-    return zstandard.ZstdDecompressor(max_window_size=MOST_WINDOW)
+    return zstandard.ZstdDecompressor(max_window_size=zips.MOST_WINDOW)
 
 
 def _unpacking(archive: Archive, fault: Exception) -> str:
@@ -206,7 +184,7 @@ def _frames(file: BufferedReader, unpacker: Any, told: _Progress) -> Iterator[by
         raise EOFError
 
 
-def _streams(file: BufferedReader, begin: Callable[[], _Unpacking], told: _Progress) -> Iterator[bytes]:
+def _streams(file: BufferedReader, begin: Callable[[], Unpacking], told: _Progress) -> Iterator[bytes]:
     """What streams one after the other unpack to; after the last one nothing may come but zero bytes."""
     inside, data = begin(), b""
     while True:
@@ -241,10 +219,11 @@ def members(archive: Archive) -> list[zipfile.ZipInfo]:
     """The games in a `.zip`, each as a file of its own, in the order of its directory. Raises `NotFound` and `Unreadable`."""
     path = archive.path
     try:
-        with archive.open() as file, zipfile.ZipFile(file) as packed:
-            found = [member for member in packed.infolist() if member.filename.lower().endswith(".pgn")]
+        found = [member for member in zips.members(archive.open()) if member.filename.lower().endswith(".pgn")]
     except (Error, MemoryError):
         raise
+    except zips.TooMany as fault:
+        raise Unreadable(f"{shown(path)}: has more than {zips.MOST_MEMBERS} members, or their names are too long") from fault
     except Exception as fault:
         raise Unreadable(f"{shown(path)}: could not be unpacked to its end") from fault
     if not found:
@@ -265,27 +244,29 @@ def single(name: str) -> Archive:
 
 
 def _in_folder(folder: str) -> list[str]:
-    """The archives in a folder and in the folders within it, by their names."""
+    """The archives in a folder and in the folders within it, by their names: regular files, and links to them."""
     found = []
     for place, folders, names in os.walk(folder):
         folders.sort()
-        found += [os.path.join(place, name) for name in sorted(names) if name.lower().endswith(ENDINGS) and not name.startswith(".")]
+        paths = [os.path.join(place, name) for name in sorted(names) if name.lower().endswith(ENDINGS) and not name.startswith(".")]
+        found += [path for path in paths if _kind(path) in (stat.S_IFREG, None)]
     if not found:
         raise NotFound(f"{shown(folder)}: is a folder without archives")
     return found
 
 
-def _is_folder(path: str) -> bool:
+def _kind(path: str) -> int | None:
+    """The kind of the file to which a path leads; None where it leads nowhere."""
     try:
-        return stat.S_ISDIR(os.stat(path).st_mode)
+        return stat.S_IFMT(os.stat(path).st_mode)
     except (OSError, ValueError):
-        return False
+        return None
 
 
 def files(names: Iterable[str]) -> Iterator[str | Error]:
     """The files of some names, those of a folder one by one; a folder that has none gives what is to be said of it."""
     for name in names:
-        if name != STANDARD_INPUT and _is_folder(name):
+        if name != STANDARD_INPUT and _kind(name) == stat.S_IFDIR:
             try:
                 yield from _in_folder(name)
             except Error as fault:

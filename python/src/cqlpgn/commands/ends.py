@@ -15,10 +15,16 @@ from ..signals import Ended, raised
 from .begin import FAILED
 
 Main = Callable[[Sequence[str]], int]
+KEPT = "\n\t"
 
 
 class Failed(BaseException):
     """Standard output or standard error took nothing: there is no more to be done than to end with status 6."""
+
+
+def plain(word: object) -> str:
+    """A word as a terminal may have it: of control characters it has line ends and tabs alone."""
+    return "".join(letter if letter.isprintable() or letter in KEPT else shown(letter) for letter in str(word))
 
 
 def tell(*words: object) -> None:
@@ -35,7 +41,7 @@ def _write(stream: TextIO | None, *words: object) -> None:
     if stream is None:
         raise Failed
     try:
-        print(*words, file=stream, flush=True)
+        print(*map(plain, words), file=stream, flush=True)
     except (OSError, ValueError) as fault:
         raise Failed from fault
 

@@ -9,7 +9,7 @@ from collections.abc import Callable, Sequence
 from typing import IO, BinaryIO
 
 from ..errors import NotFound, Unreadable
-from ..files import Replacing
+from ..files import STANDARD_INPUT, Replacing, refuse_inputs
 from .ends import run
 from .words import Parser
 
@@ -24,7 +24,8 @@ def parser() -> argparse.ArgumentParser:
         "Puts what `cqlpgn many` has written, and standard input brings, into a file for each query: the games of the first one go to "
         "PREFIX01.pgn, those of the second to PREFIX02.pgn. A query that found nothing has an empty file. The files appear together, when "
         "all was read; those of these names that were there stand until then.",
-        "The exit status is 0 where each query has its file; 3 for words that are not as above; 5 where what was read is not, or not to "
+        "The exit status is 0 where each query has its file; 3 for words that are not as above, and "
+        "where a file is what is read, or two are one file; 5 where what was read is not, or not to "
         "its end, what `cqlpgn many` writes; 6 where a file could not be written.",
     )
     made.add_argument(
@@ -66,7 +67,13 @@ def main(words: Sequence[str]) -> int:
     if sys.stdin is None:
         raise NotFound("cqlpgn-split: standard input is closed")
     with Replacing() as files:
-        if not split(sys.stdin.buffer, lambda number: files.open(f"{prefix}{number:02}.pgn")):
+
+        def opened(number: int) -> BinaryIO:
+            name = f"{prefix}{number:02}.pgn"
+            refuse_inputs([name], [STANDARD_INPUT])
+            return files.open(name)
+
+        if not split(sys.stdin.buffer, opened):
             raise Unreadable("cqlpgn-split: nothing came: the report of cqlpgn says why")
         files.commit()
     return 0

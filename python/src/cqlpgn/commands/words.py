@@ -6,6 +6,7 @@ import argparse
 import sys
 from typing import NoReturn
 
+from ..files import shown
 from .ends import Failed, say, tell
 
 
@@ -17,8 +18,7 @@ class Parser(argparse.ArgumentParser):
 
     def error(self, message: str) -> NoReturn:
         """Tells the usage and what is wrong with the words; the process ends with status 3."""
-        said = message.encode("utf-8", "backslashreplace").decode()
-        tell(self.format_usage() + f"{self.prog}: {said}\n`{self.prog} --help` has more.")
+        tell(self.format_usage() + f"{self.prog}: {shown(message)}\n`{self.prog} --help` has more.")
         sys.exit(3)
 
     def exit(self, status: int = 0, message: str | None = None) -> NoReturn:

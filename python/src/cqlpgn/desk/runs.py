@@ -17,7 +17,7 @@ from .folder import Held
 from .found import Found, Full, Parted, Room
 from .program import MEND, PIECE, QUERY, end, kill, start
 
-MOST_FAULTS = 1000
+MOST_FAULTS, MOST_TROUBLES = 1000, 100
 OVER = ("done", "stopped", "failed")
 
 
@@ -61,7 +61,7 @@ class Run:
         self.state, self.troubles = "waiting", [""] * 0
         self._sorts = any(map(queries.sorts, pieces))
         self.faults: list[dict[str, Any]] = []
-        self._read = self._faulty = self._games = self._failed = 0
+        self._read = self._faulty = self._games = self._failed = self._failures = 0
         self._begun = self._ended = time.monotonic()
 
     @property
@@ -81,7 +81,8 @@ class Run:
             "run": self.number,
             "state": self.state,
             "query": self.text.decode("utf-8", "replace"),
-            "archives": [archive.name for archive in self._archives],
+            "archives": len(self._archives),
+            "archive": self._archives[0].name,
             "reading": self._reading.name,
             "troubles": self.troubles,
             "sorts": self._sorts,
@@ -116,12 +117,13 @@ class Run:
             self._changed(self)
 
     def _fail(self, trouble: str, state: str = "") -> None:
-        if trouble not in self.troubles:
-            self.troubles.append(trouble)
+        self._failures += 1
+        if trouble not in self.troubles and len(self.troubles) <= MOST_TROUBLES:
+            self.troubles.append(trouble if len(self.troubles) < MOST_TROUBLES else "more troubles came than are told")
         self.state = state or self.state
 
     async def _over(self, archive: Held) -> None:
-        before, troubles = self._read, len(self.troubles)
+        before, failures = self._read, self._failures
         self._reading = archive
         for found in self.founds:
             found.begin(archive.name)
@@ -138,10 +140,10 @@ class Run:
                 task.cancel()
             await asyncio.gather(*tasks, return_exceptions=True)
             await end(process)
-        if status > 1 or status < 0 and len(self.troubles) == troubles:
+        if status > 1 or status < 0 and self._failures == failures:
             said = in_words(status) or f"cqlpgn ended with status {status}"
             self._fail(f"{shown(archive.name)}: {said}. {MEND if status < 0 else ''}".strip())
-        self._failed += len(self.troubles) > troubles
+        self._failed += self._failures > failures
         self._read = before + archive.size
 
     async def _feed(self, process: Process, archive: Held, before: int) -> None:

@@ -138,13 +138,13 @@ function summed(found, marked) {
 // How far the run is, or how it ended.
 function went() {
   const read = `${bytes(run.read)} of ${bytes(run.size)}`, seconds = `${run.seconds.toFixed(1)} s`;
-  const name = run.archives.length === 1 ? run.archives[0] : `${run.archives.length} archives`;
+  const name = run.archives === 1 ? run.archive : `${run.archives} archives`;
   const none = !run.found.some(Boolean) && !/variations/.test(run.query);
   const late = run.found.length > 1 ? " · of several queries the games come at the end"
     : run.sorts ? " · sorted games come at the end" : "";
   return {
     waiting: "waits for other runs to end",
-    reading: `${run.archives.length > 1 ? `${run.reading} · ` : ""}${read} · ${seconds}${late}`,
+    reading: `${run.archives > 1 ? `${run.reading} · ` : ""}${read} · ${seconds}${late}`,
     done: `${count(run.games, "game", "games")} of ${name} read in ${seconds}`
       + (none ? " · cql(variations) searches the variations too" : ""),
     stopped: `stopped after ${read}`,
