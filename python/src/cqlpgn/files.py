@@ -88,7 +88,7 @@ class Replacing:
             self._open = []
 
     def open(self, name: str) -> BinaryIO:
-        """A new file for a name. Raises `Stopped` (status 6) where it can't be made, and `Error` (3) where two names are one file."""
+        """A new file for a name. Raises `Stopped` (status 6) where it can't be made, and `Error` (3) where two are one file."""
         try:
             target = _resolved(name)
             mode = _mode_of(target)
