@@ -74,9 +74,7 @@ class Walled:
         """A command that is begun, as the leader of a group."""
         call = as_nobody(bounded([sys.executable, str(self._room / "bin" / command), *words], memory))
         pipe = subprocess.PIPE
-        return subprocess.Popen(
-            call, cwd=self.folder, env=self._environment, stdin=stdin, stdout=pipe, stderr=pipe, start_new_session=True
-        )
+        return subprocess.Popen(call, cwd=self.folder, env=self._environment, stdin=stdin, stdout=pipe, stderr=pipe, start_new_session=True)
 
     def ask(self, command: str, *words: str, data: bytes = b"", memory: int = 0, seconds: float = PATIENCE) -> Answer:
         """The answer of a command, which has run no code of the folder."""

@@ -91,7 +91,7 @@ def test_a_zip_is_read_once(room: Path, monkeypatch: pytest.MonkeyPatch) -> None
     assert [b"".join(one.blocks()) for one in found] == [ONE] * 50 and count == 1
 
 
-@pytest.mark.parametrize("name", ["{}.pgn", "{}.txt", "{}" + "n" * 400 + ".txt"])
+@pytest.mark.parametrize("name", ["{}.pgn", "{}.txt", "{}" + "n" * 400 + ".txt"], ids=["games", "others", "long"])
 def test_more_members_than_are_read_are_told(walled: Walled, name: str) -> None:
     zipped(walled.folder / "a.zip", {name.format(number): b"" for number in range(zips.MOST_MEMBERS + 1)} | {"a.pgn": ONE})
     walled.give()

@@ -88,7 +88,7 @@ class Replacing:
             self._open = []
 
     def open(self, name: str) -> BinaryIO:
-        """A new file for that name. Raises `Stopped` (status 6) where it can't be made, and `Error` (3) where two names are of one file."""
+        """A new file for a name. Raises `Stopped` (status 6) where it can't be made, and `Error` (3) where two are one file."""
         try:
             target = _resolved(name)
             mode = _mode_of(target)
@@ -224,7 +224,7 @@ def _give_name(output: _Output) -> None:
 
 
 def remove_left(folder: str) -> None:
-    """Removes what runs of the same user have left there in the moment in which they were killed. A file of a run that goes on is locked."""
+    """Removes what killed runs of the same user have left in a folder. A file of a run that goes on is locked."""
     names = [name for name in os.listdir(folder) if LEFT.fullmatch(name)] if os.access(folder, os.R_OK) else []
     for path in (os.path.join(folder, name) for name in names):
         with suppress(OSError):
