@@ -1,0 +1,2 @@
+cql() mate flipcolor fliphorizontal { #(a & anydirection 1 k) >= 2 square x in B & (northeast k | southwest k) { x attacks k
+  square z in orthogonal 1 k & ~a square y in B & (northwest z | southeast z) y attacks z } }

@@ -1,0 +1,1 @@
+cql() mate flip flipcolor { kh7 Qg8 Bf7 }
