@@ -1,1 +1,1 @@
-cql() mate flip flipcolor { kh7 Qg8 Bf7 }
+cql() mate flipcolor fliphorizontal { kh7 Qg8 Bf7 }
