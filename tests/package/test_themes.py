@@ -60,6 +60,12 @@ def test_the_page() -> None:
     assert (TOP / "docs" / "THEMES.md").read_text(encoding="utf-8") == themes_page.page()
 
 
+@pytest.mark.parametrize("name", ["_cqlpgn", "cqlpgn.bash", "cqlpgn.fish"])
+def test_the_shells_know_each_name(name: str) -> None:
+    text = (TOP / "contrib" / "completion" / name).read_text(encoding="utf-8")
+    assert " ".join(theme.id for theme in all_themes()) in text
+
+
 def test_the_list(asked: Asking) -> None:
     done = asked("cqlpgn-over", "--themes")
     lines = done.out.decode().splitlines()
@@ -80,7 +86,9 @@ def test_a_name_that_no_theme_has(asked: Asking) -> None:
     assert "no theme has the name smoothered-mate; there is smothered-mate" in done.err
 
 
-@pytest.mark.parametrize("words", [["--themes", "a.pgn"], ["--theme", "x", "--themes"], ["--all-themes", "-q"], ["--theme", "x", "--check"]])
+@pytest.mark.parametrize(
+    "words", [["--themes", "a.pgn"], ["--theme", "x", "--themes"], ["--all-themes", "-q"], ["--theme", "x", "--check"]]
+)
 def test_options_that_do_not_go_together(asked: Asking, words: list[str]) -> None:
     assert asked("cqlpgn-over", *words).status == 3
 

@@ -23,7 +23,9 @@ KINDS = {
 }
 NAME = re.compile(r"[a-z0-9]+(?:-[a-z0-9]+)*")
 # The board, the side to move, the rights to castle and the en passant square of an example, and its moves.
-EXAMPLE = re.compile(r"((?:[KQRBNPkqrbnp1-8]{1,8}/){7}[KQRBNPkqrbnp1-8]{1,8} [wb] (?:-|K?Q?k?q?) (?:-|[a-h][36]))(?: \| ([A-Za-z0-9=+# -]+))?")
+EXAMPLE = re.compile(
+    r"((?:[KQRBNPkqrbnp1-8]{1,8}/){7}[KQRBNPkqrbnp1-8]{1,8} [wb] (?:-|K?Q?k?q?) (?:-|[a-h][36]))(?: \| ([A-Za-z0-9=+# -]+))?"
+)
 TEXTS = ("id", "name", "kind", "says", "query", "omits")
 LISTS = ("others", "found", "near")
 FIELDS = {*TEXTS, *LISTS, "wings", "cost"}

@@ -28,7 +28,9 @@ def add(made: argparse.ArgumentParser) -> None:
     """Adds the options to a parser."""
     made.add_argument("--theme", metavar="NAME", help="the query is that of the theme of this name, as smothered-mate; `--themes` has all")
     made.add_argument("--themes", action="store_true", help="no archive is asked: the names of the themes are listed, each with what it is")
-    made.add_argument("--all-themes", action="store_true", help="all themes are asked: a table of how many games have each, with one of them")
+    made.add_argument(
+        "--all-themes", action="store_true", help="all themes are asked: a table of how many games have each, with one of them"
+    )
 
 
 def refuse_together(made: argparse.ArgumentParser, flags: argparse.Namespace) -> None:
