@@ -38,12 +38,15 @@ _cqlpgn() {
     esac
 }
 
+_cqlpgn_themes='back-rank-mate smothered-mate anastasia-mate arabian-mate boden-mate legal-mate hook-mate epaulette-mate dovetail-mate cozio-mate swallows-tail-mate opera-mate morphy-mate pillsbury-mate damiano-mate lolli-mate greco-mate two-bishops-mate suffocation-mate blackburne-mate reti-mate kill-box-mate triangle-mate vukovic-mate max-lange-mate corner-mate anderssen-mate balestra-mate blind-swine-mate david-and-goliath-mate fork-that-wins underpromotion double-check discovered-attack pin skewer greek-gift windmill isolated-queen-pawn hanging-pawns carlsbad-structure minority-attack maroczy-bind stonewall hedgehog french-chain doubled-pawns passed-pawn backward-pawn queenside-majority lucena-position philidor-position wrong-bishop opposite-bishops rook-behind-passed-pawn queen-against-pawn two-bishops-against-knight castling-lost one-man-thrice hung-piece'
+
 _cqlpgn_over() {
     local word=${COMP_WORDS[COMP_CWORD]} before=${COMP_WORDS[COMP_CWORD - 1]}
     COMPREPLY=()
     case $before in
         -o) _cqlpgn_files pgn "$word"; return ;;
         --many | --check) _cqlpgn_files 'cql|txt' "$word"; return ;;
+        --theme) mapfile -t COMPREPLY < <(compgen -W "$_cqlpgn_themes" -- "$word"); return ;;
         -j) mapfile -t COMPREPLY < <(compgen -W '2 4 8 16' -- "$word"); return ;;
         --workers) mapfile -t COMPREPLY < <(compgen -W '1 2 4 8 16 32 64' -- "$word"); return ;;
         --limit) return ;;
@@ -51,6 +54,7 @@ _cqlpgn_over() {
     case $word in
         -*)
             mapfile -t COMPREPLY < <(compgen -W '-o -c -q -p -j --keep-partial --first --number --many --summary --check --doubtful \
+                --theme --themes --all-themes \
                 --workers --limit --help' -- "$word") ;;
         *) _cqlpgn_files 'cql|pgn|gz|bz2|xz|zst|zip' "$word" ;;
     esac

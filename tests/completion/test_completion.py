@@ -29,6 +29,8 @@ LINES = [
     ("pgnpieces ", "games.pgn"),
     ("cqlpgn-over ", "q.cql games.pgn packed.pgn.gz"),
     ("cqlpgn-over -", "-o -c -q -p -j --first --number --many --check --doubtful --workers --limit"),
+    ("cqlpgn-over --", "--theme --themes --all-themes"),
+    ("cqlpgn-over --theme sm", "smothered-mate"),
     ("cqlpgn-mend -", "-o -q --only --not --report --dry-run --diff"),
     ("cqlpgn-mend g", "games.pgn"),
     ("cqlpgn-mend --only ", "results notation castling captures checks letters glyphs brackets tags positions numbers nulls remarks bytes"),

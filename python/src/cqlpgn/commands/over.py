@@ -20,7 +20,7 @@ from ..archives import Archive
 from ..errors import Error, Stopped
 from ..files import STANDARD_INPUT, Replacing, refuse_inputs, shown
 from ..process import Counts, Process
-from . import checks, doubtful
+from . import checks, doubtful, themes_asked
 from .ends import run, tell
 from .outputs import Outputs, index_name
 from .words import Parser
@@ -85,6 +85,7 @@ def parser() -> argparse.ArgumentParser:
         "cqlpgn-over", "Asks one query, or a file of them, of several archives, packed or not, and says in words what went wrong.", EPILOG
     )
     forms = ["[OPTION..] QUERY [ARCHIVE..]", "[OPTION..] --many FILE [ARCHIVE..]", "--check FILE..", "--doubtful [ARCHIVE..]"]
+    forms += ["[OPTION..] --theme NAME [ARCHIVE..]", "--themes", "--all-themes [ARCHIVE..]"]
     made.usage = "\n       ".join(f"cqlpgn-over {form}" for form in forms)
     made.add_argument(
         "words",
@@ -96,6 +97,7 @@ def parser() -> argparse.ArgumentParser:
     )
     _add_outputs(made)
     _add_others(made)
+    themes_asked.add(made)
     return made
 
 
@@ -399,6 +401,13 @@ def main(words: Sequence[str]) -> int:
     """Asks the archives, or checks files of queries, and gives the exit status. Raises `Error`."""
     made = parser()
     flags = made.parse_intermixed_args(words)
+    themes_asked.refuse_together(made, flags)
+    if flags.themes:
+        return themes_asked.list_all()
+    if flags.all_themes:
+        return themes_asked.tell_table(flags)
+    if flags.theme is not None:
+        flags.words = [themes_asked.query_of(made, flags.theme), *flags.words]
     refuse_together(made, flags)
     if flags.doubtful:
         return doubtful.tell_all(flags.words)

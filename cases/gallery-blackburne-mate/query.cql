@@ -1,0 +1,1 @@
+cql() mate flipcolor fliphorizontal { kg8 Bh7 Ng5 B attacks g7 }

@@ -1,0 +1,1 @@
+cql() mate flipcolor fliphorizontal { kg8 Qh7 Pg6 }

@@ -1,0 +1,1 @@
+cql() mate flipcolor { P attacks k }

@@ -1,0 +1,1 @@
+cql() flipcolor { btm #(A attacks k) >= 2 }

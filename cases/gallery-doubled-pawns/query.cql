@@ -1,0 +1,1 @@
+cql() flipcolor { P & up P }

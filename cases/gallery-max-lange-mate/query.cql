@@ -1,0 +1,1 @@
+cql() mate flipcolor fliphorizontal { kh7 Qg8 Bf7 }

@@ -1,0 +1,1 @@
+cql() mate flipcolor { N attacks k not (anydirection 1 k & ~a) }

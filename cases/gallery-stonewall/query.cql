@@ -1,0 +1,1 @@
+cql() flipcolor { Pc3 Pd4 Pe3 Pf4 }

@@ -1,0 +1,1 @@
+cql() flipcolor { btm move promote [RBN] }
