@@ -101,6 +101,9 @@ CALLS: list[list[str]] = [
     ["cqlpgn-rows", "found.pgn"],
     ["cqlpgn-diagrams", "found.pgn"],
     ["cqlpgn-mend", "half.pgn"],
+    ["cqlpgn-pick", GAMES, "1,2"],
+    ["cqlpgn-pick", GAMES, "--where", 'Result = "0-1" and not comment ~ "x"'],
+    ["cqlpgn-pick", "half.pgn", "--faulty"],
 ]
 
 
