@@ -122,16 +122,22 @@ class Process:
             call += [name or self._room_name if word == self.QUERY else word for word in words]
             source = subprocess.PIPE if blocks is not None else stdin
             with unbroken(), Launch(call, (file,), _is_short(blocks)) as launch:
-                self._begin(launch, source, out, err)
+                self._begin(launch, blocks, source, out, err)
         except OSError as fault:
             raise NotFound(f"{call[0]}: {fault.strerror}") from fault
         finally:
             os.close(file)
-        if blocks is not None:
-            self._thread = threading.Thread(target=self._feed, args=(blocks,), daemon=True)
-            self._thread.start()
 
-    def _begin(self, launch: Launch, stdin: int | IO[bytes] | None, out: int | IO[bytes] | None, err: int | IO[bytes] | None) -> None:
+    def _begin(
+        self,
+        launch: Launch,
+        blocks: Iterable[bytes] | None,
+        stdin: int | IO[bytes] | None,
+        out: int | IO[bytes] | None,
+        err: int | IO[bytes] | None,
+    ) -> None:
+        """Makes the child, feeds it, and waits until it is the program. Raises `OSError` where it can't be."""
+
         def begun() -> subprocess.Popen[bytes]:
             return subprocess.Popen(launch.call, stdin=stdin, stdout=out, stderr=err, pass_fds=launch.files, bufsize=BUFFER)
 
@@ -141,6 +147,9 @@ class Process:
         for stream in (self._process.stdin, self._process.stdout, self._process.stderr):
             if stream is not None:
                 widen(stream)
+        if blocks is not None:
+            self._thread = threading.Thread(target=self._feed, args=(blocks,), daemon=True)
+            self._thread.start()
         try:
             launch.wait()
         except OSError:
