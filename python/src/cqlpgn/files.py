@@ -141,7 +141,7 @@ def _remove(name: str) -> None:
 
 
 def _resolved(name: str) -> str:
-    """The path to which a name leads. Raises `PermissionError` where it leads over a link of another user in a sticky folder, as /tmp is."""
+    """The path to which a name leads. Raises `PermissionError` at a link of another user in a sticky folder, as /tmp is."""
     path, rest, links = "/", os.path.join(os.getcwd(), name).split("/")[::-1], 0
     while rest:
         part = rest.pop()
