@@ -178,7 +178,7 @@ def _own_file(place: Place) -> Iterator[str]:
     tricks = {
         "taken away": 'rm -f "$file"',
         "a folder now": 'rm -f "$file"; mkdir "$file"',
-        "in a folder that is gone": 'rm -f "$file"; mv ~ ~.gone',
+        "in a folder that is gone": 'rm -f "$file"; mv "$HOME" "$HOME.gone"',
     }
     tricks |= {"renamed": 'mv "$file" "$file.x"', "a link to nothing": 'ln -sf /nowhere "$file"; rm "$file"'}
     home = place.room / "home"
