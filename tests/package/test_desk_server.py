@@ -307,18 +307,23 @@ def test_a_filter_finds_what_the_tags_say(text: str) -> None:
 def test_of_several_filters_the_last_counts(served: Served) -> None:
     async def filters() -> None:
         async with Line(served) as line:
-            run = await line.over("cql() mate", "inner/large.pgn")
+            run = await line.over("cql() mate", "many.pgn")
             which = {"run": run["run"], "query": 0}
-            for number, text in ((91, "nobody"), (92, "a")):
+            # each game has the first text, so that this filter takes longer than the second one
+            for number, text in ((91, "a"), (92, "nobody")):
                 await line.socket.send_json({"n": number, "do": "filter", "text": text, **which})
             left: dict[int, int] = {}
             while len(left) < 2:
                 answer = await line.socket.receive_json(timeout=PATIENCE)
                 left |= {answer["n"]: answer["is"]} if "n" in answer else {}
-            assert left == {91: 0, 92: run["found"][0]}
-            assert len(await line.ask("rows", first=0, count=5, **which)) == 5
+            assert left == {91: run["found"][0], 92: 0} and run["found"] == [30_000]
+            assert await line.ask("rows", first=0, count=5, **which) == []
 
-    asyncio.run(filters())
+    (served.folder / "many.pgn").write_bytes(GAME * 30_000)
+    try:
+        asyncio.run(filters())
+    finally:
+        (served.folder / "many.pgn").unlink()
 
 
 def test_a_page_that_would_be_too_long(tmp_path: Path) -> None:
