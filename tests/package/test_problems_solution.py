@@ -268,6 +268,24 @@ def test_a_text_that_would_become_a_forest_is_refused(rest: str, monkeypatch: py
         moves("1.Kd6 g4 2.Q~ g3+ 3.K~ Kh3 4.Q~ Kh2 5.K~ Kg2", "#99", ("Kd7", "Qa3"), ("Kh2", "Pg5"))
 
 
+@pytest.mark.parametrize("line", ["1.Q~ K~ 2.Q~ K~ 3.Q~", "1.Q~ ~ 2.Q~ K~ 3.Q~ K~ 4.Q~", "1.K~ K~ 2.K~ K~ 3.K~ K~ 4.K~"])
+def test_a_short_text_may_not_have_many_moves(line: str) -> None:
+    with pytest.raises(TooLarge, match=f"more than {2_000 + 20 * len(line)} moves"):
+        moves(line, "#4", ("Kd6", "Qh1", "Qg1"), ("Kb8",))
+
+
+def test_all_twins_have_one_budget() -> None:
+    made = outcomes("a)\n1.Q~ K~ 2.Q~\n" * 8, "#4", ("Kd6", "Qh1"), ("Kb8",))
+    assert isinstance(made[0], Game) and isinstance(made[-1], TooLarge)
+
+
+def test_many_comments_at_one_move_are_soon_kept() -> None:
+    text = "1.Qe3 " + "".join(f"{{a{number}}} " for number in range(16_000))
+    before = time.process_time()
+    assert moves(text).count("{") == 16_000
+    assert time.process_time() - before < 5
+
+
 def test_brackets_may_not_be_open_without_end() -> None:
     assert moves("1.Qe3 " + "( ) " * 1000) == "1. Qe3 *"
     with pytest.raises(TooLarge, match="more than 100 open brackets"):

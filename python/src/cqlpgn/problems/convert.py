@@ -10,7 +10,7 @@ from .board import SQUARES, Board
 from .diagram import Men, check_men, diagram, rights, twin
 from .faults import BadDiagram, BadTwin, FairyCondition, IllegalMove, NoSolution, OtherStipulation, ProblemFault
 from .records import Record
-from .solution import Reader
+from .solution import Budget, Reader
 from .tokens import plain
 from .tree import Node, arrange
 from .writing import game, printable
@@ -113,20 +113,20 @@ def _passed_square(men: Men, white: bool, fault: IllegalMove) -> int:
     return goal if men[goal + back] == ("p" if white else "P") else -1
 
 
-def tree(men: Men, white: bool, text: str, base: int) -> Node:
+def tree(men: Men, white: bool, text: str, base: int, budget: Budget) -> Node:
     """The tree of a solution. Where its first move needs an en passant square, there is one."""
     check_men(men)
     board = Board(men, white, rights(men))
     if board.checked(not white):
         raise BadDiagram("the side that is not to move is in check")
     try:
-        root = Reader(board, base).read(text)
+        root = Reader(board, base, budget).read(text)
     except IllegalMove as fault:
         board.passed_square = _passed_square(men, white, fault)
         if board.passed_square < 0:
             raise
         try:
-            root = Reader(board, base).read(text)
+            root = Reader(board, base, budget).read(text)
         except ProblemFault:
             raise fault from None
     return root
@@ -141,6 +141,7 @@ class Converter:
         self.by_black = bool(BY_BLACK.search(record.stipulation))
         self.men: Men = []
         self.twin_men: Men = []
+        self.budget = Budget(len(record.solution))
 
     def games(self) -> Iterator[Game | Left]:
         """A game for each twin, or why it is left out."""
@@ -201,7 +202,7 @@ class Converter:
         else:
             self.twin_men = self.men
         white = by_black ^ (not asked.helped) ^ asked.half
-        root = tree(self.twin_men, white, part.text, int(asked.half))
+        root = tree(self.twin_men, white, part.text, int(asked.half), self.budget)
         arrange(root, 0 if asked.helped else asked.plies)
         tags = self._tags(asked.event(by_black), root.board.fen(), " ".join([part.letter, said]))
         return Game(game(tags, root), root, asked)

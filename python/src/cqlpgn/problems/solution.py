@@ -25,8 +25,9 @@ ELSE = re.compile(r"(else|any|beliebig|arbitrary)[.:]*$", re.IGNORECASE)
 BUT = re.compile(r"(but|aber)[.:]*$", re.IGNORECASE)
 MOVES = ("move", "any", "pawn", "promotion", "target")
 SQUARE = re.compile("[a-h][1-8]")
-# More than ten times what any solution of a collection takes.
+# More than ten times what any solution of a collection takes; a short text may have fewer.
 MOST_MOVES = 20_000
+MOVES_AT_LEAST, MOVES_OF_LETTER = 2_000, 20
 MOST_PLIES = 2_000
 MOST_BRACKETS = 100
 
@@ -52,21 +53,35 @@ def attached(node: Node) -> Node:
     for child in node.parent.children:
         if child is node or child.move is not None and child.move == node.move:
             if child.loose and not node.loose:  # the text gives this one of its own
-                child.loose, child.children, child.comments = False, [], []
+                child.loose, child.children, child.comments = False, [], {}
             return child
     node.parent.children.append(node)
     return node
 
 
+class Budget:
+    """How many moves may be tried for the texts of one record, by their length."""
+
+    def __init__(self, letters: int) -> None:
+        self.most = min(MOST_MOVES, MOVES_AT_LEAST + MOVES_OF_LETTER * letters)
+        self.tried = 0
+
+    def take(self, moves: int) -> None:
+        """Counts moves that were tried. Raises `TooLarge`."""
+        self.tried += moves
+        if self.tried > self.most:
+            raise TooLarge(f"more than {self.most} moves")
+
+
 class Tree:
     """The tree as far as it is read: `plies[p]` has the nodes that now stand for ply p, counted from the root; `ply` is the last one."""
 
-    def __init__(self, board: Board) -> None:
+    def __init__(self, board: Board, budget: Budget) -> None:
         self.root = Node(board)
         self.plies: list[list[Node]] = [[self.root]]
         self.ply = 0
         self.fresh: list[Node] = []
-        self.tried = 0
+        self.budget = budget
 
     def _pass(self, ply: int) -> None:
         """Lets the side pass that has no move before this ply."""
@@ -85,13 +100,14 @@ class Tree:
         gone: set[Node] = set()
         faults: list[tuple[bool, ProblemFault]] = []
         for node in self.plies[ply - 1]:
-            if self.tried + len(made) + len(faults) > MOST_MOVES:
-                raise TooLarge(f"more than {MOST_MOVES} moves")
+            found: list[Node] = []
             try:
-                made += make(node)
+                found = make(node)
             except ProblemFault as fault:
                 faults.append((node.loose, fault))
                 gone |= {node} if node.loose and not node.children else set()
+            made += found
+            self.budget.take(len(found) or 1)
         self._refuse(faults, bool(made))
         self._drop(gone, ply - 1)
         before = self.plies[ply] if beside and len(self.plies) > ply else []
@@ -99,7 +115,6 @@ class Tree:
         del self.plies[ply:]
         self.plies.append(before + self.fresh)
         self.ply = ply
-        self.tried += len(made) + len(faults)
 
     @staticmethod
     def _refuse(faults: list[tuple[bool, ProblemFault]], some: bool) -> None:
@@ -129,8 +144,8 @@ class Tree:
 class Reader:
     """Reads the words of a solution. `base` plies are left out at the start: White begins in a help mate of a half move more."""
 
-    def __init__(self, board: Board, base: int) -> None:
-        self.tree = Tree(board)
+    def __init__(self, board: Board, base: int, budget: Budget) -> None:
+        self.tree = Tree(board, budget)
         self.base = base
         self.wanted: int | None = None  # the ply that a number has said
         self.beside = False  # after a sign of alternatives
@@ -214,6 +229,7 @@ class Reader:
         if token.kind != "pawn" or self.wanted is not None:
             return False
         nodes = self.tree.plies[ply - 1] if 0 < ply <= len(self.tree.plies) else []
+        self.tree.budget.take(len(nodes))
         return not any(captures_by_files(node.board, token.text) for node in nodes)
 
     def _take_move(self, token: Token) -> None:
@@ -227,7 +243,7 @@ class Reader:
             return
         self._place(token, ply, beside)
         for node in self.tree.fresh if self.refuting else ():
-            node.comments[:0] = [] if "but" in node.comments else ["but"]
+            node.comments = node.comments if "but" in node.comments else {"but": None} | node.comments
         self.wanted, self.beside, self.threatening = None, False, False
 
     def _place(self, token: Token, ply: int, beside: bool) -> None:

@@ -25,7 +25,7 @@ class Node:
         self.move = move
         self.san = san
         self.children: list[Node] = []
-        self.comments: list[str] = []
+        self.comments: dict[str, None] = {}  # in their order; each is there once
         self.glyphs: list[int] = []
         self.loose = False
 
@@ -41,8 +41,8 @@ class Node:
 
     def comment(self, text: str) -> None:
         """Adds a comment that is not there yet."""
-        if text and text not in self.comments:
-            self.comments.append(text)
+        if text:
+            self.comments.setdefault(text)
 
     def glyph(self, number: int) -> None:
         """Adds a glyph that is not there yet."""
