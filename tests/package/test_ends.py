@@ -7,6 +7,7 @@ import resource
 import signal
 import subprocess
 import sys
+import time
 from pathlib import Path
 
 import pytest
@@ -180,7 +181,10 @@ def test_signals_end_rows_and_boards(room: Path, command: str, kind: signal.Sign
         assert becomes(lambda: any("--mark" in word for child in children(run.pid) for word in words_of(child)))
         started = children(run.pid)
         run.send_signal(kind)
+        sent = time.monotonic()
         assert run.wait(PATIENCE) == 128 + kind
+        # who reads an archive without end is not waited for
+        assert time.monotonic() - sent < 5
     assert all_end(started)
     os.close(held)
     assert ((room / "out").read_bytes(), left(room)) == (OLD, ["out", "waits.pgn"])

@@ -22,6 +22,7 @@ from .signals import unbroken
 # what a pipe holds, so that two programs seldom wait for one another
 BUFFER = 1 << 20
 SHORT = 1 << 16  # bytes
+LINGER = 0.3  # seconds that the end of a run waits for its feeder, which may itself wait for an input without end
 COUNTS = re.compile(r"games (\d+) matched (\d+) refused (\d+)")
 FAULTY_GAME = re.compile(r"game (\d+) byte (\d+): (.*)")
 
@@ -215,7 +216,7 @@ class Process:
         _running.discard(self)
         self.clear()
         if self._thread is not None:
-            self._thread.join(5)
+            self._thread.join(LINGER)
         for stream in (self._process.stdout, self._process.stderr):
             if stream is not None:
                 stream.close()
