@@ -32,7 +32,7 @@ def _places(place: Place) -> list[str]:
 
 def _killed(place: Place, words: list[str], told: str) -> str:
     """What is left of a command that is killed while its engine waits for more of an archive."""
-    running = Running(place, words, keeps_open=True)
+    running = Running(place, words, data=GAME, keeps_open=True)
     limit = time.monotonic() + 5
     engines: list[int] = []
     while time.monotonic() < limit and not engines:
@@ -65,10 +65,12 @@ def outliving(place: Place) -> Iterator[str]:
     calls += [("diagrams",), ("diagrams", "--tex")]
     try:
         for call in calls:
+            os.write(held, GAME)  # some commands begin an engine when they have seen how the archive begins
             yield _killed(place, place.command(*call, archive), "cqlpgn-" + " ".join(call))
         for call in (("over", QUERY), ("rows",), ("diagrams",)):
             yield _killed(place, place.command(*call, "-"), f"cqlpgn-{' '.join(call)} -")
         for name in ("search", "found"):
+            os.write(held, GAME)
             code = SEARCH.format(places=_places(place), call=name, query=QUERY, archive=archive)
             yield _killed(place, [PYTHON, "-c", code], f"a program that calls {name}")
     finally:
