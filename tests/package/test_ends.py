@@ -139,6 +139,15 @@ def test_closed_standard_input(room: Path, options: str) -> None:
     assert (done.returncode in (4, 5), b"Traceback" in done.stderr, left(room)) == (True, False, [])
 
 
+def ended_by(process: subprocess.Popen[bytes], kind: signal.Signals) -> int:
+    """The status with which a signal ends a process, which is killed where it does not end."""
+    process.send_signal(kind)
+    try:
+        return process.wait(PATIENCE)
+    finally:
+        process.kill()
+
+
 @pytest.mark.parametrize("kind", [signal.SIGTERM, signal.SIGINT, signal.SIGHUP])
 @pytest.mark.parametrize("options", [["-o", "out.pgn"], ["-j", "2", "-o", "out.pgn"], ["--number", "-o", "out.pgn"], []])
 def test_signals_end_what_was_started(room: Path, kind: signal.Signals, options: list[str]) -> None:
@@ -149,8 +158,7 @@ def test_signals_end_what_was_started(room: Path, kind: signal.Signals, options:
     with subprocess.Popen([*OVER, *options, QUERY, "waits.pgn"], stdout=subprocess.DEVNULL, stderr=subprocess.PIPE) as command:
         assert becomes(lambda: any({"run", "-"} <= set(words_of(child)) for child in children(command.pid)))
         started = children(command.pid)
-        command.send_signal(kind)
-        assert command.wait(PATIENCE) == 128 + kind
+        assert ended_by(command, kind) == 128 + kind
         assert command.stderr is not None and command.stderr.read() == b""
     assert all_end(started)
     os.close(held)
@@ -180,9 +188,8 @@ def test_signals_end_rows_and_boards(room: Path, command: str, kind: signal.Sign
     with subprocess.Popen([sys.executable, str(BIN / command), "-o", "out", "waits.pgn"], stderr=subprocess.PIPE) as run:
         assert becomes(lambda: any("--mark" in word for child in children(run.pid) for word in words_of(child)))
         started = children(run.pid)
-        run.send_signal(kind)
         sent = time.monotonic()
-        assert run.wait(PATIENCE) == 128 + kind
+        assert ended_by(run, kind) == 128 + kind
         # who reads an archive without end is not waited for
         assert time.monotonic() - sent < 5
     assert all_end(started)

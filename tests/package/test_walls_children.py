@@ -6,6 +6,7 @@ import asyncio
 import gzip
 import os
 import shutil
+import signal
 import subprocess
 import sys
 import tempfile
@@ -97,6 +98,17 @@ def test_a_fault_of_a_command_has_a_status_of_its_own(capsys: pytest.CaptureFixt
     assert status_of(fails, []) == FAILED > 9
     said = capsys.readouterr().err
     assert "KeyError" in said and "\x1b" not in said and said.count("\n") == 1
+
+
+def test_a_signal_that_does_not_break_a_wait_is_seen() -> None:
+    """The first thread waits, and another one takes the signal."""
+    code = f"import os, signal, sys, threading, time; sys.path.insert(0, {str(TOP / 'python' / 'src')!r})\n"
+    code += "from cqlpgn.commands.ends import status_of\n"
+    code += "def ask():\n    time.sleep(0.5)\n    os.kill(os.getpid(), signal.SIGTERM)\n"
+    code += "def waits(_words):\n    threading.Thread(target=ask, daemon=True).start()\n"
+    code += "    signal.pthread_sigmask(signal.SIG_BLOCK, [signal.SIGTERM])\n    threading.Event().wait()\n"
+    code += "os._exit(status_of(waits, []))"
+    assert subprocess.run([sys.executable, "-c", code], timeout=PATIENCE).returncode == 128 + signal.SIGTERM
 
 
 def test_a_command_that_cannot_be_imported_has_a_status_of_its_own(tmp_path: Path) -> None:

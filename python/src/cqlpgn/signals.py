@@ -9,6 +9,7 @@ from collections.abc import Iterator
 from types import FrameType
 
 KINDS = (signal.SIGTERM, signal.SIGHUP, signal.SIGINT)
+TICK = 1.0  # seconds
 
 
 class Ended(BaseException):
@@ -47,12 +48,22 @@ def unbroken() -> Iterator[None]:
             raise Ended(number)
 
 
+def _tick(_number: int, _frame: FrameType | None) -> None:
+    """Does nothing; the signal itself breaks a wait, which goes on where no other signal came."""
+
+
 @contextlib.contextmanager
 def raised() -> Iterator[None]:
-    """Within it SIGTERM, SIGHUP and SIGINT raise `Ended`."""
-    before = [signal.signal(kind, _end) for kind in KINDS]
+    """Within it SIGTERM, SIGHUP and SIGINT raise `Ended`.
+
+    A signal that comes just before the first thread begins to wait, or that another thread takes, does not break the wait. A clock breaks
+    each wait of the first thread, so that such a signal is seen within a second."""
+    before = [(kind, signal.signal(kind, _end)) for kind in KINDS]
+    before.append((signal.SIGALRM, signal.signal(signal.SIGALRM, _tick)))
+    signal.setitimer(signal.ITIMER_REAL, TICK, TICK)
     try:
         yield
     finally:
-        for kind, handler in zip(KINDS, before):
+        signal.setitimer(signal.ITIMER_REAL, 0)
+        for kind, handler in before:
             signal.signal(kind, handler)
