@@ -3,7 +3,8 @@
 Pages are README.md, CONTRIBUTING.md and those of docs/; `pytest tests -k RECIPES` goes through one of them:
 
 - a line of code that begins with `$ ` is a command (`> ` goes on with it), and the lines below it are what it writes:
-  first to standard output, then to standard error. Each page has a folder of its own with the files of examples/;
+  first to standard output, then to standard error. Each part of a page, from a heading of the second level to the next one, has a
+  folder of its own with the files of examples/;
 - a line of code that begins with `cql(` is a query, up to three spaces, with the lines set in below it, and must have no fault;
 - a block of code whose first line names a file of crates/ in a comment shows lines of that file, one after the other;
 - the rows of a table are checked by what its head says (TABLES, below).
@@ -94,11 +95,21 @@ def fill(room: Path, programs: list[str]) -> None:
         (room / "bin" / path.name).symlink_to(path)
 
 
-@pytest.mark.parametrize("name", PAGES)
-def test_code(cqlpgn: str, pgnpieces: str, pgnjson: str, tmp_path: Path, name: str) -> None:
+def split(text: str) -> list[str]:
+    """The parts of a page, each with its heading of the second level; the first one has none."""
+    return re.split(r"^(?=## )", text, flags=re.M)
+
+
+def parts_of(name: str) -> list[tuple[str, int]]:
+    """A page with the number of each part that has code."""
+    return [(name, number) for number, part in enumerate(split(source(name))) if any(blocks_of(part))]
+
+
+@pytest.mark.parametrize(("name", "number"), [part for name in PAGES for part in parts_of(name)])
+def test_code(cqlpgn: str, pgnpieces: str, pgnjson: str, tmp_path: Path, name: str, number: int) -> None:
     fill(tmp_path, [cqlpgn, pgnpieces, pgnjson])
     page, left_out = Page(name, cqlpgn), set[str]()
-    for block in blocks_of(page.text):
+    for block in blocks_of(split(page.text)[number]):
         missing = missing_for(block) if any(commands_of(block)) else []
         left_out.update(missing)
         if not missing:
