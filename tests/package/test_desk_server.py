@@ -418,8 +418,9 @@ def test_saved_queries(served: Served) -> None:
             assert (await line.ask("save", name="link", query="cql() check", over=True))["name"] == "link.cql"
             for name in ("", ".", "..", ".x", "a/b", "../x", "/tmp/x", "x\0", "\n", "x" * 300, "\udcff"):
                 assert str(await line.ask("save", name=name, query="cql() mate", over=True)).startswith("refused"), name
+            await line.over("cql() mate", "small.pgn")
         async with Line(served) as other:
-            assert {"mine.cql", "link.cql"} <= set(other.hello["queries"]) and other.hello["history"]
+            assert {"mine.cql", "link.cql"} <= set(other.hello["queries"]) and "cql() mate" in other.hello["history"]
 
     asyncio.run(queries())
 

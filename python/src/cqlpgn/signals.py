@@ -67,3 +67,8 @@ def raised() -> Iterator[None]:
         signal.setitimer(signal.ITIMER_REAL, 0)
         for kind, handler in before:
             signal.signal(kind, handler)
+
+
+def stop_clock() -> None:
+    """Ends the clock of `raised` where a loop of asyncio waits, which wakes at each signal: a tick would need room in the loop's pipe."""
+    signal.setitimer(signal.ITIMER_REAL, 0)

@@ -17,6 +17,7 @@ from typing import TYPE_CHECKING
 from ..errors import Error, NotFound
 from ..files import shown
 from ..process import end_all, executable
+from ..signals import stop_clock
 from .ends import run, say
 from .words import Parser
 
@@ -69,6 +70,7 @@ async def serve(flags: argparse.Namespace, program: str) -> None:
     over = asyncio.Event()
     for kind in (signal.SIGINT, signal.SIGTERM, signal.SIGHUP):
         asyncio.get_running_loop().add_signal_handler(kind, over.set)
+    stop_clock()
     assert runner.server is not None
     with listening(flags.port) as port:
         desk.host = f"127.0.0.1:{port.getsockname()[1]}"
