@@ -5,21 +5,21 @@ use Rattle.cq_words.specs.declared.job.Job.{Job}
 use Rattle.cq_words.specs.declared.job.Job.TheVariants.{Run, Eval, Check, Explain, SelfRun, Many}
 use Rattle.cql_syntax.specs.Trees.{QueryTree}
 use Rattle.cq_report.specs.Queries.{query_line}
-use Rattle.cq_queries.specs.declared.status.Status.{Status}
-use Rattle.cq_queries.specs.declared.status.Status.TheVariants.{Done, DoneWithRefusals, QueryRefused, WordsRefused, OpenFault, ReadFault, WriteFault, NoMemory, ArchiveTooLong}
-use Rattle.cq_queries.specs.Views.{SourceView, DeskView, IsUnwritten, NoWriteFailed}
-use Rattle.cq_search.specs.Promise.{ExpectedOutput, SaysOfAnswer}
+use Rattle.cq_query_files.specs.declared.status.Status.{Status}
+use Rattle.cq_query_files.specs.declared.status.Status.TheVariants.{Done, DoneWithRefusals, QueryRefused, WordsRefused, OpenFault, ReadFault, WriteFault, NoMemory, ArchiveTooLong}
+use Rattle.cq_query_files.specs.Views.{SourceView, DeskView, IsUnwritten, NoWriteFailed}
+use Rattle.cq_search.specs.Promise.{OutputSpec, StatusPromise}
 use Rattle.cq_search.specs.FirstGame.{expected_output}
 use Rattle.cq_search.specs.ManyQueries.{texts_of_all}
 use Rattle.cq_run.specs.Run.{Call, from_desk, IsUnmoved}
-use Rattle.cq_queries.specs.Files.{Opened, FailsToOpen, TakesQuery, LacksMemory, no_memory_to_open, no_memory_to_read, FileKind, query_file_kind, queries_file_kind}
+use Rattle.cq_query_files.specs.Files.{Opened, FailsToOpen, TakesQuery, LacksMemory, no_memory_to_open, no_memory_to_read, FileKind, query_file_kind, queries_file_kind}
 use Rattle.cq_run.specs.Run.{WritesUsage, AnswersFile, archive_answered, archive_unopened, archive_out_of_memory}
-use Rattle.cq_queries.specs.Lines.{RefusesQuery, AcceptsQuery, WritesFlat}
+use Rattle.cq_query_files.specs.Lines.{RefusesQuery, AcceptsQuery, WritesFlat}
 use Rattle.cq_run.specs.Run.{OverText, text_accepted, text_refused, text_out_of_memory, OverFile, file_accepted, file_refused, file_unopened, file_unread, file_out_of_memory}
 use Rattle.cq_run.specs.Run.{SaysAccepted, Explains, RunsMade, DoesJob, AnswersItsFault}
-use Rattle.cq_search.specs.SelfRun.{WritesTotals, WritesMade, totals_written, made_out_of_memory}
+use Rattle.cq_search.specs.SelfRun.{WritesTotals, WritesGenerated, totals_written, generated_out_of_memory}
 use Rattle.cq_search.specs.declared.totals.Totals.{Totals}
-use Rattle.cq_queries.proofs.Sinks.{wrote_none}
+use Rattle.cq_query_files.proofs.Sinks.{wrote_none}
 
 -- counts that did not rise, and the one that may rise
 
@@ -111,13 +111,13 @@ totals_faults totals OpenFault call input does = absurd does
 totals_faults totals ReadFault call input does = absurd does
 totals_faults totals ArchiveTooLong call input does = absurd does
 
-made_faults : (archive : List ℕ) (q : QueryTree) (status : Status) (call : Call) → NoInputFailed call.desk call.desk_after → WritesMade archive q status call.sinks
+made_faults : (archive : List ℕ) (q : QueryTree) (status : Status) (call : Call) → NoInputFailed call.desk call.desk_after → WritesGenerated archive q status call.sinks
     → AnswersItsFault status call
 made_faults archive q status call input (totals_written totals are does) = totals_faults totals status call input does
-made_faults archive q status call input (made_out_of_memory is same) = at_none status call input (wrote_none call.sinks same)
+made_faults archive q status call input (generated_out_of_memory is same) = at_none status call input (wrote_none call.sinks same)
 
-answer_faults : (name : List ℕ) (limit : ℕ) (asks : ExpectedOutput) (file : SourceView) (status : Status) (call : Call) → Opened name call.desk call.desk_after file
-    → SaysOfAnswer status asks (record { limit = limit; source = file; source_after = call.desk_after.file; sinks = call.sinks }) → AnswersItsFault status call
+answer_faults : (name : List ℕ) (limit : ℕ) (asks : OutputSpec) (file : SourceView) (status : Status) (call : Call) → Opened name call.desk call.desk_after file
+    → StatusPromise status asks (record { limit = limit; source = file; source_after = call.desk_after.file; sinks = call.sinks }) → AnswersItsFault status call
 answer_faults name limit asks file Done call opened says = at_none Done call (opened_counts name call.desk call.desk_after file opened says.1.source) says.1.sinks
 answer_faults name limit asks file DoneWithRefusals call opened says = at_none DoneWithRefusals call (opened_counts name call.desk call.desk_after file opened says.1.source) says.1.sinks
 answer_faults name limit asks file ReadFault call opened says = at_read call opened.opens says.1
@@ -135,7 +135,7 @@ unopened_faults : (status : Status) (call : Call) → status ≡ OpenFault → F
 unopened_faults status call is fails same =
     subst (λ s. AnswersItsFault s call) (sym is) (at_open call (ap (λ (s : SourceView). s.faults) fails.file) (wrote_none call.sinks same))
 
-archive_faults : (archive : List ℕ) (limit : ℕ) (asks : ExpectedOutput) (status : Status) (call : Call) → AnswersFile archive limit asks status call → AnswersItsFault status call
+archive_faults : (archive : List ℕ) (limit : ℕ) (asks : OutputSpec) (status : Status) (call : Call) → AnswersFile archive limit asks status call → AnswersItsFault status call
 archive_faults archive limit asks status call (archive_answered file opened answers) = answer_faults archive limit asks file status call opened answers.says
 archive_faults archive limit asks status call (archive_unopened is fails same) = unopened_faults status call is fails same
 archive_faults archive limit asks status call (archive_out_of_memory is same) = unmoved_faults status call same

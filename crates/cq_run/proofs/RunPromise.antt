@@ -20,25 +20,25 @@ use Rattle.cq_words.specs.declared.job.Job.TheVariants.{Run, Eval, Check, Explai
 use Rattle.cq_words.specs.declared.job.Settings.{Settings}
 use Rattle.cq_words.specs.declared.job.WordsRefused.{WordsRefused as RefusedWords}
 use Rattle.cql_syntax.specs.Trees.{QueryTree}
-use Rattle.cq_queries.specs.declared.queries.FileRefusal.{FileRefusal}
-use Rattle.cq_queries.specs.declared.queries.FileRefusal.TheVariants.{Faulty, Unopened, Unread, OutOfMemory}
-use Rattle.cq_queries.specs.declared.status.Status.{Status}
-use Rattle.cq_queries.specs.declared.status.Status.TheVariants.{Done, DoneWithRefusals, QueryRefused, WordsRefused, OpenFault, ReadFault, WriteFault, NoMemory, ArchiveTooLong}
+use Rattle.cq_query_files.specs.declared.queries.FileRefusal.{FileRefusal}
+use Rattle.cq_query_files.specs.declared.queries.FileRefusal.TheVariants.{Faulty, Unopened, Unread, OutOfMemory}
+use Rattle.cq_query_files.specs.declared.status.Status.{Status}
+use Rattle.cq_query_files.specs.declared.status.Status.TheVariants.{Done, DoneWithRefusals, QueryRefused, WordsRefused, OpenFault, ReadFault, WriteFault, NoMemory, ArchiveTooLong}
 use Rattle.cq_report.specs.Queries.{query_line}
-use Rattle.cq_queries.specs.Views.{DeskView, Sinks, IsUnwritten}
-use Rattle.cq_search.specs.Promise.{ExpectedOutput, SaysOfAnswer, IsOneOf}
+use Rattle.cq_query_files.specs.Views.{DeskView, Sinks, IsUnwritten}
+use Rattle.cq_search.specs.Promise.{OutputSpec, StatusPromise, IsOneOf}
 use Rattle.cq_search.specs.FirstGame.{expected_output}
 use Rattle.cq_search.specs.ManyQueries.{texts_of_all}
 use Rattle.cq_run.specs.Run.{Call, from_desk, IsUnmoved}
-use Rattle.cq_queries.specs.Files.{with_open, TakesQuery, FileKind, query_file_kind, queries_file_kind}
+use Rattle.cq_query_files.specs.Files.{with_open, TakesQuery, FileKind, query_file_kind, queries_file_kind}
 use Rattle.cq_run.specs.Run.{WritesUsage, AnswersFile, archive_answered, archive_unopened, archive_out_of_memory}
-use Rattle.cq_queries.specs.Lines.{RefusesQuery, AcceptsQuery, WritesFlat}
+use Rattle.cq_query_files.specs.Lines.{RefusesQuery, AcceptsQuery, WritesFlat}
 use Rattle.cq_run.specs.Run.{OverText, text_accepted, text_refused, text_out_of_memory, OverFile, file_accepted, file_refused, file_unopened, file_unread, file_out_of_memory}
 use Rattle.cq_run.specs.Run.{SaysAccepted, Explains, RunsMade, DoesJob, job_done, words_refused, words_out_of_memory, Asks, IsInFile, HasText, HasQueriesText}
 use Rattle.cq_run.specs.Run.{NothingRose, IsShort, IsWithin, IsWithinForAll, good_answers, Promise}
-use Rattle.cq_search.specs.SelfRun.{WritesTotals, WritesMade, totals_written, made_out_of_memory}
+use Rattle.cq_search.specs.SelfRun.{WritesTotals, WritesGenerated, totals_written, generated_out_of_memory}
 use Rattle.cq_search.specs.declared.totals.Totals.{Totals}
-use Rattle.cq_queries.specs.QueryReading.{RefusesFile, TellsWhy}
+use Rattle.cq_query_files.specs.QueryReading.{RefusesFile, TellsWhy}
 use Rattle.cq_run.specs.Run.{call_of}
 use Rattle.cq_run.proofs.RunFaults.{job_faults, takes_counts, unmoved_faults, usage_faults}
 
@@ -47,9 +47,9 @@ use Rattle.cq_run.proofs.RunFaults.{job_faults, takes_counts, unmoved_faults, us
 not_twice : (status s : Status) → status ≡ s → status ≡ WordsRefused → s ≡ WordsRefused
 not_twice status s is e = sym is ∙ e
 
-archive_not_words : (archive : List ℕ) (limit : ℕ) (asks : ExpectedOutput) (status : Status) (call : Call) → AnswersFile archive limit asks status call → status ≡ WordsRefused → ⊥
+archive_not_words : (archive : List ℕ) (limit : ℕ) (asks : OutputSpec) (status : Status) (call : Call) → AnswersFile archive limit asks status call → status ≡ WordsRefused → ⊥
 archive_not_words archive limit asks status call (archive_answered file opened answers) e =
-    subst (λ s. SaysOfAnswer s asks (record { limit = limit; source = file; source_after = call.desk_after.file; sinks = call.sinks })) e answers.says
+    subst (λ s. StatusPromise s asks (record { limit = limit; source = file; source_after = call.desk_after.file; sinks = call.sinks })) e answers.says
 archive_not_words archive limit asks status call (archive_unopened is fails same) e = let f = not_twice status OpenFault is e in cc
 archive_not_words archive limit asks status call (archive_out_of_memory is same) e = let f = not_twice status NoMemory is e in cc
 
@@ -71,9 +71,9 @@ file_not_words reading name Accepted status call accepted (file_unopened is fail
 file_not_words reading name Accepted status call accepted (file_unread is fails same) e = let f = not_twice status ReadFault is e in cc
 file_not_words reading name Accepted status call accepted (file_out_of_memory is lacks same) e = let f = not_twice status NoMemory is e in cc
 
-made_not_words : (archive : List ℕ) (q : QueryTree) (status : Status) (sinks : Sinks) → WritesMade archive q status sinks → status ≡ WordsRefused → ⊥
+made_not_words : (archive : List ℕ) (q : QueryTree) (status : Status) (sinks : Sinks) → WritesGenerated archive q status sinks → status ≡ WordsRefused → ⊥
 made_not_words archive q status sinks (totals_written totals are does) e = subst (λ s. WritesTotals totals s sinks) e does
-made_not_words archive q status sinks (made_out_of_memory is same) e = let f = not_twice status NoMemory is e in cc
+made_not_words archive q status sinks (generated_out_of_memory is same) e = let f = not_twice status NoMemory is e in cc
 
 job_not_words : (job : Job) (status : Status) (call : Call) → DoesJob job status call → status ≡ WordsRefused → ⊥
 job_not_words (Run query archive settings) status call does e =
@@ -172,7 +172,7 @@ queries_refused_always (SelfRun word settings) text status call has never does =
 
 -- an archive is searched for an accepted query
 
-archive_complete : (archive : List ℕ) (limit : ℕ) (asks : ExpectedOutput) (status : Status) (call : Call) → (short : IsShort call archive limit asks) → (none : NothingRose call)
+archive_complete : (archive : List ℕ) (limit : ℕ) (asks : OutputSpec) (status : Status) (call : Call) → (short : IsShort call archive limit asks) → (none : NothingRose call)
     → AnswersFile archive limit asks status call → IsOneOf status (Done ∷ DoneWithRefusals ∷ NoMemory ∷ [])
 archive_complete archive limit asks status call short none (archive_answered file opened answers) =
     answers.complete (record {
@@ -231,7 +231,7 @@ file_complete reading name found Accepted good status call file answers (file_ou
 
 -- the same for the archive, from a desk in between on
 
-short_later : (most : ℕ) (name archive : List ℕ) (limit : ℕ) (asks : ExpectedOutput) (mid : DeskView) (text : List ℕ) (call : Call) → TakesQuery most name call.desk mid text
+short_later : (most : ℕ) (name archive : List ℕ) (limit : ℕ) (asks : OutputSpec) (mid : DeskView) (text : List ℕ) (call : Call) → TakesQuery most name call.desk mid text
     → IsShort call archive limit asks → IsShort (from_desk mid call) archive limit asks
 short_later most name archive limit asks mid text call takes short = record {
   told = with_open name short.told;
@@ -249,13 +249,13 @@ none_later most name mid text call takes none =
     }
 
 -- The bytes taken of a file are accepted as this, and as nothing else, the archive is short enough for it, and no count rose.
-record IsAnswerable {Q F : Type 0} (reading : FileKind Q F) (name : List ℕ) (found : Q) (archive : List ℕ) (limit : ℕ) (asked_of : ExpectedOutput) (call : Call) : Type 0 where
+record IsAnswerable {Q F : Type 0} (reading : FileKind Q F) (name : List ℕ) (found : Q) (archive : List ℕ) (limit : ℕ) (asked_of : OutputSpec) (call : Call) : Type 0 where
   file : IsFoundIn reading name found call
   short : IsShort call archive limit asked_of
   none : NothingRose call
 
 -- an archive is searched for the queries of a file
-over_archive : {Q F : Type 0} (reading : FileKind Q F) (name : List ℕ) (found : Q) (archive : List ℕ) (limit : ℕ) (asks : Q → ExpectedOutput) (status : Status) (call : Call)
+over_archive : {Q F : Type 0} (reading : FileKind Q F) (name : List ℕ) (found : Q) (archive : List ℕ) (limit : ℕ) (asks : Q → OutputSpec) (status : Status) (call : Call)
     → IsAnswerable reading name found archive limit (asks found) call
     → OverFile reading name (λ q. AnswersFile archive limit (asks q)) status call → IsOneOf status (Done ∷ DoneWithRefusals ∷ NoMemory ∷ [])
 over_archive reading name found archive limit asks status call can does =
@@ -299,10 +299,10 @@ totals_is_one totals OpenFault call none does = absurd does
 totals_is_one totals ReadFault call none does = absurd does
 totals_is_one totals ArchiveTooLong call none does = absurd does
 
-made_is_one : (archive : List ℕ) (q : QueryTree) (status : Status) (call : Call) → NothingRose call → WritesMade archive q status call.sinks
+made_is_one : (archive : List ℕ) (q : QueryTree) (status : Status) (call : Call) → NothingRose call → WritesGenerated archive q status call.sinks
     → IsOneOf status (Done ∷ DoneWithRefusals ∷ NoMemory ∷ [])
 made_is_one archive q status call none (totals_written totals are does) = totals_is_one totals status call none does
-made_is_one archive q status call none (made_out_of_memory is same) = inr (inr (inl is))
+made_is_one archive q status call none (generated_out_of_memory is same) = inr (inr (inl is))
 
 job_complete : (job : Job) (text : List ℕ) (query : QueryTree) (status : Status) (call : Call) → HasText call job text → Only query_file_kind text query
     → IsWithin call job query → NothingRose call → DoesJob job status call → IsOneOf status (good_answers job)
@@ -350,12 +350,12 @@ pub of_text : (text word : List ℕ) (Accepted : QueryTree → Status → Call �
     → OverText text Accepted status call → OverText word Accepted status call
 of_text text word Accepted status call texts does = subst (λ t. OverText t Accepted status call) texts does
 
-pub file_over : {Q F : Type 0} (reading : FileKind Q F) (name file archive : List ℕ) (limit : ℕ) (asks : Q → ExpectedOutput) (status : Status) (call : Call) → file ≡ archive
+pub file_over : {Q F : Type 0} (reading : FileKind Q F) (name file archive : List ℕ) (limit : ℕ) (asks : Q → OutputSpec) (status : Status) (call : Call) → file ≡ archive
     → OverFile reading name (λ q. AnswersFile file limit (asks q)) status call → OverFile reading name (λ q. AnswersFile archive limit (asks q)) status call
 file_over reading name file archive limit asks status call files does =
     subst (λ f. OverFile reading name (λ q. AnswersFile f limit (asks q)) status call) files does
 
-pub text_over : (text file archive : List ℕ) (limit : ℕ) (asks : QueryTree → ExpectedOutput) (status : Status) (call : Call) → file ≡ archive
+pub text_over : (text file archive : List ℕ) (limit : ℕ) (asks : QueryTree → OutputSpec) (status : Status) (call : Call) → file ≡ archive
     → OverText text (λ q. AnswersFile file limit (asks q)) status call → OverText text (λ q. AnswersFile archive limit (asks q)) status call
 text_over text file archive limit asks status call files does = subst (λ f. OverText text (λ q. AnswersFile f limit (asks q)) status call) files does
 

@@ -13,20 +13,20 @@ use Rattle.cq_maker.specs.GeneratedArchive.{generated_archive}
 use Rattle.cql_syntax.specs.Trees.{QueryTree}
 use Rattle.cql_syntax.specs.declared.fault.QueryFault.{QueryFault}
 use Rattle.cq_report.specs.Queries.{query_line}
-use Rattle.cq_queries.specs.declared.status.Status.{Status}
-use Rattle.cq_queries.specs.declared.status.Status.TheVariants.{Done, DoneWithRefusals, QueryRefused, WordsRefused}
-use Rattle.cq_queries.specs.declared.status.Status.TheVariants.{OpenFault, ReadFault, WriteFault, NoMemory}
-use Rattle.cq_queries.specs.declared.query_files.ManyFault.{ManyFault}
-use Rattle.cq_queries.specs.Queries.{IsQuery, IsQueryFault}
-use Rattle.cq_queries.specs.QueryFiles.{HoldsQueries, IsManyFault, most_in_file}
-use Rattle.cq_queries.specs.Files.{Opened, FailsToOpen, TakesQuery, FailsToRead, LacksMemory, FileKind, query_file_kind, queries_file_kind}
-use Rattle.cq_queries.specs.Lines.{text_for_err, RefusesQuery, AcceptsQuery, WritesFlat}
+use Rattle.cq_query_files.specs.declared.status.Status.{Status}
+use Rattle.cq_query_files.specs.declared.status.Status.TheVariants.{Done, DoneWithRefusals, QueryRefused, WordsRefused}
+use Rattle.cq_query_files.specs.declared.status.Status.TheVariants.{OpenFault, ReadFault, WriteFault, NoMemory}
+use Rattle.cq_query_files.specs.declared.query_files.ManyFault.{ManyFault}
+use Rattle.cq_query_files.specs.Queries.{IsQuery, IsQueryFault}
+use Rattle.cq_query_files.specs.QueryFiles.{HoldsQueries, IsManyFault, most_in_file}
+use Rattle.cq_query_files.specs.Files.{Opened, FailsToOpen, TakesQuery, FailsToRead, LacksMemory, FileKind, query_file_kind, queries_file_kind}
+use Rattle.cq_query_files.specs.Lines.{text_for_err, RefusesQuery, AcceptsQuery, WritesFlat}
 use Rattle.cq_search.specs.ManyQueries.{texts_of_all}
-use Rattle.cq_search.specs.SelfRun.{WritesMade}
+use Rattle.cq_search.specs.SelfRun.{WritesGenerated}
 use Rattle.cq_search.specs.FirstGame.{expected_output}
-use Rattle.cq_queries.specs.Views.{SourceView, DeskView, Sinks, Writes, WritesPrefix, IsUnwritten, NoWriteFailed}
-use Rattle.cq_queries.specs.Views.{ErrFailed, SinkFailed}
-use Rattle.cq_search.specs.Promise.{IsOneOf, AnswerPromise, Suffices, ExpectedOutput}
+use Rattle.cq_query_files.specs.Views.{SourceView, DeskView, Sinks, Writes, WritesPrefix, IsUnwritten, NoWriteFailed}
+use Rattle.cq_query_files.specs.Views.{ErrFailed, SinkFailed}
+use Rattle.cq_search.specs.Promise.{IsOneOf, AnswerPromise, Suffices, OutputSpec}
 
 -- the desk and the sinks of a call of `run`, as it began and as it ended
 pub record Call : Type 0 where
@@ -62,7 +62,7 @@ WritesUsage _ sinks = ⊥
 
 -- The search of the archive in a file for an accepted query, or for several. So many bytes of it are the limit, and the texts are those of
 -- the expected output.
-pub data AnswersFile (archive : List ℕ) (limit : ℕ) (asks : ExpectedOutput) (status : Status) (call : Call) : Type 0 where
+pub data AnswersFile (archive : List ℕ) (limit : ℕ) (asks : OutputSpec) (status : Status) (call : Call) : Type 0 where
   archive_answered : (file : SourceView) → Opened archive call.desk call.desk_after file
       → AnswerPromise asks status (record { limit = limit; source = file; source_after = call.desk_after.file; sinks = call.sinks })
       → AnswersFile archive limit asks status call
@@ -101,7 +101,7 @@ Explains query status call = WritesFlat query status call.sinks × (call.desk_af
 
 -- the made archive is searched for an accepted query, and no file is opened
 abbrev pub RunsMade : ℕ → ℕ → QueryTree → Status → Call → Type 0
-RunsMade seed games query status call = WritesMade (generated_archive seed games) query status call.sinks × (call.desk_after ≡ call.desk)
+RunsMade seed games query status call = WritesGenerated (generated_archive seed games) query status call.sinks × (call.desk_after ≡ call.desk)
 
 -- the work of a job
 abbrev pub DoesJob : Job → Status → Call → Type 0
@@ -162,7 +162,7 @@ pub record NothingRose (call : Call) : Type 0 where
   pub writes : SinkFailed call.sinks → ⊥
 
 -- the desk tells its files, and this one is within the limit, or so many of its bytes suffice
-pub record IsShort (call : Call) (archive : List ℕ) (limit : ℕ) (asked_of : ExpectedOutput) : Type 0 where
+pub record IsShort (call : Call) (archive : List ℕ) (limit : ℕ) (asked_of : OutputSpec) : Type 0 where
   pub told : DeskFiles
   pub tells : call.desk.told ≡ Some told
   pub within : (length (bytes_of told.files archive) ≤ limit) ⊎ Suffices asked_of (take limit (bytes_of told.files archive))

@@ -3,12 +3,12 @@ ghost use Rattle.std.specs.Prelude.{map, MatchResult};
 ghost use Rattle.std.specs.String.{string_bytes};
 ghost use Rattle.cq_run.specs.Run.{call_of};
 ghost use Rattle.cq_run.specs.Command.{EndsWords, EndsWithoutWords};
-ghost use Rattle.cq_queries.specs.Views.{desk_view, sink_view, sinks_of};
+ghost use Rattle.cq_query_files.specs.Views.{desk_view, sink_view, sinks_of};
 
 use crate::top_call::run;
 use cq_common::NoMemory;
 use cq_outside::{Desk, OpenGate, Sink};
-use cq_queries::Status;
+use cq_query_files::Status;
 use std::alloc::Global;
 use std::thread::Threads;
 

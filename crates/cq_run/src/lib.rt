@@ -6,6 +6,6 @@ mod selfrun;
 mod top_call;
 
 pub use command::answer_command;
-pub use cq_queries::Status;
+pub use cq_query_files::Status;
 pub use cq_search::{answer, answer_many};
 pub use top_call::run;

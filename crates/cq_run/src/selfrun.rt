@@ -1,12 +1,12 @@
 //! The search of a made archive.
 ghost use Rattle.std.specs.Prelude.{◌≤◌};
-ghost use Rattle.cq_queries.specs.Views.{DeskView, sink_view, sinks_of};
+ghost use Rattle.cq_query_files.specs.Views.{DeskView, sink_view, sinks_of};
 ghost use Rattle.cq_run.specs.Run.{OverText, RunsMade, call_of};
 
 use cq_common::Refusal;
 use cq_outside::{Gate, Sink};
-use cq_queries::{Status, drop_query, read_query, refuse_query};
-use cq_search::{MADE_LIMIT, RunContext, search_made_archive};
+use cq_query_files::{Status, drop_query, read_query, refuse_query};
+use cq_search::{GENERATED_LIMIT, RunContext, search_generated_archive};
 use cq_words::{SelfRunSettings, Settings};
 use std::alloc::Global;
 use std::thread::Threads;
@@ -34,11 +34,11 @@ pub fn do_self_run<R: Threads + Sync, O: Sink, E: Sink, G: Gate + Sync>(
     };
     let all = Settings {
         workers: settings.workers,
-        limit: MADE_LIMIT,
+        limit: GENERATED_LIMIT,
         first: false,
     };
     let context = RunContext::new(rt, alloc, all, gate);
-    let status = search_made_archive(&context, &query, settings.seed, settings.games, out);
+    let status = search_generated_archive(&context, &query, settings.seed, settings.games, out);
     drop_query(query);
     status
 }

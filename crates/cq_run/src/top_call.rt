@@ -8,17 +8,17 @@ ghost use Rattle.cql_syntax.specs.TreeOf.{query_tree};
 ghost use Rattle.cq_search.specs.FirstGame.{expected_output};
 ghost use Rattle.cq_search.specs.ManyQueries.{texts_of_all};
 ghost use Rattle.cq_run.specs.Run.{call_of, Promise, AnswersFile, OverFile, SaysAccepted, Explains, DoesJob, WritesUsage};
-ghost use Rattle.cq_queries.specs.Views.{SinkView, desk_view, sink_view, sinks_of};
-ghost use Rattle.cq_queries.specs.Files.{query_file_kind};
+ghost use Rattle.cq_query_files.specs.Views.{SinkView, desk_view, sink_view, sinks_of};
+ghost use Rattle.cq_query_files.specs.Files.{query_file_kind};
 
 use crate::selfrun::do_self_run;
 use cq_common::{OpenFault, Refusal};
 use cq_outside::{Desk, Gate, Sink, write_all_of};
-use cq_queries::laws::{
+use cq_query_files::laws::{
     every_file_of_queries_is_accepted_or_has_a_fault, every_text_is_a_query_or_has_a_fault,
     files_of_queries_have_one_outcome, texts_have_one_outcome,
 };
-use cq_queries::{
+use cq_query_files::{
     Status, accept_query, drop_queries, drop_query, explain, queries_in_file, query_in_file,
     read_query, refuse_query, report_queries_refusal, report_refusal,
 };

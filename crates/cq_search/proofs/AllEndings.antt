@@ -8,12 +8,12 @@ use Rattle.pgn_batches.specs.declared.state.BatchFault.TheVariants.{ReadFault as
 use Rattle.cq_outside.specs.Flow.{TakesAtMost}
 use Rattle.cq_common.specs.declared.faults.Refusal.{Refusal}
 use Rattle.cq_common.specs.declared.faults.Refusal.TheVariants.{Fault, NoMemory as IsNoMemory}
-use Rattle.cq_shards.specs.ReadResults.{ReadResult, AreKeptRead}
-use Rattle.cq_queries.specs.declared.status.Status.{Status}
-use Rattle.cq_queries.specs.declared.status.Status.TheVariants.{Done, DoneWithRefusals, QueryRefused, WordsRefused, OpenFault, ReadFault, WriteFault, NoMemory, ArchiveTooLong}
+use Rattle.cq_shards.specs.ReadResults.{ReadResult, AreReadResults}
+use Rattle.cq_query_files.specs.declared.status.Status.{Status}
+use Rattle.cq_query_files.specs.declared.status.Status.TheVariants.{Done, DoneWithRefusals, QueryRefused, WordsRefused, OpenFault, ReadFault, WriteFault, NoMemory, ArchiveTooLong}
 use Rattle.cq_search.specs.Internal.ByBatches.{Laws}
-use Rattle.cq_search.specs.Promise.{SearchCall, AnswersAll, AnswerPromise, ReadsNoMore, SaysOfAnswer, IsOneOf}
-use Rattle.cq_queries.specs.Views.{Sinks, Writes, NoWriteFailed}
+use Rattle.cq_search.specs.Promise.{SearchCall, AnswersAll, AnswerPromise, ReadsNoMore, StatusPromise, IsOneOf}
+use Rattle.cq_query_files.specs.Views.{Sinks, Writes, NoWriteFailed}
 use Rattle.cq_search.specs.Internal.BatchRefusal.{status_after}
 use Rattle.cq_search.specs.Internal.Visits.{HaveReadResults, StopsIn}
 use Rattle.cq_search.specs.Internal.Writing.{WritesAnswer}
@@ -21,7 +21,7 @@ use Rattle.cq_search.proofs.AnswerPromise.{FullOutput, needs_all}
 use Rattle.cq_search.proofs.GameByGame.{as_prefix}
 use Rattle.cq_search.proofs.Known.{AllRead, all_read, known_of, takes_some, with_none}
 use Rattle.cq_search.proofs.Endings.{Broken, ends, finds_all, stopped, too_long, unread}
-use Rattle.cq_queries.proofs.Sinks.{some_failed}
+use Rattle.cq_query_files.proofs.Sinks.{some_failed}
 
 needs : (asked : FullOutput) (call : SearchCall) → TakesAtMost (call.limit + 1) call.source.left call.source_after.left → ReadsNoMore asked.expected_output call
 needs asked call some = needs_all asked call.limit call.source call.source_after call.sinks some
@@ -92,7 +92,7 @@ all_refused laws IsNoMemory asked call HasVisited Stopped writes at counts = all
 -- ---- all games were searched
 
 promised : (status : Status) (asked : FullOutput) (call : SearchCall) (archive : List ℕ) (rs : List ReadResult) → AllRead call archive rs
-    → SaysOfAnswer status asked.expected_output call → (AnswersAll asked.expected_output call → IsOneOf status (Done ∷ DoneWithRefusals ∷ NoMemory ∷ []))
+    → StatusPromise status asked.expected_output call → (AnswersAll asked.expected_output call → IsOneOf status (Done ∷ DoneWithRefusals ∷ NoMemory ∷ []))
     → AnswerPromise asked.expected_output status call
 promised status asked call archive rs all says complete =
     ends status asked.expected_output call archive rs all (needs asked call (record { bytes = archive; takes = all.reads.takes; few = let w = all.reads.within in omega (arith, w) })) says complete
@@ -118,7 +118,7 @@ finished ReadFault asked call archive rs all writes = absurd writes
 finished ArchiveTooLong asked call archive rs all writes = absurd writes
 
 pub all_ended : Laws → (status : Status) (asked : FullOutput) (call : SearchCall) (archive : List ℕ) (outcomes : List ReadResult)
-    → ReadsAll call.limit call.source.left call.source_after.left archive → call.source_after.faults ≡ call.source.faults → AreKeptRead (cut_games archive) outcomes
+    → ReadsAll call.limit call.source.left call.source_after.left archive → call.source_after.faults ≡ call.source.faults → AreReadResults (cut_games archive) outcomes
     → WritesAnswer asked.expected_output outcomes call.sinks status → AnswerPromise asked.expected_output status call
 all_ended laws status asked call archive outcomes reads counts read writes =
     finished status asked call archive outcomes (all_read laws call archive outcomes reads counts read) writes

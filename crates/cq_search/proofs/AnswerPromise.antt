@@ -8,15 +8,15 @@ use Rattle.pgn_cut.specs.Cut.{closed}
 use Rattle.pgn_cut.specs.GameTokens.{game_bytes}
 use Rattle.pgn_cut.specs.declared.span.Span.{Span}
 use Rattle.cq_shards.specs.ReadResults.{ReadResult}
-use Rattle.cq_queries.specs.declared.status.Status.TheVariants.{NoMemory}
+use Rattle.cq_query_files.specs.declared.status.Status.TheVariants.{NoMemory}
 use Rattle.cq_search.specs.AllGames.{texts_of, texts_so_far}
 use Rattle.cq_search.specs.Internal.ByBatches.{HaveOutcomes}
 use Rattle.cq_search.specs.ArchiveGames.{AreRead}
-use Rattle.cq_queries.specs.Views.{SourceView, SinkView, Sinks, Texts, WritesPrefix, sinks_of}
-use Rattle.cq_search.specs.Promise.{ExpectedOutput, SearchCall, MayBe, TakesTooMuch, Overruns, AnswerPromise, ReadsNoMore}
+use Rattle.cq_query_files.specs.Views.{SourceView, SinkView, Sinks, Texts, WritesPrefix, sinks_of}
+use Rattle.cq_search.specs.Promise.{OutputSpec, SearchCall, AgreesWith, TakesTooMuch, ExceedsLimit, AnswerPromise, ReadsNoMore}
 use Rattle.cq_search.specs.Sorts.{have_sort}
 use Rattle.cq_search.proofs.GameByGame.{prefix_grows}
-use Rattle.cq_queries.proofs.Sinks.{unwritten}
+use Rattle.cq_query_files.proofs.Sinks.{unwritten}
 
 -- the games of some spans have outcomes
 pub outcomes_of : HaveOutcomes → (archive : List ℕ) (spans : List Span) → (outcomes : List ReadResult) × AreRead archive spans outcomes
@@ -26,7 +26,7 @@ outcomes_of have archive (s ∷ ss) =
     let rest = outcomes_of have archive ss in
     (one.0 ∷ rest.0, (one.1, rest.1))
 
-pub may_be : (left after : Option (List ℕ)) (bytes : List ℕ) → Consumes left after bytes → IsAtEnd after → MayBe left bytes
+pub may_be : (left after : Option (List ℕ)) (bytes : List ℕ) → Consumes left after bytes → IsAtEnd after → AgreesWith left bytes
 may_be None after bytes takes end = tt
 may_be (Some told) None bytes takes end = absurd takes
 may_be (Some told) (Some rest) bytes takes end = takes ∙ ap (λ l. bytes ++ l) end ∙ append-nil bytes
@@ -39,7 +39,7 @@ same_count told few taken (Some rest) f g =
     omega (arith, length-append few rest, length-append taken rest)
 
 -- if at most the limit was taken, the source is not overrun
-pub not_overrun : (limit : ℕ) (source after : SourceView) → TakesAtMost limit source.left after.left → Overruns limit source after → ⊥
+pub not_overrun : (limit : ℕ) (source after : SourceView) → TakesAtMost limit source.left after.left → ExceedsLimit limit source after → ⊥
 not_overrun limit source after few much =
     let same = same_count much.told few.bytes much.too_much.bytes after.left (subst (λ l. Consumes l after.left few.bytes) much.tells few.takes)
     (subst (λ l. Consumes l after.left much.too_much.bytes) much.tells much.too_much.takes) in
@@ -64,7 +64,7 @@ answer_call limit source after sinks = record { limit = limit; source = source; 
 -- The expected output of all games of an archive, so that no fewer suffice. The texts of some games before more are read are a prefix of
 -- the texts of more.
 pub record FullOutput : Type 1 where
-  pub expected_output : ExpectedOutput
+  pub expected_output : OutputSpec
   pub so_far : List ReadResult → Texts
   pub reading : (rs : List ReadResult) → expected_output.reading rs (so_far rs)
   pub faulted : (rs : List ReadResult) → expected_output.faulted rs (so_far rs)

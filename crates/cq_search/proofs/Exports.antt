@@ -12,7 +12,7 @@ use Rattle.cq_position.specs.Games.{Game}
 use Rattle.cq_search.specs.Sorts.{is_some, have_sort}
 use Rattle.cq_shards.proofs.Counts.{key_count}
 use Rattle.cq_shards.proofs.Values.{all_kept}
-use Rattle.cq_shards.specs.Order.{AreApart, ComesBefore, IsEarlier, directions, is_match as is_match_kept, keys_in, values_in}
+use Rattle.cq_shards.specs.Order.{AreOfDistinctGames, ComesBefore, IsEarlier, directions, is_match as is_match_kept, keys_in, values_in}
 use Rattle.cq_shards.specs.declared.answers.Answer.TheVariants.{Match}
 use Rattle.cq_shards.specs.declared.answers.GameAnswer.{GameAnswer}
 use Rattle.cql_syntax.specs.Hits.{marked, keys, hits}
@@ -165,7 +165,7 @@ all_matches query (a ∷ xs) all =
     let is = All-head (IsOfGame query 0) a xs all in
     ap (λ b. cond b (a ∷ filter is_match_kept xs) (filter is_match_kept xs)) is.found ∙ ap (λ l. a ∷ l) (all_matches query xs (All-tail (IsOfGame query 0) a xs all))
 
-apart : (xs : List GameAnswer) → AllPairs IsEarlier xs → AreApart xs
+apart : (xs : List GameAnswer) → AllPairs IsEarlier xs → AreOfDistinctGames xs
 apart xs pairs = λ i j d before below same. let less = pairs i j d before below in omega (arith, less, same)
 
 pub sorted_same : (query : QueryTree) (outcomes : List ReadResult) (ordered : List GameAnswer) → InOrder query (matches_from query 0 outcomes) ordered

@@ -8,22 +8,22 @@ use Rattle.pgn_batches.specs.declared.batch.Batch.{Batch}
 use Rattle.cql_syntax.specs.Trees.{QueryTree}
 use Rattle.cq_shards.specs.Answers.{answers_from}
 use Rattle.cq_shards.specs.FirstMatch.{AnswersUpToFirst}
-use Rattle.cq_shards.specs.ReadResults.{AreKeptRead, ReadResult}
+use Rattle.cq_shards.specs.ReadResults.{AreReadResults, ReadResult}
 use Rattle.cq_shards.specs.declared.answers.GameAnswer.{GameAnswer}
-use Rattle.cq_queries.specs.declared.status.Status.{Status}
-use Rattle.cq_queries.specs.declared.status.Status.TheVariants.{NoMemory}
+use Rattle.cq_query_files.specs.declared.status.Status.{Status}
+use Rattle.cq_query_files.specs.declared.status.Status.TheVariants.{NoMemory}
 use Rattle.cq_search.specs.GameOutput.{is_match, is_refused}
 use Rattle.cq_search.specs.AllGames.{texts_so_far}
 use Rattle.cq_search.specs.Internal.ByBatches.{Laws}
 use Rattle.cq_search.specs.FirstGame.{some_match, up_to_first}
-use Rattle.cq_queries.specs.Views.{SinkView, Sinks, WritesPrefix}
+use Rattle.cq_query_files.specs.Views.{SinkView, Sinks, WritesPrefix}
 use Rattle.cq_search.specs.Internal.Visits.{FirstStopped, FoundNone, HaveReadResults, StopsIn, HasVisited}
 use Rattle.cq_search.specs.Internal.Writing.{FoundSoFar, SearchState, WritesSummary}
 use Rattle.cq_search.proofs.FirstGames.{UpTo, all_up, none_counted, some_counted, some_of_first, up_few, up_on, up_to}
 use Rattle.cq_search.proofs.FirstTexts.{first_written}
 use Rattle.cq_search.proofs.GameByGame.{answers_count, as_prefix, prefix_grows}
 use Rattle.cq_search.proofs.Given.{Rest, count_read, kept_read_on, rest_of}
-use Rattle.cq_queries.proofs.Sinks.{with_err}
+use Rattle.cq_query_files.proofs.Sinks.{with_err}
 
 -- the answers of the batch up to its first match
 abbrev pub BatchUpTo : QueryTree → Batch → List GameAnswer → Type 0
@@ -109,7 +109,7 @@ first_wants laws query sinks stand games batch at =
 abbrev all_in : NextBatch → List ReadResult
 all_in next = next.at.outcomes ++ next.answered.outcomes
 
-all_read : (next : NextBatch) → AreKeptRead (next.games ++ games_of next.batch) (all_in next)
+all_read : (next : NextBatch) → AreReadResults (next.games ++ games_of next.batch) (all_in next)
 all_read next = kept_read_on next.games (games_of next.batch) next.at.outcomes next.answered.outcomes next.at.are_read next.answered.are_read
 
 same_read : (next : NextBatch) → read_in next ≡ up_to_first next.query (all_in next)

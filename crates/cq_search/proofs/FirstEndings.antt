@@ -11,23 +11,23 @@ use Rattle.cq_outside.specs.Faults.{Rose}
 use Rattle.cq_outside.specs.Flow.{Grew}
 use Rattle.cql_syntax.specs.Trees.{QueryTree}
 use Rattle.pgn_cut.specs.Cut.{cut}
-use Rattle.cq_shards.specs.ReadResults.{ReadResult, AreKeptRead}
-use Rattle.cq_queries.specs.declared.status.Status.{Status}
-use Rattle.cq_queries.specs.declared.status.Status.TheVariants.{Done, DoneWithRefusals, QueryRefused, WordsRefused, OpenFault, ReadFault, WriteFault, NoMemory, ArchiveTooLong}
+use Rattle.cq_shards.specs.ReadResults.{ReadResult, AreReadResults}
+use Rattle.cq_query_files.specs.declared.status.Status.{Status}
+use Rattle.cq_query_files.specs.declared.status.Status.TheVariants.{Done, DoneWithRefusals, QueryRefused, WordsRefused, OpenFault, ReadFault, WriteFault, NoMemory, ArchiveTooLong}
 use Rattle.cq_search.specs.GameOutput.{export_if, fault_lines}
 use Rattle.cq_search.specs.Internal.ByBatches.{Laws}
 use Rattle.cq_search.specs.FirstGame.{AreFirstMatchTexts as AreFirstGames, first_texts, first_texts_of, some_match, up_to_first, expected_output}
 use Rattle.cq_search.specs.ArchiveGames.{AreRead}
-use Rattle.cq_search.specs.Promise.{SearchCall, Finds, Suffices, AnswersAll, AnswerPromise}
-use Rattle.cq_queries.specs.Views.{Sinks, SinkView, SourceView, sinks_of, Texts, Writes, WritesPrefix}
-use Rattle.cq_search.specs.Promise.{SaysOfAnswer, EndsEarly, IsOneOf, Unfinished, WritesAll, WritesPart}
+use Rattle.cq_search.specs.Promise.{SearchCall, ReadsPrefix, Suffices, AnswersAll, AnswerPromise}
+use Rattle.cq_query_files.specs.Views.{Sinks, SinkView, SourceView, sinks_of, Texts, Writes, WritesPrefix}
+use Rattle.cq_search.specs.Promise.{StatusPromise, EndsEarly, IsOneOf, Unfinished, WritesAll, WritesPart}
 use Rattle.cq_search.specs.Internal.Visits.{FirstStopped, FirstWritten, FoundNone, FoundOne, HaveReadResults, StopsIn, refused_of}
 use Rattle.cq_search.specs.Internal.Writing.{FoundSoFar, SearchState, WritesSummary, search_state}
 use Rattle.cq_search.proofs.FirstGames.{all_up, are_first, first_is, some_grows, texts_same, no_first}
 use Rattle.cq_search.proofs.FirstTexts.{not_enough, Before, first_prefix, first_written, no_more, written_more}
 use Rattle.cq_search.proofs.Known.{AllRead, Known, ReadOn, all_read, cut_begins, first_spans, known_of, read_on, takes_some, whole_begins, with_none}
 use Rattle.cq_search.proofs.Endings.{Broken, WritesEver, breaks_off, ends, finds_all, starves, stopped, too_long, unread}
-use Rattle.cq_queries.proofs.Sinks.{some_failed, with_err}
+use Rattle.cq_query_files.proofs.Sinks.{some_failed, with_err}
 use Rattle.std.proofs.lemmas.List.{length-map}
 use Rattle.pgn_batches.proofs.Filling.{consumes_none}
 use Rattle.pgn_batches.proofs.Streams.{count_within}
@@ -55,7 +55,7 @@ part_taken : (query : QueryTree) (rs : List ReadResult) (sinks : Sinks) → Writ
 part_taken query rs sinks writes = record { texts = first_texts_of query rs; are = inr (refused_of query rs, are_first query rs); writes = writes }
 
 promised : Laws → (status : Status) (query : QueryTree) (call : SearchCall) (archive : List ℕ) (rs : List ReadResult) → AllRead call archive rs
-    → Before query call → SaysOfAnswer status (first_texts query) call
+    → Before query call → StatusPromise status (first_texts query) call
     → (AnswersAll (first_texts query) call → IsOneOf status (Done ∷ DoneWithRefusals ∷ NoMemory ∷ [])) → AnswerPromise (first_texts query) status call
 promised laws status query call archive rs all before says complete =
     ends status (first_texts query) call archive rs all (no_more laws query call before) says complete
@@ -111,7 +111,7 @@ record HasFirst (query : QueryTree) (call : SearchCall) : Type 0 where
 
 early_found : (query : QueryTree) (call : SearchCall) (AreRefused : ℕ → Type 0) → (has : HasFirst query call) → AreRefused (refused_of query has.outcomes)
     → Writes call.sinks (first_texts_of query has.outcomes)
-    → Finds call whole_spans (λ front outcomes. WritesAll ((first_texts query).early outcomes) AreRefused call.sinks)
+    → ReadsPrefix call whole_spans (λ front outcomes. WritesAll ((first_texts query).early outcomes) AreRefused call.sinks)
 early_found query call AreRefused has refused writes = record {
   front = has.front;
   outcomes = has.outcomes;
@@ -139,7 +139,7 @@ ends_early query call has = (
 )
 
 early_promised : Laws → (status : Status) (query : QueryTree) (call : SearchCall) → Before query call → HasFirst query call
-    → SaysOfAnswer status (first_texts query) call → IsOneOf status (Done ∷ DoneWithRefusals ∷ NoMemory ∷ []) → AnswerPromise (first_texts query) status call
+    → StatusPromise status (first_texts query) call → IsOneOf status (Done ∷ DoneWithRefusals ∷ NoMemory ∷ []) → AnswerPromise (first_texts query) status call
 early_promised laws status query call before has says good = record {
   says = says;
   takes = takes_some call has.front has.reads;
@@ -259,7 +259,7 @@ first_too_long laws query call stand at counts =
 -- ---- the end of a call
 
 before_of : (query : QueryTree) (call : SearchCall) (games batch : KeptGames) (rs : List ReadResult) → Gives call.limit call.source.left call.source_after.left games batch
-    → AreKeptRead games rs → some_match query rs ≡ false → Before query call
+    → AreReadResults games rs → some_match query rs ≡ false → Before query call
 before_of query call games batch rs gives read none = record {
   front = gives.front;
   games = games;

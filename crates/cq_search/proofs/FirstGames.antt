@@ -12,13 +12,13 @@ use Rattle.cql_syntax.specs.Trees.{QueryTree}
 use Rattle.cq_shards.specs.Answers.{answer_of, answers_from, has_match}
 use Rattle.cq_shards.specs.FirstMatch.{AreUpToFirst}
 use Rattle.cq_shards.specs.Order.{is_found, is_match as is_match_kept, values_in}
-use Rattle.cq_shards.specs.ReadResults.{AreKeptRead, ReadResult}
+use Rattle.cq_shards.specs.ReadResults.{AreReadResults, ReadResult}
 use Rattle.cq_shards.specs.declared.answers.Answer.TheVariants.{Miss, Match}
 use Rattle.cq_shards.specs.declared.answers.GameAnswer.{GameAnswer}
 use Rattle.cq_search.specs.GameOutput.{export_if, is_match, tally_of, report_of}
 use Rattle.cq_search.specs.Internal.ByBatches.{HaveOutcomes}
 use Rattle.cq_search.specs.FirstGame.{AreFirstMatchTexts, first_export, first_texts_of, some_match, up_to_first}
-use Rattle.cq_queries.specs.Views.{Texts}
+use Rattle.cq_query_files.specs.Views.{Texts}
 use Rattle.cq_search.proofs.Given.{Rest, rest_of}
 
 -- ---- more games
@@ -155,7 +155,7 @@ texts_same query rs qs some =
 
 pub record UpTo (query : QueryTree) (n : ℕ) (games : KeptGames) (answers : List GameAnswer) : Type 0 where
   pub outcomes : List ReadResult
-  pub are_read : AreKeptRead games outcomes
+  pub are_read : AreReadResults games outcomes
   pub are : answers ≡ answers_from query n (up_to_first query outcomes)
 
 found_if : (b : Bool) (text : List ℕ) (game : Game) (query : QueryTree) → is_found (cond b (Match text (values_in (keys query game))) Miss) ≡ b

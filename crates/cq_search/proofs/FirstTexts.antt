@@ -11,7 +11,7 @@ use Rattle.cq_outside.specs.Flow.{Grew}
 use Rattle.cql_syntax.specs.Trees.{QueryTree}
 use Rattle.pgn_cut.specs.GameTokens.{game_bytes}
 use Rattle.pgn_cut.specs.declared.span.Span.{Span}
-use Rattle.cq_shards.specs.ReadResults.{ReadResult, AreKeptRead}
+use Rattle.cq_shards.specs.ReadResults.{ReadResult, AreReadResults}
 use Rattle.cq_shards.specs.declared.answers.GameAnswer.{GameAnswer}
 use Rattle.cq_search.specs.GameOutput.{export_if, fault_lines, summary_of, tally_of}
 use Rattle.cq_search.specs.AllGames.{texts_so_far}
@@ -19,16 +19,16 @@ use Rattle.cq_search.specs.Internal.ByBatches.{HaveOneOutcome, Laws}
 use Rattle.cq_search.specs.FirstGame.{first_export, first_texts, first_texts_of, some_match, up_to_first}
 use Rattle.cq_search.specs.ArchiveGames.{AreRead}
 use Rattle.cq_search.specs.Promise.{SearchCall, Suffices, ReadsNoMore}
-use Rattle.cq_queries.specs.Views.{SinkView, Sinks, Texts, Writes, WritesPrefix}
+use Rattle.cq_query_files.specs.Views.{SinkView, Sinks, Texts, Writes, WritesPrefix}
 use Rattle.cq_search.specs.Internal.Visits.{FirstWritten, refused_of}
 use Rattle.cq_search.specs.Internal.Writing.{FoundSoFar, SearchState, WritesSummary, search_state}
-use Rattle.cq_queries.specs.declared.status.Status.{Status}
-use Rattle.cq_queries.specs.declared.status.Status.TheVariants.{Done, DoneWithRefusals, QueryRefused, WordsRefused, OpenFault, ReadFault, WriteFault, NoMemory, ArchiveTooLong}
+use Rattle.cq_query_files.specs.declared.status.Status.{Status}
+use Rattle.cq_query_files.specs.declared.status.Status.TheVariants.{Done, DoneWithRefusals, QueryRefused, WordsRefused, OpenFault, ReadFault, WriteFault, NoMemory, ArchiveTooLong}
 use Rattle.cq_search.specs.declared.tally.Tally.{Tally}
 use Rattle.cq_search.proofs.GameByGame.{both_prefix, fault_lines_on, part_more, took_more}
 use Rattle.cq_search.proofs.FirstGames.{first_is, some_grows, texts_same, up_grows, up_same}
 use Rattle.cq_search.proofs.Given.{reads_archive, whole_are}
-use Rattle.cq_queries.proofs.Sinks.{Took, with_err, then_err, fails_after, grew_on, took_count, took_front, unwritten}
+use Rattle.cq_query_files.proofs.Sinks.{Took, with_err, then_err, fails_after, grew_on, took_count, took_front, unwritten}
 
 -- ---- no game of the batches before was a match
 
@@ -37,9 +37,9 @@ pub record KeptSplit (gs : KeptGames) (rs : List ReadResult) : Type 0 where
   pub front : List ReadResult
   pub back : List ReadResult
   pub is : rs ≡ front ++ back
-  pub read : AreKeptRead gs front
+  pub read : AreReadResults gs front
 
-pub kept_split : (gs hs : KeptGames) (rs : List ReadResult) → AreKeptRead (gs ++ hs) rs → KeptSplit gs rs
+pub kept_split : (gs hs : KeptGames) (rs : List ReadResult) → AreReadResults (gs ++ hs) rs → KeptSplit gs rs
 kept_split [] hs rs read = record { front = []; back = rs; is = refl; read = tt }
 kept_split (g ∷ gs) hs [] read = absurd read
 kept_split (g ∷ gs) hs (r ∷ rs) read =
@@ -59,12 +59,12 @@ one_read one archive (s ∷ ss) (q ∷ qs) (r ∷ rs) x y =
 pub none_of_both : (query : QueryTree) (rs front back : List ReadResult) → rs ≡ front ++ back → some_match query rs ≡ false → some_match query front ≡ true → ⊥
 none_of_both query rs front back is none some = let e : true ≡ false = sym (some_grows query front back some) ∙ ap (some_match query) (sym is) ∙ none in cc
 
-pub not_enough : Laws → (query : QueryTree) (front : List ℕ) (games : KeptGames) (rs : List ReadResult) → AreLeadingGames (whole front) games → AreKeptRead games rs
+pub not_enough : Laws → (query : QueryTree) (front : List ℕ) (games : KeptGames) (rs : List ReadResult) → AreLeadingGames (whole front) games → AreReadResults games rs
     → some_match query rs ≡ false → Suffices (first_texts query) front → ⊥
 not_enough laws query front games rs (more, are) read none enough =
-    let split : KeptSplit (whole front) rs = kept_split (whole front) more rs (subst (λ gs. AreKeptRead gs rs) are read) in
+    let split : KeptSplit (whole front) rs = kept_split (whole front) more rs (subst (λ gs. AreReadResults gs rs) are read) in
     let here : AreRead front (whole_spans front) split.front =
-    reads_archive laws front (whole_spans front) split.front (subst (λ gs. AreKeptRead gs split.front) (whole_are laws front) split.read) in
+    reads_archive laws front (whole_spans front) split.front (subst (λ gs. AreReadResults gs split.front) (whole_are laws front) split.read) in
     let same = one_read laws.one front (whole_spans front) enough.outcomes split.front enough.are_read here in
     none_of_both query rs split.front split.back split.is none (ap (some_match query) (sym same) ∙ enough.early.0)
 
@@ -74,7 +74,7 @@ pub record Before (query : QueryTree) (call : SearchCall) : Type 0 where
   pub games : KeptGames
   pub outcomes : List ReadResult
   pub takes : Consumes call.source.left call.source_after.left front
-  pub are_read : AreKeptRead games outcomes
+  pub are_read : AreReadResults games outcomes
   pub none : some_match query outcomes ≡ false
   pub needed : AreLeadingGames (whole (take (length front - most_read) front)) games
 

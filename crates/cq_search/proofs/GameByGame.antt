@@ -15,8 +15,8 @@ use Rattle.pgn_reader.specs.declared.fault.GameFault.{GameFault}
 use Rattle.cq_search.specs.Sorts.{have_sort}
 use Rattle.cq_shards.specs.declared.answers.Answer.TheVariants.{Refused, Miss, Match}
 use Rattle.cq_shards.specs.declared.answers.GameAnswer.{GameAnswer}
-use Rattle.cq_queries.specs.declared.status.Status.{Status}
-use Rattle.cq_queries.specs.declared.status.Status.TheVariants.{Done, DoneWithRefusals, QueryRefused, WordsRefused, OpenFault, ReadFault, WriteFault, NoMemory, ArchiveTooLong}
+use Rattle.cq_query_files.specs.declared.status.Status.{Status}
+use Rattle.cq_query_files.specs.declared.status.Status.TheVariants.{Done, DoneWithRefusals, QueryRefused, WordsRefused, OpenFault, ReadFault, WriteFault, NoMemory, ArchiveTooLong}
 use Rattle.cq_search.specs.declared.tally.Tally.{Tally}
 use Rattle.cq_search.specs.AllGames.{AreAnswers, texts_of, texts_so_far, written}
 use Rattle.cq_shards.specs.Answers.{found_in, answer_of, answers_from}
@@ -27,11 +27,11 @@ use Rattle.cq_shards.specs.Answers.{has_match}
 use Rattle.cq_search.specs.GameOutput.{tally_of, report_of, export_if, fault_if, fault_lines, is_match, is_refused, summary_of}
 use Rattle.cq_search.specs.Exports.{AreExports, exports_of, match_if, matches_from}
 use Rattle.cq_shards.specs.Order.{values_in}
-use Rattle.cq_queries.specs.Views.{SinkView, Sinks, Texts, Writes, WritesPrefix, IsUnwritten, NoWriteFailed, OneSinkFailed, sinks_of}
-use Rattle.cq_search.specs.Promise.{ExpectedOutput, WritesAll, WritesPart, Unfinished}
+use Rattle.cq_query_files.specs.Views.{SinkView, Sinks, Texts, Writes, WritesPrefix, IsUnwritten, NoWriteFailed, OneSinkFailed, sinks_of}
+use Rattle.cq_search.specs.Promise.{OutputSpec, WritesAll, WritesPart, Unfinished}
 use Rattle.cq_search.specs.Internal.Writing.{WritesText, WritesKept, InOrder, AnswersGame, FoundSoFar, WritesAnswer, WritesLast, SearchState, search_state, after_one_game, tallied, kept_if, kept_from, texts_of_game}
 use Rattle.cq_search.proofs.Exports.{matches_more, written_none, unsorted_exports, sorted_exports, none_ordered}
-use Rattle.cq_queries.proofs.Sinks.{unwritten, wrote_none, grew_on, Took, took_count, took_on, took_front, prefix_of, Moments, until_now, from_now, in_all, with_out, with_err, then_out, then_err, fails_after, none_after}
+use Rattle.cq_query_files.proofs.Sinks.{unwritten, wrote_none, grew_on, Took, took_count, took_on, took_front, prefix_of, Moments, until_now, from_now, in_all, with_out, with_err, then_out, then_err, fails_after, none_after}
 
 pub fault_lines_on : (n : ℕ) (rs ss : List ReadResult) → fault_lines n (rs ++ ss) ≡ fault_lines n rs ++ fault_lines (n + length rs) ss
 unfolding fault_lines
@@ -426,7 +426,7 @@ unkept sorted query rs sinks out stand failed sorts found (ordered, order, part,
     )
 
 -- all but the last text of the report was written; with it so many games are faulty, and these are the texts of all of them
-pub record AllButLast (expected_output : ExpectedOutput) (outcomes : List ReadResult) (sinks : Sinks) (refused : ℕ) (last : List ℕ) : Type 0 where
+pub record AllButLast (expected_output : OutputSpec) (outcomes : List ReadResult) (sinks : Sinks) (refused : ℕ) (last : List ℕ) : Type 0 where
   pub exports : List ℕ
   pub report : List ℕ
   pub are : expected_output.ended outcomes refused (record { out = exports; err = report ++ last })
@@ -452,7 +452,7 @@ ordered_all sorted query rs sinks out stand sorts found (ordered, order, grew, s
     }
 
 -- the last text was written
-finished : (expected_output : ExpectedOutput) (rs : List ReadResult) (sinks : Sinks) (err : SinkView) (refused : ℕ) (last : List ℕ) (AreRefused : ℕ → Type 0)
+finished : (expected_output : OutputSpec) (rs : List ReadResult) (sinks : Sinks) (err : SinkView) (refused : ℕ) (last : List ℕ) (AreRefused : ℕ → Type 0)
     → AllButLast expected_output rs sinks refused last → AreRefused refused → Grew sinks.err_after.taken err.taken last
     → WritesAll (expected_output.ended rs) AreRefused (with_err sinks err)
 finished expected_output rs sinks err refused last AreRefused found is grew = record {
@@ -469,7 +469,7 @@ finished expected_output rs sinks err refused last AreRefused found is grew = re
 }
 
 -- it could not be written, or only a part of it
-unfinished : (expected_output : ExpectedOutput) (rs : List ReadResult) (sinks : Sinks) (err : SinkView) (refused : ℕ) (last : List ℕ) (count : ℕ) → AllButLast expected_output rs sinks refused last
+unfinished : (expected_output : OutputSpec) (rs : List ReadResult) (sinks : Sinks) (err : SinkView) (refused : ℕ) (last : List ℕ) (count : ℕ) → AllButLast expected_output rs sinks refused last
     → Grew sinks.err_after.taken err.taken (take count last) → WritesPart (Unfinished expected_output rs) (with_err sinks err)
 unfinished expected_output rs sinks err refused last count found grew =
     let texts : Texts = record { out = found.exports; err = found.report ++ last } in
@@ -483,7 +483,7 @@ unfinished expected_output rs sinks err refused last count found grew =
       });
     }
 
-pub ended : (status : Status) (expected_output : ExpectedOutput) (rs : List ReadResult) (sinks : Sinks) (err : SinkView) (refused : ℕ) (last : List ℕ) → AllButLast expected_output rs sinks refused last
+pub ended : (status : Status) (expected_output : OutputSpec) (rs : List ReadResult) (sinks : Sinks) (err : SinkView) (refused : ℕ) (last : List ℕ) → AllButLast expected_output rs sinks refused last
     → WritesLast last refused sinks.err_after err status → WritesAnswer expected_output rs (with_err sinks err) status
 ended Done expected_output rs sinks err refused last found writes = (
   finished expected_output rs sinks err refused last (λ n. n ≡ 0) found writes.0 writes.1,

@@ -8,16 +8,16 @@ use Rattle.cq_outside.specs.Flow.{Grew}
 use Rattle.cq_common.specs.declared.faults.Failed.{Failed}
 use Rattle.cq_common.specs.declared.faults.Refusal.{Refusal}
 use Rattle.cq_common.specs.declared.faults.Refusal.TheVariants.{Fault, NoMemory as IsNoMemory}
-use Rattle.cq_shards.specs.Order.{AreApart, ComesBefore, HasKeys, directions, is_match}
+use Rattle.cq_shards.specs.Order.{AreOfDistinctGames, ComesBefore, HasKeys, directions, is_match}
 use Rattle.cq_shards.specs.declared.answers.GameAnswer.{GameAnswer}
 use Rattle.cql_syntax.specs.TreeOf.{query_tree}
 use Rattle.cql_syntax.specs.Trees.{QueryTree}
 use Rattle.cql_syntax.specs.declared.typed_query.TypedQuery.{TypedQuery}
 use Rattle.cq_search.specs.Exports.{exports_of}
 use Rattle.cq_shards.specs.Answers.{text_of}
-use Rattle.cq_queries.specs.Views.{SinkView}
+use Rattle.cq_query_files.specs.Views.{SinkView}
 use Rattle.cq_search.specs.Internal.Writing.{InOrder, WritesKept, WritesText}
-use Rattle.cq_queries.proofs.Sinks.{grew_on, Took, took_count, took_on, prefix_of}
+use Rattle.cq_query_files.proofs.Sinks.{grew_on, Took, took_count, took_on, prefix_of}
 
 text_in : GameAnswer → List ℕ
 text_in a = text_of a.what
@@ -29,7 +29,7 @@ exports_more xs i a inside is =
 
 -- an order by the query that a plan gives is one by the plan's
 pub in_order : (answers ordered : List GameAnswer) (given held : TypedQuery) → given ≡ held → IsPermutation (filter is_match answers) ordered
-    → (AreApart answers → All (HasKeys (directions (query_tree given.query).items)) answers
+    → (AreOfDistinctGames answers → All (HasKeys (directions (query_tree given.query).items)) answers
     → AllPairs (ComesBefore (directions (query_tree given.query).items)) ordered) → InOrder (query_tree held.query) answers ordered
 in_order answers ordered given held e same order = subst (λ (t : TypedQuery). InOrder (query_tree t.query) answers ordered) e (record { same = same; order = order })
 

@@ -12,7 +12,7 @@ use Rattle.pgn_batches.specs.declared.batch.Batch.{Batch}
 use Rattle.cq_outside.specs.Flow.{TakesAtMost}
 use Rattle.pgn_cut.specs.Cut.{cut, closed}
 use Rattle.pgn_cut.specs.declared.span.Span.{Span}
-use Rattle.cq_shards.specs.ReadResults.{ReadResult, AreKeptRead}
+use Rattle.cq_shards.specs.ReadResults.{ReadResult, AreReadResults}
 use Rattle.cq_search.specs.Internal.ByBatches.{Laws}
 use Rattle.cq_search.specs.ArchiveGames.{AreRead, HasGames}
 use Rattle.cq_search.specs.Promise.{SearchCall}
@@ -26,10 +26,10 @@ pub record Known (call : SearchCall) : Type 0 where
   pub outcomes : List ReadResult
   pub reads : Reads call.limit call.source.left call.source_after.left front
   pub first : AreLeadingGames games (whole front) ⊎ (ReadsAll call.limit call.source.left call.source_after.left front × AreLeadingGames games (cut_games front))
-  pub are_read : AreKeptRead games outcomes
+  pub are_read : AreReadResults games outcomes
 
 abbrev pub known_of : (call : SearchCall) (games batch : KeptGames) (outcomes : List ReadResult) → Gives call.limit call.source.left call.source_after.left games batch
-    → AreKeptRead (games ++ batch) outcomes → Known call
+    → AreReadResults (games ++ batch) outcomes → Known call
 known_of call games batch outcomes gives read = record {
   front = gives.front;
   games = games ++ batch;
@@ -40,8 +40,8 @@ known_of call games batch outcomes gives read = record {
 }
 
 -- if no batch is left out, the games are those that were taken
-pub with_none : (games : KeptGames) (outcomes : List ReadResult) → AreKeptRead games outcomes → AreKeptRead (games ++ []) outcomes
-with_none games outcomes read = subst (λ gs. AreKeptRead gs outcomes) (sym (append-nil games)) read
+pub with_none : (games : KeptGames) (outcomes : List ReadResult) → AreReadResults games outcomes → AreReadResults (games ++ []) outcomes
+with_none games outcomes read = subst (λ gs. AreReadResults gs outcomes) (sym (append-nil games)) read
 
 pub takes_some : (call : SearchCall) (front : List ℕ) → Reads call.limit call.source.left call.source_after.left front
     → TakesAtMost (call.limit + 1) call.source.left call.source_after.left
@@ -50,7 +50,7 @@ takes_some call front reads = record { bytes = front; takes = reads.takes; few =
 -- ---- the games that follow
 
 -- the results of reading the games that were taken, and those of a batch
-pub reading_on : (games : KeptGames) (batch : Batch) (Before After : List ReadResult → Type 0) → (at : HaveReadResults games Before) → (qs : List ReadResult) → AreKeptRead (games_of batch) qs
+pub reading_on : (games : KeptGames) (batch : Batch) (Before After : List ReadResult → Type 0) → (at : HaveReadResults games Before) → (qs : List ReadResult) → AreReadResults (games_of batch) qs
     → After (at.outcomes ++ qs) → HaveReadResults (games ++ games_of batch) After
 reading_on games batch Before After at qs read holds = record {
   outcomes = at.outcomes ++ qs;
@@ -68,13 +68,13 @@ pub record ReadOn (archive : List ℕ) (spans : List Span) (outcomes : List Read
   pub more : List ReadResult
   pub are_read : AreRead archive spans (outcomes ++ more)
 
-pub read_on : Laws → (archive : List ℕ) (spans : List Span) (games : KeptGames) (outcomes : List ReadResult) → AreLeadingGames games (map (kept archive) spans) → AreKeptRead games outcomes
+pub read_on : Laws → (archive : List ℕ) (spans : List Span) (games : KeptGames) (outcomes : List ReadResult) → AreLeadingGames games (map (kept archive) spans) → AreReadResults games outcomes
     → ReadOn archive spans outcomes
 read_on laws archive spans games outcomes (others, are) read =
     let rest : Rest others = rest_of laws.have others in record {
       more = rest.outcomes;
       are_read = reads_archive laws archive spans (outcomes ++ rest.outcomes)
-          (subst (λ gs. AreKeptRead gs (outcomes ++ rest.outcomes)) (sym are) (kept_read_on games others outcomes rest.outcomes read rest.are_read));
+          (subst (λ gs. AreReadResults gs (outcomes ++ rest.outcomes)) (sym are) (kept_read_on games others outcomes rest.outcomes read rest.are_read));
     }
 
 -- the first games of the whole batches are the first closed ones
@@ -114,5 +114,5 @@ pub record AllRead (call : SearchCall) (archive : List ℕ) (outcomes : List Rea
   pub are_read : HasGames archive outcomes
 
 pub all_read : Laws → (call : SearchCall) (archive : List ℕ) (outcomes : List ReadResult) → ReadsAll call.limit call.source.left call.source_after.left archive
-    → call.source_after.faults ≡ call.source.faults → AreKeptRead (cut_games archive) outcomes → AllRead call archive outcomes
+    → call.source_after.faults ≡ call.source.faults → AreReadResults (cut_games archive) outcomes → AllRead call archive outcomes
 all_read laws call archive outcomes reads counts read = record { reads = reads; counts = counts; are_read = reads_archive laws archive (cut archive) outcomes read }

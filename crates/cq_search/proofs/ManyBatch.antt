@@ -17,10 +17,10 @@ use Rattle.cql_syntax.specs.declared.typed_query.TypedQuery.{TypedQuery}
 use Rattle.cql_syntax.specs.QueryTrees.{trees_of}
 use Rattle.cq_shards.specs.Answers.{answers_from}
 use Rattle.cq_shards.specs.Many.{AreManyOf}
-use Rattle.cq_shards.specs.ReadResults.{AreKeptRead, ReadResult}
+use Rattle.cq_shards.specs.ReadResults.{AreReadResults, ReadResult}
 use Rattle.cq_shards.specs.declared.answers.GameAnswer.{GameAnswer}
-use Rattle.cq_queries.specs.declared.status.Status.{Status}
-use Rattle.cq_queries.specs.declared.status.Status.TheVariants.{NoMemory}
+use Rattle.cq_query_files.specs.declared.status.Status.{Status}
+use Rattle.cq_query_files.specs.declared.status.Status.TheVariants.{NoMemory}
 use Rattle.cq_search.specs.declared.tally.Tally.{Tally}
 use Rattle.cq_search.specs.AllGames.{texts_so_far}
 use Rattle.cq_search.specs.GameOutput.{fault_lines, is_match, is_refused, tally_of}
@@ -28,7 +28,7 @@ use Rattle.cq_search.specs.Internal.ByBatches.{HaveOutcomes, Laws}
 use Rattle.cq_search.specs.Exports.{matches_from}
 use Rattle.cq_search.specs.ManyQueries.{faults_alone, texts_of_all}
 use Rattle.cq_search.specs.Internal.ManyWriting.{AreAnswerListsOf, FoundByAll, IsSortedByGame, KeepsRest}
-use Rattle.cq_queries.specs.Views.{SinkView, Sinks, Texts, Writes, WritesPrefix, NoWriteFailed, OneSinkFailed, sinks_of}
+use Rattle.cq_query_files.specs.Views.{SinkView, Sinks, Texts, Writes, WritesPrefix, NoWriteFailed, OneSinkFailed, sinks_of}
 use Rattle.cq_search.specs.Internal.Visits.{HaveReadResults, StopsIn, HasVisited}
 use Rattle.cq_search.specs.Internal.Writing.{AnswersSome, FoundSoFar, SearchState, search_state}
 use Rattle.cq_search.proofs.AnswerPromise.{FullOutput}
@@ -37,7 +37,7 @@ use Rattle.cq_search.proofs.GameByGame.{answers_count, as_prefix, both_prefix, f
 use Rattle.cq_search.proofs.Given.{Rest, count_read, rest_of}
 use Rattle.cq_search.proofs.Known.{reading_on}
 use Rattle.cq_search.proofs.Rows.{Keeping, all_kept, kept_of, row_at, rows_are}
-use Rattle.cq_queries.proofs.Sinks.{Took, took_count, unwritten}
+use Rattle.cq_query_files.proofs.Sinks.{Took, took_count, unwritten}
 use Rattle.cq_search.proofs.Sorted.{StandBeside}
 
 -- ---- the expected output
@@ -177,7 +177,7 @@ tally_few (q ∷ qs) rs sinks tally kept some found =
 -- the batch was searched, and its games have these results of reading
 pub record Answered (queries : List QueryTree) (batch : Batch) (rows : List (List GameAnswer)) : Type 0 where
   pub outcomes : List ReadResult
-  pub are_read : AreKeptRead (games_of batch) outcomes
+  pub are_read : AreReadResults (games_of batch) outcomes
   pub are : AreAnswerListsOf queries (number_of batch) outcomes rows
 
 pub answered : Laws → StandBeside → (queries : List QueryTree) (batch : Batch) (rows : List (List GameAnswer)) → AreManyOf queries batch rows → Answered queries batch rows

@@ -19,23 +19,23 @@ use Rattle.cql_syntax.specs.Trees.{QueryTree}
 use Rattle.cql_syntax.specs.declared.typed_query.TypedQuery.{TypedQuery}
 use Rattle.cql_syntax.specs.QueryTrees.{trees_of}
 use Rattle.cq_report.specs.Games.{summary_line}
-use Rattle.cq_shards.specs.Order.{AreApart, ComesBefore, HasKeys, directions, is_match as is_match_kept}
+use Rattle.cq_shards.specs.Order.{AreOfDistinctGames, ComesBefore, HasKeys, directions, is_match as is_match_kept}
 use Rattle.cq_shards.specs.ReadResults.{ReadResult}
 use Rattle.cq_shards.specs.declared.answers.GameAnswer.{GameAnswer}
-use Rattle.cq_queries.specs.declared.status.Status.{Status}
-use Rattle.cq_queries.specs.declared.status.Status.TheVariants.{NoMemory, WriteFault}
+use Rattle.cq_query_files.specs.declared.status.Status.{Status}
+use Rattle.cq_query_files.specs.declared.status.Status.TheVariants.{NoMemory, WriteFault}
 use Rattle.cq_search.specs.declared.tally.Tally.{Tally}
 use Rattle.cq_search.specs.GameOutput.{fault_lines, is_match, is_refused}
 use Rattle.cq_search.specs.Exports.{exports_of}
 use Rattle.cq_search.specs.ManyQueries.{AreAllAnswers, HaveExports, faults_alone, output_of, outputs_from, summaries, texts_of_all}
 use Rattle.cq_search.specs.Internal.ManyWriting.{AreInOrder, FoundByAll, WritesOut}
-use Rattle.cq_queries.specs.Views.{SinkView, Sinks, Texts}
+use Rattle.cq_query_files.specs.Views.{SinkView, Sinks, Texts}
 use Rattle.cq_search.specs.Promise.{Unfinished, WritesPart}
 use Rattle.cq_search.specs.Internal.Writing.{InOrder, WritesAnswer, WritesLast, WritesText}
 use Rattle.cq_search.proofs.Exports.{sorted_exports, sorted_same}
 use Rattle.cq_search.proofs.GameByGame.{AllButLast, as_prefix, both_prefix}
 use Rattle.cq_search.proofs.Rows.{kept_of, matches_counted}
-use Rattle.cq_queries.proofs.Sinks.{Took, fails_after, grew_on, none_after, prefix_of, then_out, took_count, took_front, took_on, with_out}
+use Rattle.cq_query_files.proofs.Sinks.{Took, fails_after, grew_on, none_after, prefix_of, then_out, took_count, took_front, took_on, with_out}
 
 -- ---- texts one after the other
 
@@ -267,7 +267,7 @@ none_ordered_yet queries = record { count = refl; each = λ i q below. absurd (o
 -- a query of a plan orders the matches that are kept for it
 pub ordered_by : (queries : List TypedQuery) (n : ℕ) (t : TypedQuery) (ks os : List GameAnswer) → n < length queries → t ≡ get_or queries n t
     → IsPermutation (filter is_match_kept ks) os
-    → (AreApart ks → All (HasKeys (directions (query_tree t.query).items)) ks → AllPairs (ComesBefore (directions (query_tree t.query).items)) os)
+    → (AreOfDistinctGames ks → All (HasKeys (directions (query_tree t.query).items)) ks → AllPairs (ComesBefore (directions (query_tree t.query).items)) os)
     → (q : QueryTree) → InOrder (get_or (trees_of queries) n q) ks os
 ordered_by queries n t ks os inside is same order = λ q. subst (λ r. InOrder r ks os) (query_at queries n t q inside is) (record { same = same; order = order })
 

@@ -6,12 +6,12 @@ use Rattle.pgn_batches.specs.KeptGames.{KeptGames}
 use Rattle.pgn_batches.specs.declared.batch.Batch.{Batch}
 use Rattle.cq_shards.specs.Answers.{AnswersBatch, answers_from}
 use Rattle.cq_shards.specs.declared.answers.GameAnswer.{GameAnswer}
-use Rattle.cq_queries.specs.declared.status.Status.{Status}
-use Rattle.cq_queries.specs.declared.status.Status.TheVariants.{NoMemory}
+use Rattle.cq_query_files.specs.declared.status.Status.{Status}
+use Rattle.cq_query_files.specs.declared.status.Status.TheVariants.{NoMemory}
 use Rattle.cq_search.specs.GameOutput.{is_match, is_refused}
 use Rattle.cq_search.specs.AllGames.{texts_so_far}
 use Rattle.cq_search.specs.Internal.ByBatches.{HaveOutcomes}
-use Rattle.cq_queries.specs.Views.{SinkView, Sinks, sinks_of}
+use Rattle.cq_query_files.specs.Views.{SinkView, Sinks, sinks_of}
 use Rattle.cq_search.specs.Internal.Visits.{HaveReadResults, StopsIn, HasVisited, Task}
 use Rattle.cq_search.specs.Internal.Writing.{FoundSoFar, SearchState, search_state}
 use Rattle.cq_search.proofs.GameByGame.{answers_count, as_prefix, none_found, prefix_grows, tally_with}

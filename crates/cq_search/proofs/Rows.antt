@@ -15,7 +15,7 @@ use Rattle.pgn_export.specs.Export.{export_text}
 use Rattle.cq_shards.specs.Answers.{AreAnswersOf, answer_of, answers_from, has_match}
 use Rattle.cq_shards.specs.Many.{AreManyOf}
 use Rattle.cq_shards.specs.Order.{is_match as is_match_kept, values_in}
-use Rattle.cq_shards.specs.ReadResults.{AreKeptRead, ReadResult}
+use Rattle.cq_shards.specs.ReadResults.{AreReadResults, ReadResult}
 use Rattle.cq_shards.specs.declared.answers.Answer.TheVariants.{Match, Miss}
 use Rattle.cq_shards.specs.declared.answers.GameAnswer.{GameAnswer}
 use Rattle.cq_search.specs.GameOutput.{is_match}
@@ -26,7 +26,7 @@ use Rattle.cq_search.proofs.Sorted.{StandBeside}
 
 -- ---- rows of answers
 
-one_reading : HaveOneOutcome → (games : KeptGames) (rs qs : List ReadResult) → AreKeptRead games rs → AreKeptRead games qs → rs ≡ qs
+one_reading : HaveOneOutcome → (games : KeptGames) (rs qs : List ReadResult) → AreReadResults games rs → AreReadResults games qs → rs ≡ qs
 one_reading one [] [] [] f g = refl
 one_reading one [] [] (q ∷ qs) f g = absurd g
 one_reading one [] (r ∷ rs) qs f g = absurd f
@@ -34,7 +34,7 @@ one_reading one (k ∷ ks) [] qs f g = absurd f
 one_reading one (k ∷ ks) (r ∷ rs) [] f g = absurd g
 one_reading one (k ∷ ks) (r ∷ rs) (q ∷ qs) f g = ap₂ (λ x xs. x ∷ xs) (one k.start k.first k.bytes r q f.0 g.0) (one_reading one ks rs qs f.1 g.1)
 
-row_is : Laws → StandBeside → (query : QueryTree) (batch : Batch) (outcomes : List ReadResult) (row : List GameAnswer) → AreKeptRead (games_of batch) outcomes
+row_is : Laws → StandBeside → (query : QueryTree) (batch : Batch) (outcomes : List ReadResult) (row : List GameAnswer) → AreReadResults (games_of batch) outcomes
     → AreAnswersOf query batch row → IsAnswerListOf query (number_of batch) outcomes row
 row_is laws beside query batch outcomes row read are = λ ordered sorts.
     let found = beside query batch row ordered are sorts.0 sorts.1 in
@@ -42,7 +42,7 @@ row_is laws beside query batch outcomes row read are = λ ordered sorts.
 
 -- for all results of reading the games of the batch
 pub rows_are : Laws → StandBeside → (queries : List QueryTree) (batch : Batch) (outcomes : List ReadResult) (rows : List (List GameAnswer))
-    → AreKeptRead (games_of batch) outcomes → AreManyOf queries batch rows → AreAnswerListsOf queries (number_of batch) outcomes rows
+    → AreReadResults (games_of batch) outcomes → AreManyOf queries batch rows → AreAnswerListsOf queries (number_of batch) outcomes rows
 rows_are laws beside [] batch outcomes [] read are = tt
 rows_are laws beside [] batch outcomes (row ∷ rows) read are = absurd are
 rows_are laws beside (q ∷ qs) batch outcomes [] read are = absurd are

@@ -6,8 +6,8 @@ use Rattle.cq_shards.specs.ReadResults.{ReadResult}
 use Rattle.cq_search.specs.GameOutput.{export_if, fault_lines, report_of, tally_of}
 use Rattle.cq_search.specs.Exports.{AreExports}
 use Rattle.cq_search.specs.Sorts.{have_sort}
-use Rattle.cq_queries.specs.Views.{Texts}
-use Rattle.cq_search.specs.Promise.{ExpectedOutput}
+use Rattle.cq_query_files.specs.Views.{Texts}
+use Rattle.cq_search.specs.Promise.{OutputSpec}
 
 -- the exports and the report of some games
 pub record AreAnswers (query : QueryTree) (outcomes : List ReadResult) (refused : ℕ) (texts : Texts) : Type 0 where
@@ -22,7 +22,7 @@ written sorted query outcome = if sorted then [] else export_if query outcome
 abbrev pub texts_so_far : (sorted : Bool) → QueryTree → List ReadResult → Texts
 texts_so_far sorted query outcomes = record { out = flat_map (written sorted query) outcomes; err = fault_lines 1 outcomes }
 
-abbrev pub texts_of : QueryTree → ExpectedOutput
+abbrev pub texts_of : QueryTree → OutputSpec
 texts_of query = record {
   ended = AreAnswers query;
   early = λ outcomes refused texts. ⊥;

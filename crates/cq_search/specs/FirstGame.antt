@@ -4,8 +4,8 @@ use Rattle.cql_syntax.specs.Trees.{QueryTree}
 use Rattle.cq_shards.specs.ReadResults.{ReadResult}
 use Rattle.cq_search.specs.GameOutput.{export_if, fault_lines, is_match, report_of, tally_of}
 use Rattle.cq_search.specs.AllGames.{texts_of}
-use Rattle.cq_queries.specs.Views.{Texts}
-use Rattle.cq_search.specs.Promise.{ExpectedOutput}
+use Rattle.cq_query_files.specs.Views.{Texts}
+use Rattle.cq_search.specs.Promise.{OutputSpec}
 
 -- one of some games matches
 abbrev pub some_match : QueryTree → List ReadResult → Bool
@@ -34,7 +34,7 @@ abbrev pub first_texts_of : QueryTree → List ReadResult → Texts
 first_texts_of query outcomes = record { out = first_export query outcomes; err = report_of query (up_to_first query outcomes) }
 
 -- The sort items of the query order nothing. Games suffice if one of them matches. After a fault of reading none do.
-abbrev pub first_texts : QueryTree → ExpectedOutput
+abbrev pub first_texts : QueryTree → OutputSpec
 first_texts query = record {
   ended = AreFirstMatchTexts query;
   early = λ outcomes refused texts. (some_match query outcomes ≡ true) × AreFirstMatchTexts query outcomes refused texts;
@@ -43,6 +43,6 @@ first_texts query = record {
 }
 
 -- the expected output of a run, up to the first match or of all games
-abbrev pub expected_output : (first : Bool) → QueryTree → ExpectedOutput
+abbrev pub expected_output : (first : Bool) → QueryTree → OutputSpec
 expected_output true query = first_texts query
 expected_output false query = texts_of query

@@ -6,8 +6,8 @@ use Rattle.cq_report.specs.Games.{head_line}
 use Rattle.cq_shards.specs.ReadResults.{ReadResult}
 use Rattle.cq_search.specs.GameOutput.{fault_lines, is_refused, summary_of, tally_of}
 use Rattle.cq_search.specs.Exports.{AreExports}
-use Rattle.cq_queries.specs.Views.{Texts}
-use Rattle.cq_search.specs.Promise.{ExpectedOutput}
+use Rattle.cq_query_files.specs.Views.{Texts}
+use Rattle.cq_search.specs.Promise.{OutputSpec}
 
 -- each query has these exports
 abbrev pub HaveExports : List QueryTree → List ReadResult → List (List ℕ) → Type 0
@@ -38,7 +38,7 @@ pub record AreAllAnswers (queries : List QueryTree) (outcomes : List ReadResult)
 abbrev pub faults_alone : List ReadResult → Texts
 faults_alone outcomes = record { out = []; err = fault_lines 1 outcomes }
 
-abbrev pub texts_of_all : List QueryTree → ExpectedOutput
+abbrev pub texts_of_all : List QueryTree → OutputSpec
 texts_of_all queries = record {
   ended = AreAllAnswers queries;
   early = λ outcomes refused texts. ⊥;

@@ -3,14 +3,14 @@ use Rattle.std.specs.Prelude.{◌≡◌, ℕ, ◌<◌, List, [], length}
 use Rattle.std.specs.List.{flat_map}
 use Rattle.cq_report.specs.Games.{made_line}
 use Rattle.cql_syntax.specs.Trees.{QueryTree}
-use Rattle.cq_queries.specs.declared.status.Status.{Status}
-use Rattle.cq_queries.specs.declared.status.Status.TheVariants.{Done, DoneWithRefusals, WriteFault, NoMemory}
+use Rattle.cq_query_files.specs.declared.status.Status.{Status}
+use Rattle.cq_query_files.specs.declared.status.Status.TheVariants.{Done, DoneWithRefusals, WriteFault, NoMemory}
 use Rattle.cq_search.specs.declared.totals.Totals.{Totals}
 use Rattle.cq_search.specs.GameOutput.{export_if, tally_of}
 use Rattle.cq_search.specs.Exports.{AreExports}
 use Rattle.cq_shards.specs.ReadResults.{ReadResult}
 use Rattle.cq_search.specs.ArchiveGames.{HasGames}
-use Rattle.cq_queries.specs.Views.{Sinks, Texts, Writes, WritesPrefix, IsUnwritten, NoWriteFailed, OutFailed}
+use Rattle.cq_query_files.specs.Views.{Sinks, Texts, Writes, WritesPrefix, IsUnwritten, NoWriteFailed, OutFailed}
 
 -- The totals of the games of an archive: their counts, and the length of their exports together. The exports are as long in any order, so
 -- this is the length of the exports that `run` and `eval` write.
@@ -46,7 +46,7 @@ WritesTotals totals NoMemory sinks = IsUnwritten sinks
 WritesTotals totals _ sinks = ⊥
 
 -- the text of a query over a made archive; out of memory there is none
-pub data WritesMade (archive : List ℕ) (query : QueryTree) (status : Status) (sinks : Sinks) : Type 0 where
+pub data WritesGenerated (archive : List ℕ) (query : QueryTree) (status : Status) (sinks : Sinks) : Type 0 where
   totals_written : (totals : Totals) → AreTotals query archive totals → WritesTotals totals status sinks
-      → WritesMade archive query status sinks
-  made_out_of_memory : status ≡ NoMemory → IsUnwritten sinks → WritesMade archive query status sinks
+      → WritesGenerated archive query status sinks
+  generated_out_of_memory : status ≡ NoMemory → IsUnwritten sinks → WritesGenerated archive query status sinks

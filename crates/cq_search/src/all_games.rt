@@ -7,18 +7,18 @@ ghost use Rattle.cq_shards.specs.Answers.{AnswersBatch};
 ghost use Rattle.cq_shards.specs.PlanQuery.{query_in};
 ghost use Rattle.cq_search.specs.AllGames.{texts_of, texts_so_far};
 ghost use Rattle.cq_search.specs.Promise.{AnswerPromise};
-ghost use Rattle.cq_queries.specs.Views.{source_view, sink_view, sinks_of};
+ghost use Rattle.cq_query_files.specs.Views.{source_view, sink_view, sinks_of};
 ghost use Rattle.cq_search.specs.Internal.Visits.{HaveReadResults, StopsIn, HasVisited, task_of};
 ghost use Rattle.cq_search.specs.Internal.Writing.{FoundSoFar, search_state};
 
 use crate::batch_refusal::status_of;
 use crate::laws::archives_come_in_batches;
-use crate::output::{has_sort_item, write_answers, write_rest};
+use crate::output::{has_sort_item, write_answers, write_sorted_and_summary};
 use crate::run_context::RunContext;
 use crate::tally::Tally;
 use cq_common::{NoMemory, Refusal};
 use cq_outside::{Gate, Sink, Source};
-use cq_queries::Status;
+use cq_query_files::Status;
 use cq_shards::laws::ordered_answers_stand_beside_their_games;
 use cq_shards::{GameAnswer, in_order, run_batch};
 use cql_plan::Plan;
@@ -43,20 +43,20 @@ impl<'a, F: Fn(&Batch) -> Result<Vec<GameAnswer>, NoMemory>, O: Sink, E: Sink> B
     for AllGames<'a, F> {
     type Stop = Status;
 
-    ghost has_taken = { λ was now games. (F.IsAlwaysCallable now.taker.answer
-        × ((batch : Batch) (r : _) → FnReturnsAt F.Fn now.taker.answer batch r
-        → IfOk r (λ answers. AnswersBatch (query_in now.taker.plan.now) batch answers.items))) × HasVisited
-        (task_of (query_in was.taker.plan.now) was.taker.sorted) (task_of (query_in now.taker.plan.now) now.taker.sorted) games
-        (λ outcomes. FoundSoFar was.taker.sorted (query_in was.taker.plan.now) outcomes
+    ghost has_taken = { λ was now games. (F.IsAlwaysCallable now.visitor.answer
+        × ((batch : Batch) (r : _) → FnReturnsAt F.Fn now.visitor.answer batch r
+        → IfOk r (λ answers. AnswersBatch (query_in now.visitor.plan.now) batch answers.items))) × HasVisited
+        (task_of (query_in was.visitor.plan.now) was.visitor.sorted) (task_of (query_in now.visitor.plan.now) now.visitor.sorted) games
+        (λ outcomes. FoundSoFar was.visitor.sorted (query_in was.visitor.plan.now) outcomes
         (sinks_of (sink_view O.taken O.faults was.out) (sink_view O.taken O.faults now.out)
-        (sink_view E.taken E.faults was.err) (sink_view E.taken E.faults now.err)) (search_state now.taker.tally now.taker.kept.items)) };
+        (sink_view E.taken E.faults was.err) (sink_view E.taken E.faults now.err)) (search_state now.visitor.tally now.visitor.kept.items)) };
 
     ghost has_stopped = { λ was now games batch status. HaveReadResults (games ++ batch) (λ outcomes.
-        StopsIn (texts_so_far was.taker.sorted (query_in was.taker.plan.now) outcomes)
+        StopsIn (texts_so_far was.visitor.sorted (query_in was.visitor.plan.now) outcomes)
         (sinks_of (sink_view O.taken O.faults was.out) (sink_view O.taken O.faults now.out)
         (sink_view E.taken E.faults was.err) (sink_view E.taken E.faults now.err)) status) };
 
-    fn take(&mut self, batch: &Batch, out: &mut O, err: &mut E) -> Option<Status> {
+    fn visit(&mut self, batch: &Batch, out: &mut O, err: &mut E) -> Option<Status> {
         archives_come_in_batches();
         let Ok(answers) = (self.answer)(batch) else {
             return Some(Status::NoMemory);
@@ -90,7 +90,7 @@ pub fn search_all_games<R: Threads + Sync, S: Source, O: Sink, E: Sink, G: Gate 
 {
     archives_come_in_batches();
     let sorted = has_sort_item(plan);
-    let mut taker = AllGames {
+    let mut visitor = AllGames {
         alloc: context.alloc,
         plan,
         answer: |batch: &Batch| -> Result<Vec<GameAnswer>, NoMemory>
@@ -109,11 +109,18 @@ pub fn search_all_games<R: Threads + Sync, S: Source, O: Sink, E: Sink, G: Gate 
         context.alloc,
         context.settings.limit,
         source,
-        &mut taker,
+        &mut visitor,
         out,
         err,
     ) {
-        Ok(VisitEnd::All(_)) => write_rest(context.alloc, plan, taker.tally, taker.kept, out, err),
+        Ok(VisitEnd::All(_)) => write_sorted_and_summary(
+            context.alloc,
+            plan,
+            visitor.tally,
+            visitor.kept,
+            out,
+            err,
+        ),
         Ok(VisitEnd::Early(status)) => status,
         Err(refusal) => status_of(refusal),
     }

@@ -9,18 +9,18 @@ ghost use Rattle.cq_shards.specs.Many.{AreManyOf, answers_in};
 ghost use Rattle.cq_search.specs.ManyQueries.{faults_alone, texts_of_all};
 ghost use Rattle.cq_search.specs.Internal.ManyWriting.{FoundByAll};
 ghost use Rattle.cq_search.specs.Promise.{AnswerPromise};
-ghost use Rattle.cq_queries.specs.Views.{source_view, sink_view, sinks_of};
+ghost use Rattle.cq_query_files.specs.Views.{source_view, sink_view, sinks_of};
 ghost use Rattle.cq_search.specs.Internal.Visits.{HaveReadResults, StopsIn, HasVisited};
 
 use crate::batch_refusal::status_of;
-use crate::keeping::{keep_batch, none_kept};
+use crate::keeping::{collect_matches, empty_match_lists};
 use crate::laws::archives_come_in_batches;
 use crate::outputs::write_outputs;
 use crate::run_context::RunContext;
 use crate::tally::Tally;
 use cq_common::{NoMemory, Refusal};
 use cq_outside::{Gate, Sink, Source};
-use cq_queries::Status;
+use cq_query_files::Status;
 use cq_shards::laws::ordered_answers_stand_beside_their_games;
 use cq_shards::{GameAnswer, ManyAnswers, run_many};
 use cq_shared::SharedPlan;
@@ -46,26 +46,26 @@ impl<'a, F: Fn(&Batch) -> Result<ManyAnswers, NoMemory>, O: Sink, E: Sink> Batch
     for AllQueries<'a, F> {
     type Stop = Status;
 
-    ghost has_taken = { λ was now games. (F.IsAlwaysCallable now.taker.answer
-        × ((batch : Batch) (r : _) → FnReturnsAt F.Fn now.taker.answer batch r
-        → IfOk r (λ many. AreManyOf (trees_of (queries_of now.taker.plan.now)) batch (answers_in many)))) × HasVisited
-        (trees_of (queries_of was.taker.plan.now)) (trees_of (queries_of now.taker.plan.now)) games
-        (λ outcomes. FoundByAll (trees_of (queries_of was.taker.plan.now)) outcomes
+    ghost has_taken = { λ was now games. (F.IsAlwaysCallable now.visitor.answer
+        × ((batch : Batch) (r : _) → FnReturnsAt F.Fn now.visitor.answer batch r
+        → IfOk r (λ many. AreManyOf (trees_of (queries_of now.visitor.plan.now)) batch (answers_in many)))) × HasVisited
+        (trees_of (queries_of was.visitor.plan.now)) (trees_of (queries_of now.visitor.plan.now)) games
+        (λ outcomes. FoundByAll (trees_of (queries_of was.visitor.plan.now)) outcomes
         (sinks_of (sink_view O.taken O.faults was.out) (sink_view O.taken O.faults now.out)
         (sink_view E.taken E.faults was.err) (sink_view E.taken E.faults now.err))
-        now.taker.tally (map (λ row. row.items) now.taker.kept.items)) };
+        now.visitor.tally (map (λ row. row.items) now.visitor.kept.items)) };
 
     ghost has_stopped = { λ was now games batch status. HaveReadResults (games ++ batch) (λ outcomes. StopsIn (faults_alone outcomes)
         (sinks_of (sink_view O.taken O.faults was.out) (sink_view O.taken O.faults now.out)
         (sink_view E.taken E.faults was.err) (sink_view E.taken E.faults now.err)) status) };
 
-    fn take(&mut self, batch: &Batch, out: &mut O, err: &mut E) -> Option<Status> {
+    fn visit(&mut self, batch: &Batch, out: &mut O, err: &mut E) -> Option<Status> {
         archives_come_in_batches();
         ordered_answers_stand_beside_their_games();
         let Ok(answers) = (self.answer)(batch) else {
             return Some(Status::NoMemory);
         };
-        match keep_batch(
+        match collect_matches(
             self.alloc,
             answers,
             &mut self.tally,
@@ -169,10 +169,10 @@ fn search_all_queries<R: Threads + Sync, S: Source, O: Sink, E: Sink, G: Gate + 
     ensures next { S.follows source.old source.new }
 {
     archives_come_in_batches();
-    let Ok(kept) = none_kept(context.alloc, plan.len()) else {
+    let Ok(kept) = empty_match_lists(context.alloc, plan.len()) else {
         return Status::NoMemory;
     };
-    let mut taker = AllQueries {
+    let mut visitor = AllQueries {
         alloc: context.alloc,
         plan,
         answer: |batch: &Batch| -> Result<ManyAnswers, NoMemory>
@@ -190,15 +190,15 @@ fn search_all_queries<R: Threads + Sync, S: Source, O: Sink, E: Sink, G: Gate + 
         context.alloc,
         context.settings.limit,
         source,
-        &mut taker,
+        &mut visitor,
         out,
         err,
     ) {
         Ok(VisitEnd::All(_)) => write_outputs(
             context.alloc,
             plan,
-            taker.tally,
-            taker.kept,
+            visitor.tally,
+            visitor.kept,
             out,
             err,
         ),

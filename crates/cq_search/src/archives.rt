@@ -3,14 +3,14 @@ ghost use Rattle.std.specs.Prelude.{◌≤◌, ◌^◌};
 ghost use Rattle.cql_syntax.specs.TreeOf.{query_tree};
 ghost use Rattle.cq_search.specs.FirstGame.{expected_output};
 ghost use Rattle.cq_search.specs.Promise.{AnswerPromise};
-ghost use Rattle.cq_queries.specs.Views.{source_view, sink_view, sinks_of};
+ghost use Rattle.cq_query_files.specs.Views.{source_view, sink_view, sinks_of};
 
 use crate::all_games::search_all_games;
 use crate::first_match::search_first_match;
 use crate::laws::archives_come_in_batches;
 use crate::run_context::RunContext;
 use cq_outside::{Gate, Sink, Source};
-use cq_queries::Status;
+use cq_query_files::Status;
 use cq_words::Settings;
 use cql_plan::Plan;
 use cql_syntax::TypedQuery;

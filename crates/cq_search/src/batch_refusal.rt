@@ -3,7 +3,7 @@ ghost use Rattle.std.specs.Prelude.{◌≡◌};
 ghost use Rattle.cq_search.specs.Internal.BatchRefusal.{status_after};
 
 use cq_common::Refusal;
-use cq_queries::Status;
+use cq_query_files::Status;
 use pgn_batches::BatchFault;
 
 /// Returns the status of a call that ends with the refusal of a batch.

@@ -7,7 +7,7 @@ ghost use Rattle.cq_shards.specs.FirstMatch.{AnswersUpToFirst};
 ghost use Rattle.cq_shards.specs.PlanQuery.{query_in};
 ghost use Rattle.cq_search.specs.FirstGame.{first_texts};
 ghost use Rattle.cq_search.specs.Promise.{AnswerPromise};
-ghost use Rattle.cq_queries.specs.Views.{source_view, sink_view, sinks_of};
+ghost use Rattle.cq_query_files.specs.Views.{source_view, sink_view, sinks_of};
 ghost use Rattle.cq_search.specs.Internal.Visits.{FirstStopped, FoundNone, HasVisited};
 ghost use Rattle.cq_search.specs.Internal.Writing.{search_state};
 
@@ -18,7 +18,7 @@ use crate::run_context::RunContext;
 use crate::tally::Tally;
 use cq_common::{NoMemory, Refusal};
 use cq_outside::{Gate, Sink, Source};
-use cq_queries::Status;
+use cq_query_files::Status;
 use cq_shards::{GameAnswer, run_first};
 use cql_plan::Plan;
 use pgn_batches::{Batch, BatchVisitor, VisitEnd, visit_batches};
@@ -40,19 +40,19 @@ impl<'a, F: Fn(&Batch) -> Result<Vec<GameAnswer>, NoMemory>, O: Sink, E: Sink> B
     for UpToFirst<'a, F> {
     type Stop = Status;
 
-    ghost has_taken = { λ was now games. (F.IsAlwaysCallable now.taker.answer
-        × ((batch : Batch) (r : _) → FnReturnsAt F.Fn now.taker.answer batch r
-        → IfOk r (λ answers. AnswersUpToFirst (query_in now.taker.plan.now) batch answers.items)))
-        × HasVisited (query_in was.taker.plan.now) (query_in now.taker.plan.now) games
-        (FoundNone (query_in was.taker.plan.now)
+    ghost has_taken = { λ was now games. (F.IsAlwaysCallable now.visitor.answer
+        × ((batch : Batch) (r : _) → FnReturnsAt F.Fn now.visitor.answer batch r
+        → IfOk r (λ answers. AnswersUpToFirst (query_in now.visitor.plan.now) batch answers.items)))
+        × HasVisited (query_in was.visitor.plan.now) (query_in now.visitor.plan.now) games
+        (FoundNone (query_in was.visitor.plan.now)
         (sinks_of (sink_view O.taken O.faults was.out) (sink_view O.taken O.faults now.out)
-        (sink_view E.taken E.faults was.err) (sink_view E.taken E.faults now.err)) (search_state now.taker.tally now.taker.kept.items)) };
+        (sink_view E.taken E.faults was.err) (sink_view E.taken E.faults now.err)) (search_state now.visitor.tally now.visitor.kept.items)) };
 
-    ghost has_stopped = { λ was now games batch status. FirstStopped (query_in was.taker.plan.now)
+    ghost has_stopped = { λ was now games batch status. FirstStopped (query_in was.visitor.plan.now)
         (sinks_of (sink_view O.taken O.faults was.out) (sink_view O.taken O.faults now.out)
         (sink_view E.taken E.faults was.err) (sink_view E.taken E.faults now.err)) status games batch };
 
-    fn take(&mut self, batch: &Batch, out: &mut O, err: &mut E) -> Option<Status> {
+    fn visit(&mut self, batch: &Batch, out: &mut O, err: &mut E) -> Option<Status> {
         archives_come_in_batches();
         let Ok(answers) = (self.answer)(batch) else {
             return Some(Status::NoMemory);
@@ -89,7 +89,7 @@ pub fn search_first_match<R: Threads + Sync, S: Source, O: Sink, E: Sink, G: Gat
     ensures next { S.follows source.old source.new }
 {
     archives_come_in_batches();
-    let mut taker = UpToFirst {
+    let mut visitor = UpToFirst {
         alloc: context.alloc,
         plan,
         answer: |batch: &Batch| -> Result<Vec<GameAnswer>, NoMemory>
@@ -107,11 +107,11 @@ pub fn search_first_match<R: Threads + Sync, S: Source, O: Sink, E: Sink, G: Gat
         context.alloc,
         context.settings.limit,
         source,
-        &mut taker,
+        &mut visitor,
         out,
         err,
     ) {
-        Ok(VisitEnd::All(_)) => write_summary(context.alloc, taker.tally, err),
+        Ok(VisitEnd::All(_)) => write_summary(context.alloc, visitor.tally, err),
         Ok(VisitEnd::Early(status)) => status,
         Err(refusal) => status_of(refusal),
     }

@@ -7,7 +7,7 @@ ghost use Rattle.cq_shards.specs.Order.{is_match as is_matching};
 ghost use Rattle.cq_shards.specs.ReadResults.{ReadResult};
 ghost use Rattle.cq_shards.specs.declared.answers.GameAnswer.{GameAnswer};
 ghost use Rattle.cq_search.specs.Internal.ManyWriting.{AddsMatches, AreAnswerListsOf, FoundByAll, IsSortedByGame, KeepsRest, KeepsSome};
-ghost use Rattle.cq_queries.specs.Views.{SinkView, sink_view, sinks_of};
+ghost use Rattle.cq_query_files.specs.Views.{SinkView, sink_view, sinks_of};
 
 use crate::output::write_answers;
 use crate::tally::Tally;
@@ -21,7 +21,7 @@ use std::alloc::Global;
 /// # Errors
 ///
 /// `NoMemory`: out of memory for the lists.
-pub fn none_kept(alloc: Global, queries: u32) -> Result<Vec<Vec<GameAnswer>>, NoMemory>
+pub fn empty_match_lists(alloc: Global, queries: u32) -> Result<Vec<Vec<GameAnswer>>, NoMemory>
     ensures { IfOk result (λ kept. map (λ row. row.items) kept.items ≡ replicate queries []) }
 {
     let mut kept = Vec::new(alloc);
@@ -37,7 +37,7 @@ pub fn none_kept(alloc: Global, queries: u32) -> Result<Vec<Vec<GameAnswer>>, No
 ///
 /// - `Fault`: a write failed, and the count of one sink rose. A prefix of the lines was taken.
 /// - `NoMemory`: out of memory. A prefix of the lines was taken, and no count rose.
-pub fn keep_batch<O: Sink, E: Sink>(
+pub fn collect_matches<O: Sink, E: Sink>(
     alloc: Global,
     answers: ManyAnswers,
     tally: &mut Tally,

@@ -19,6 +19,6 @@ mod totals;
 pub use all_queries::{answer_many, search_archive_many};
 pub use archives::{answer, search_archive};
 pub use run_context::RunContext;
-pub use selfrun::{MADE_LIMIT, search_made_archive};
+pub use selfrun::{GENERATED_LIMIT, search_generated_archive};
 pub use tally::Tally;
 pub use totals::Totals;

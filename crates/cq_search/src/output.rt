@@ -8,7 +8,7 @@ ghost use Rattle.cq_shards.specs.ReadResults.{ReadResult};
 ghost use Rattle.cq_search.specs.Sorts.{have_sort as some_sort};
 ghost use Rattle.cq_search.specs.AllGames.{texts_of};
 ghost use Rattle.cq_search.specs.Exports.{exports_of};
-ghost use Rattle.cq_queries.specs.Views.{SinkView, sink_view, sinks_of};
+ghost use Rattle.cq_query_files.specs.Views.{SinkView, sink_view, sinks_of};
 ghost use Rattle.cq_search.specs.Internal.Writing.{AnswersGame, AnswersSome, FoundSoFar, search_state, WritesAnswer};
 ghost use Rattle.cq_search.specs.Internal.Writing.{WritesFault, WritesKept, WritesLast, WritesSummary, WritesText};
 
@@ -16,7 +16,7 @@ use crate::sorts::have_sort;
 use crate::tally::Tally;
 use cq_common::{Failed, NoMemory, Refusal};
 use cq_outside::{Sink, write_all_of};
-use cq_queries::Status;
+use cq_query_files::Status;
 use cq_report::{fault_line, summary_line};
 use cq_shards::{Answer, GameAnswer, by_keys};
 use cql_plan::Plan;
@@ -24,7 +24,7 @@ use pgn_reader::GameFault;
 use std::alloc::Global;
 
 /// Writes the rest of the texts once all games were searched: the matches that were kept, and the last line of the report.
-pub fn write_rest<O: Sink, E: Sink>(
+pub fn write_sorted_and_summary<O: Sink, E: Sink>(
     alloc: Global,
     plan: &Plan,
     tally: Tally,
@@ -93,11 +93,11 @@ pub fn write_summary<E: Sink>(alloc: Global, tally: Tally, err: &mut E) -> Statu
     let Ok(line) = summary_line(alloc, tally.games, tally.matched, tally.refused) else {
         return Status::NoMemory;
     };
-    write_last(line.as_slice(), tally.refused, err)
+    write_report_end(line.as_slice(), tally.refused, err)
 }
 
 /// Writes the last text of a report with so many faulty games.
-pub fn write_last<E: Sink>(text: &[u8], refused: u64, err: &mut E) -> Status
+pub fn write_report_end<E: Sink>(text: &[u8], refused: u64, err: &mut E) -> Status
     ensures { WritesLast text.now refused (sink_view E.taken E.faults err.old) (sink_view E.taken E.faults err.new) result }
 {
     match write_all_of(err, text) {

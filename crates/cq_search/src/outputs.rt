@@ -8,14 +8,14 @@ ghost use Rattle.cq_shards.specs.ReadResults.{ReadResult};
 ghost use Rattle.cq_search.specs.Exports.{exports_of};
 ghost use Rattle.cq_search.specs.ManyQueries.{output_of, outputs_from, texts_of_all};
 ghost use Rattle.cq_search.specs.Internal.ManyWriting.{AreInOrder, FoundByAll, WritesOut};
-ghost use Rattle.cq_queries.specs.Views.{SinkView, sink_view, sinks_of};
+ghost use Rattle.cq_query_files.specs.Views.{SinkView, sink_view, sinks_of};
 ghost use Rattle.cq_search.specs.Internal.Writing.{WritesAnswer, WritesLast};
 
-use crate::output::{write_last, write_texts, write_to};
+use crate::output::{write_report_end, write_texts, write_to};
 use crate::tally::Tally;
 use cq_common::{Bytes, Failed, NoMemory, Refusal};
 use cq_outside::Sink;
-use cq_queries::Status;
+use cq_query_files::Status;
 use cq_report::{head_line, summary_line};
 use cq_shards::{GameAnswer, by_keys};
 use cq_shared::SharedPlan;
@@ -128,7 +128,7 @@ fn write_summaries<E: Sink>(
     let Ok(lines) = summary_lines(alloc, tally, rows) else {
         return Status::NoMemory;
     };
-    write_last(lines.as_slice(), tally.refused, err)
+    write_report_end(lines.as_slice(), tally.refused, err)
 }
 
 // Returns the last lines of the report, one for each query. The matches of a query are a row.

@@ -9,8 +9,8 @@ ghost use Rattle.cq_maker.specs.GeneratedArchive.{generated_archive};
 ghost use Rattle.cq_shards.specs.Answers.{AnswersBatch, answer_of, answers_from};
 ghost use Rattle.cq_shards.specs.PlanQuery.{query_in};
 ghost use Rattle.cq_shards.specs.ReadResults.{ReadResult};
-ghost use Rattle.cq_queries.specs.Views.{SinkView, sink_view, sinks_of};
-ghost use Rattle.cq_search.specs.SelfRun.{AreTotals, WritesMade, WritesTotals, totals_of};
+ghost use Rattle.cq_query_files.specs.Views.{SinkView, sink_view, sinks_of};
+ghost use Rattle.cq_search.specs.SelfRun.{AreTotals, WritesGenerated, WritesTotals, totals_of};
 ghost use Rattle.cq_search.specs.Internal.Visits.{HasVisited};
 ghost use Rattle.cq_search.specs.Internal.Writing.{counted};
 
@@ -23,7 +23,7 @@ use cq_common::{Bytes, NoMemory, Refusal};
 use cq_maker::laws::archives_are_short;
 use cq_maker::make_archive;
 use cq_outside::{Gate, Sink, SureSource, write_all_of};
-use cq_queries::Status;
+use cq_query_files::Status;
 use cq_report::made_line;
 use cq_shards::{Answer, GameAnswer};
 use cql_plan::Plan;
@@ -33,7 +33,7 @@ use std::alloc::Global;
 use std::thread::Threads;
 
 /// A limit that no made archive reaches, in bytes.
-pub const MADE_LIMIT: u64 = 1 << 40;
+pub const GENERATED_LIMIT: u64 = 1 << 40;
 
 /// Searches the archive of so many games, up to 100,000, that a seed makes. `out` takes one line with the counts.
 ///
@@ -41,7 +41,7 @@ pub const MADE_LIMIT: u64 = 1 << 40;
 /// - `Done` or `DoneWithRefusals`: the line was taken, and no game is faulty, or some.
 /// - `WriteFault`: a write failed, and the count of `out` rose. A prefix of the line was taken.
 /// - `NoMemory`: out of memory for the archive, for the search of a game, or for the line; nothing is written.
-pub fn search_made_archive<R: Threads + Sync, O: Sink, G: Gate + Sync>(
+pub fn search_generated_archive<R: Threads + Sync, O: Sink, G: Gate + Sync>(
     context: &RunContext<'_, R, G>,
     query: &TypedQuery,
     seed: u32,
@@ -49,7 +49,7 @@ pub fn search_made_archive<R: Threads + Sync, O: Sink, G: Gate + Sync>(
     out: &mut O,
 ) -> Status
     requires { games ≤ 100000 }
-    ensures { (err : SinkView) → WritesMade (generated_archive seed games) (query_tree query.now.query) result
+    ensures { (err : SinkView) → WritesGenerated (generated_archive seed games) (query_tree query.now.query) result
         (sinks_of (sink_view O.taken O.faults out.old) (sink_view O.taken O.faults out.new) err err) }
 {
     match made_totals(context, query, seed, games) {
@@ -88,16 +88,16 @@ impl<'a, F: Fn(&Batch) -> Result<Vec<GameAnswer>, NoMemory>> BatchVisitor<(), ()
     for Counter<'a, F> {
     type Stop = NoMemory;
 
-    ghost has_taken = { λ was now games. ((F.IsAlwaysCallable now.taker.answer
-        × ((batch : Batch) (r : _) → FnReturnsAt F.Fn now.taker.answer batch r
-        → IfOk r (λ answers. AnswersBatch (query_in now.taker.plan.now) batch answers.items)))
-        × (now.taker.totals.written ≤ 2 ^ 64 * now.taker.totals.tally.games))
-        × HasVisited (query_in was.taker.plan.now) (query_in now.taker.plan.now) games
-        (λ outcomes. now.taker.totals ≡ totals_of (query_in was.taker.plan.now) was.taker.totals.bytes outcomes) };
+    ghost has_taken = { λ was now games. ((F.IsAlwaysCallable now.visitor.answer
+        × ((batch : Batch) (r : _) → FnReturnsAt F.Fn now.visitor.answer batch r
+        → IfOk r (λ answers. AnswersBatch (query_in now.visitor.plan.now) batch answers.items)))
+        × (now.visitor.totals.written ≤ 2 ^ 64 * now.visitor.totals.tally.games))
+        × HasVisited (query_in was.visitor.plan.now) (query_in now.visitor.plan.now) games
+        (λ outcomes. now.visitor.totals ≡ totals_of (query_in was.visitor.plan.now) was.visitor.totals.bytes outcomes) };
 
     ghost has_stopped = { λ was now games batch stop. Unit {0} };
 
-    fn take(&mut self, batch: &Batch, _out: &mut (), _err: &mut ()) -> Option<NoMemory> {
+    fn visit(&mut self, batch: &Batch, _out: &mut (), _err: &mut ()) -> Option<NoMemory> {
         let Ok(answers) = (self.answer)(batch) else {
             return Some(NoMemory);
         };
@@ -116,7 +116,7 @@ fn count_archive<R: Threads + Sync, G: Gate + Sync>(
     ensures { IfOk result (AreTotals (query_in plan.now) archive) }
 {
     archives_come_in_batches();
-    let mut taker = Counter {
+    let mut visitor = Counter {
         plan,
         answer: |batch: &Batch| -> Result<Vec<GameAnswer>, NoMemory>
             requires { IsSync R.row × IsSync G.row }
@@ -128,13 +128,13 @@ fn count_archive<R: Threads + Sync, G: Gate + Sync>(
     let (mut out, mut err) = ((), ());
     match visit_batches(
         context.alloc,
-        MADE_LIMIT,
+        GENERATED_LIMIT,
         &mut source,
-        &mut taker,
+        &mut visitor,
         &mut out,
         &mut err,
     ) {
-        Ok(VisitEnd::All(_)) => Ok(taker.totals),
+        Ok(VisitEnd::All(_)) => Ok(visitor.totals),
         Ok(VisitEnd::Early(NoMemory)) => Err(NoMemory),
         Err(Refusal::Fault(_)) => unreachable!(),
         Err(Refusal::NoMemory) => Err(NoMemory),

@@ -12,9 +12,9 @@ use Rattle.pgn_batches.specs.declared.kept_game.KeptGame.{KeptGame}
 use Rattle.pgn_batches.specs.KeptGames.{KeptGames}
 use Rattle.pgn_batches.specs.Games.{games_of, number_of}
 use Rattle.cql_syntax.specs.Trees.{QueryTree}
-use Rattle.pgn_reader.specs.Verdict.{IsRead}
+use Rattle.pgn_reader.specs.Verdict.{IsReadResult}
 use Rattle.cq_shards.specs.declared.answers.GameAnswer.{GameAnswer}
-use Rattle.cq_shards.specs.Order.{AreApart, IsEarlier}
+use Rattle.cq_shards.specs.Order.{AreOfDistinctGames, IsEarlier}
 use Rattle.cq_shards.specs.Answers.{AnswersBatch, AreAnswersOf, AreInGameOrder, IsAnswerAmong, answer_of, answers_at, answers_from}
 
 abbrev one_if : Bool → ℕ
@@ -104,7 +104,7 @@ joined query n g gs a ys at is tail =
     let one : a ≡ answer_of query n r = at.1.is ∙ ap (λ k. answer_of query k r) (let e : n + at.0 ≡ n = omega (arith, is) in e) in
     record {
       outcomes = r ∷ tail.outcomes;
-      are_read = (subst (λ (h : KeptGame). IsRead h.start h.first h.bytes r) (sym game) at.1.read, tail.are_read);
+      are_read = (subst (λ (h : KeptGame). IsReadResult h.start h.first h.bytes r) (sym game) at.1.read, tail.are_read);
       are = ap (λ b. b ∷ ys) one ∙ ap (λ bs. answer_of query n r ∷ bs) tail.are;
     }
 
@@ -155,7 +155,7 @@ two_counted x (a ∷ ys) (suc i) (suc j) d before below is other =
 
 -- no two are of one game
 apart : (query : QueryTree) (n : ℕ) (games : KeptGames) (answers : List GameAnswer) → All (IsAnswerAmong query n games) answers
-    → ((k : ℕ) → k < length games → answers_at (n + k) answers ≡ 1) → AreApart answers
+    → ((k : ℕ) → k < length games → answers_at (n + k) answers ≡ 1) → AreOfDistinctGames answers
 apart query n games answers each once = λ i j d before below same_index.
     let at = each j d below in
     let index = index_of query n games (get_or answers j d) at in
@@ -168,7 +168,7 @@ not_later xs pairs = λ i j d before below. let p = pairs i j d before below in 
 
 -- the answers of a batch, once they are in order
 pub ordered_answers : (query : QueryTree) (batch : Batch) (answers sorted : List GameAnswer) → AreAnswersOf query batch answers → IsPermutation answers sorted
-    → (AreApart answers → AllPairs IsEarlier sorted) → AnswersBatch query batch sorted
+    → (AreOfDistinctGames answers → AllPairs IsEarlier sorted) → AnswersBatch query batch sorted
 ordered_answers query batch answers sorted are same_ones order =
     let n = number_of batch in
     let games = games_of batch in

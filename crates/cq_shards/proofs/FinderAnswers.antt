@@ -8,7 +8,7 @@ use Rattle.pgn_batches.specs.declared.batch.Batch.{Batch}
 use Rattle.pgn_batches.specs.Games.{number_of}
 use Rattle.cq_board.proofs.Increasing.{one_if}
 use Rattle.cq_board.specs.Draws.{times, times_in}
-use Rattle.cq_workers.specs.Outputs.{AddsOne, AreMadeOf, Share}
+use Rattle.cq_workers.specs.Outputs.{AddsOutput, AreOutputsOf, WorkerRun}
 use Rattle.cq_workers.proofs.Counting.{same_bool, times_more}
 use Rattle.cq_first.specs.declared.seat.FirstBoard.{FirstBoard}
 use Rattle.cq_first.specs.declared.seat.FirstSeat.{FirstSeat}
@@ -35,7 +35,7 @@ begins first query batch seat below unused = record {
 }
 
 pub adds_found : (first : FirstBoard) (query : QueryTree) (batch : Batch) (number : ℕ) (seat now : FirstSeat) (one : Option GameAnswer)
-    → HasProcessedGame first query batch number seat now one → AddsOne (HasSearched first query batch) number seat now one
+    → HasProcessedGame first query batch number seat now one → AddsOutput (HasSearched first query batch) number seat now one
 adds_found first query batch number seat now None took = λ numbers answers was. record {
   board = was.board;
   seat_ = took.seat;
@@ -69,30 +69,30 @@ adds_found first query batch number seat now (Some answer) took = λ numbers ans
 -- ---- by all workers
 
 pub seats_are : (first : FirstBoard) (query : QueryTree) (batch : Batch) (n : ℕ) (seats : List FirstSeat) (answers : List GameAnswer)
-    → AreMadeOf (HasSearched first query batch) n seats answers → All (IsSeatAt first) seats
+    → AreOutputsOf (HasSearched first query batch) n seats answers → All (IsSeatAt first) seats
 seats_are first query batch n seats answers are =
-    subst (All (IsSeatAt first)) (sym are.kept_)
-    (All-map (IsSeatAt first) (λ (s : Share FirstSeat GameAnswer). s.kept) are.shares
-    (All-weaker (λ (s : Share FirstSeat GameAnswer). HasSearched first query batch s.kept s.numbers s.made) (λ (s : Share FirstSeat GameAnswer). IsSeatAt first s.kept)
+    subst (All (IsSeatAt first)) (sym are.states_are)
+    (All-map (IsSeatAt first) (λ (s : WorkerRun FirstSeat GameAnswer). s.kept) are.shares
+    (All-weaker (λ (s : WorkerRun FirstSeat GameAnswer). HasSearched first query batch s.kept s.numbers s.made) (λ (s : WorkerRun FirstSeat GameAnswer). IsSeatAt first s.kept)
     (λ s is. is.seat_) are.shares are.each))
 
 module _ (first : FirstBoard) (query : QueryTree) (batch : Batch) where
-  abbrev IsSearched : Share FirstSeat GameAnswer → Type 0
+  abbrev IsSearched : WorkerRun FirstSeat GameAnswer → Type 0
   IsSearched s = HasSearched first query batch s.kept s.numbers s.made
 
-  abbrev answers_of : List (Share FirstSeat GameAnswer) → List GameAnswer
+  abbrev answers_of : List (WorkerRun FirstSeat GameAnswer) → List GameAnswer
   answers_of shares = flat_map (λ s. s.made) shares
 
-  abbrev seats_of : List (Share FirstSeat GameAnswer) → List FirstSeat
+  abbrev seats_of : List (WorkerRun FirstSeat GameAnswer) → List FirstSeat
   seats_of shares = map (λ s. s.kept) shares
 
-  each_joined : (shares : List (Share FirstSeat GameAnswer)) → All IsSearched shares → All (IsAnswerIn query batch) (answers_of shares)
+  each_joined : (shares : List (WorkerRun FirstSeat GameAnswer)) → All IsSearched shares → All (IsAnswerIn query batch) (answers_of shares)
   each_joined [] all = All-nil (IsAnswerIn query batch)
   each_joined (s ∷ ss) all =
       let one : IsSearched s = All-head IsSearched s ss all in
       All-append (IsAnswerIn query batch) s.made (answers_of ss) one.has_found.each (each_joined ss (All-tail IsSearched s ss all))
 
-  drawn_joined : (shares : List (Share FirstSeat GameAnswer)) → All IsSearched shares → (x : ℕ) → x < size batch
+  drawn_joined : (shares : List (WorkerRun FirstSeat GameAnswer)) → All IsSearched shares → (x : ℕ) → x < size batch
       → answers_at (number_of batch + x) (answers_of shares) + times_in x (map skipped (seats_of shares)) ≡ times_in x (map (λ s. s.numbers) shares)
   drawn_joined [] all x less = refl
   drawn_joined (s ∷ ss) all x less =
@@ -103,10 +103,10 @@ module _ (first : FirstBoard) (query : QueryTree) (batch : Batch) where
       answers_both (number_of batch + x) s.made (answers_of ss) (answers_of (s ∷ ss)) refl in
       let k : times_in x (map skipped (seats_of (s ∷ ss))) ≡ times x (skipped s.kept) + times_in x (map skipped (seats_of ss)) =
       sum_by-cons (times x) (skipped s.kept) (map skipped (seats_of ss)) in
-      let n : times_in x (map (λ (t : Share FirstSeat GameAnswer). t.numbers) (s ∷ ss)) ≡ times x s.numbers + times_in x (map (λ (t : Share FirstSeat GameAnswer). t.numbers) ss) =
-      sum_by-cons (times x) s.numbers (map (λ (t : Share FirstSeat GameAnswer). t.numbers) ss) in omega (arith, d, r, a, k, n)
+      let n : times_in x (map (λ (t : WorkerRun FirstSeat GameAnswer). t.numbers) (s ∷ ss)) ≡ times x s.numbers + times_in x (map (λ (t : WorkerRun FirstSeat GameAnswer). t.numbers) ss) =
+      sum_by-cons (times x) s.numbers (map (λ (t : WorkerRun FirstSeat GameAnswer). t.numbers) ss) in omega (arith, d, r, a, k, n)
 
-  found_joined : (shares : List (Share FirstSeat GameAnswer)) → All IsSearched shares → (x : ℕ) → x < size batch
+  found_joined : (shares : List (WorkerRun FirstSeat GameAnswer)) → All IsSearched shares → (x : ℕ) → x < size batch
       → matches_at (number_of batch + x) (answers_of shares) ≡ times_in x (map found (seats_of shares))
   found_joined [] all x less = refl
   found_joined (s ∷ ss) all x less =
@@ -123,11 +123,11 @@ none_or_some zero = inl refl
 none_or_some (suc n) = inr (omega arith)
 
 pub are_found : (first : FirstBoard) (query : QueryTree) (batch : Batch) (word : ℕ) (seats : List FirstSeat) (answers : List GameAnswer)
-    → AreMadeOf (HasSearched first query batch) (size batch) seats answers → IsLeastFound (size batch) word (map found seats) (map skipped seats)
+    → AreOutputsOf (HasSearched first query batch) (size batch) seats answers → IsLeastFound (size batch) word (map found seats) (map skipped seats)
     → AreFound query batch word answers
 are_found first query batch word seats answers are is = record {
   high = is.high;
-  each = subst (All (IsAnswerIn query batch)) (sym are.made_) (each_joined first query batch are.shares are.each);
+  each = subst (All (IsAnswerIn query batch)) (sym are.outputs_are) (each_joined first query batch are.shares are.each);
   once = λ x less. let d = taken x less in omega (arith, d);
   there = λ x less le. let d = taken x less in
       ⊎_elim (λ z. omega arith) (λ s. let f = is.each_skipped x s in absurd (omega arith)) (none_or_some (times_in x (map skipped seats)));
@@ -138,9 +138,9 @@ are_found first query batch word seats answers are is = record {
   where
     taken : (x : ℕ) → x < size batch → answers_at (number_of batch + x) answers + times_in x (map skipped seats) ≡ 1
     taken x less =
-        let a = ap (answers_at (number_of batch + x)) are.made_ in let k = ap (λ ms. times_in x (map skipped ms)) are.kept_ in
+        let a = ap (answers_at (number_of batch + x)) are.outputs_are in let k = ap (λ ms. times_in x (map skipped ms)) are.states_are in
         let j = drawn_joined first query batch are.shares are.each x less in let o = are.once x less in omega (arith, a, k, j, o)
 
     matched : (x : ℕ) → x < size batch → matches_at (number_of batch + x) answers ≡ times_in x (map found seats)
     matched x less =
-        ap (matches_at (number_of batch + x)) are.made_ ∙ (found_joined first query batch are.shares are.each x less ∙ sym (ap (λ ms. times_in x (map found ms)) are.kept_))
+        ap (matches_at (number_of batch + x)) are.outputs_are ∙ (found_joined first query batch are.shares are.each x less ∙ sym (ap (λ ms. times_in x (map found ms)) are.states_are))

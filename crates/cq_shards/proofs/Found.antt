@@ -12,7 +12,7 @@ use Rattle.cql_syntax.specs.Trees.{QueryTree}
 use Rattle.pgn_export.specs.Export.{export_text}
 use Rattle.cq_shards.specs.Answers.{IsAnswerAt, answer_of, has_match}
 use Rattle.cq_shards.specs.Order.{values_in}
-use Rattle.cq_shards.specs.ReadResults.{IsReadAt, ReadResult}
+use Rattle.cq_shards.specs.ReadResults.{IsReadResultAt, ReadResult}
 use Rattle.cq_shards.specs.declared.answers.Answer.TheVariants.{Miss, Match}
 use Rattle.cq_shards.specs.declared.answers.GameAnswer.{GameAnswer}
 
@@ -37,7 +37,7 @@ matched_answer query n game text values some is keyed =
     one ∙ ap (λ b. record { index = n; what = cond b (Match (export_text (marked query game)) (values_in (keys query game))) Miss }) (sym some)
 
 -- a game has the answer of its read result
-pub answered : {E : Type 0} (query : QueryTree) (n : ℕ) (games : KeptGames) (number : ℕ) (r : ReadResult) (result : Result GameAnswer E) → IsReadAt games number r
+pub answered : {E : Type 0} (query : QueryTree) (n : ℕ) (games : KeptGames) (number : ℕ) (r : ReadResult) (result : Result GameAnswer E) → IsReadResultAt games number r
     → IfOk result (λ a. a ≡ answer_of query (n + number) r) → IfOk result (IsAnswerAt query n games number)
 answered query n games number r (Ok a) read is = record { game = read.game; outcome = r; at = read.at; read = read.read; is = is }
 answered query n games number r (Err e) read is = tt

@@ -2,7 +2,7 @@ pub mod PlanAnswers
 pub mod Comparing
 pub mod Orders
 pub mod Items
-pub mod OrderRows
+pub mod OrderExamples
 pub mod Counts
 pub mod OnlyOrder
 pub mod OneWay

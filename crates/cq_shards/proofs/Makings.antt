@@ -2,7 +2,7 @@
 use Rattle.std.proofs.Common.{List, ap}
 use Rattle.pgn_batches.specs.Games.{number_of}
 use Rattle.pgn_batches.specs.declared.batch.Batch.{Batch}
-use Rattle.cq_workers.specs.Outputs.{AreMadeOf}
+use Rattle.cq_workers.specs.Outputs.{AreOutputsOf}
 use Rattle.cq_workers.specs.NumberedOutputs.{IsNumbered}
 use Rattle.cq_workers.proofs.Makings.{are_made}
 use Rattle.cql_syntax.specs.Trees.{QueryTree}
@@ -19,11 +19,11 @@ pub numbered_rows : (queries : List QueryTree) (batch : Batch) → IsNumbered (I
 numbered_rows queries batch = λ number r is. is.index
 
 pub are_answers : {K : Type 0} (query : QueryTree) (batch : Batch) (kept : List K) (answers : List GameAnswer)
-    → AreMadeOf (λ k numbers made. HasAnswered query batch numbers made) (size batch) kept answers → AreAnswersOf query batch answers
+    → AreOutputsOf (λ k numbers made. HasAnswered query batch numbers made) (size batch) kept answers → AreAnswersOf query batch answers
 are_answers query batch kept answers are =
     let all = are_made (IsAnswerFor query batch) index_of (number_of batch) (size batch) kept answers are in record { each = all.each; once = all.once }
 
 pub are_rows : {K : Type 0} (queries : List QueryTree) (batch : Batch) (kept : List K) (rows : List GameRow)
-    → AreMadeOf (λ k numbers made. HasMadeRows queries batch numbers made) (size batch) kept rows → AreRowsOf queries batch rows
+    → AreOutputsOf (λ k numbers made. HasMadeRows queries batch numbers made) (size batch) kept rows → AreRowsOf queries batch rows
 are_rows queries batch kept rows are =
     let all = are_made (IsRowFor queries batch) row_index (number_of batch) (size batch) kept rows are in record { each = all.each; once = all.once }

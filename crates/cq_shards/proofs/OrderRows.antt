@@ -2,9 +2,9 @@
 use Rattle.std.proofs.Common.{arith, inl, inr, negsuc, pos, refl}
 use Rattle.std.proofs.lemmas.Cmp.{int_ranked}
 use Rattle.std.specs.declared.cmp.Ordering.TheVariants.{Less}
-use Rattle.cq_shards.specs.OrderRows.{OrderRows}
+use Rattle.cq_shards.specs.OrderExamples.{OrderExamples}
 
-pub order_rows : OrderRows
+pub order_rows : OrderExamples
 order_rows = record {
   directions_of_the_sort_items = refl;
   greater_key = record { item = 0; inside = omega arith; alike = refl; first = int_ranked (pos 1) (pos 5) Less refl };

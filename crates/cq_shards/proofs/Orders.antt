@@ -15,7 +15,7 @@ use Rattle.std.specs.Ordering.{is_gt, is_lt, nat_cmp, ordering_then}
 use Rattle.std.specs.Prelude.{slice_get}
 use Rattle.cq_shards.specs.declared.answers.GameAnswer.{GameAnswer}
 use Rattle.cq_shards.specs.Internal.Comparing.{answer_cmp, keys_cmp, value_cmp}
-use Rattle.cq_shards.specs.Order.{AreApart, ComesBefore, ComesFirst, HasKeys, IsEarlier, Precede, is_match, key_at, keys_in}
+use Rattle.cq_shards.specs.Order.{AreOfDistinctGames, ComesBefore, ComesFirst, HasKeys, IsEarlier, Precede, is_match, key_at, keys_in}
 use Rattle.cq_shards.proofs.Comparing.{answer_total, by_item, keys_turned, no_item}
 
 -- the elements that a slice of a whole vector writes back
@@ -30,7 +30,7 @@ not_equal : (m n : ℕ) (b : Bool) → nat_eq m n ≡ b → m ≢ n → nat_eq m
 not_equal m n true e differ = absurd (differ (eqb-true m n e))
 not_equal m n false e differ = e
 
-pub apart_moved : (xs ys : List GameAnswer) → IsPermutation xs ys → AreApart xs → AreApart ys
+pub apart_moved : (xs ys : List GameAnswer) → IsPermutation xs ys → AreOfDistinctGames xs → AreOfDistinctGames ys
 unfolding same_game
 apart_moved xs ys moves apart = λ i j d before inside.
     eqb-false _ _ (apart_from_distinct same_game ys i j d
@@ -41,7 +41,7 @@ apart_moved xs ys moves apart = λ i j d before inside.
 below : (m n : ℕ) → m ≤ n → m ≢ n → m < n
 below m n le differ = omega (arith, le, differ)
 
-pub earlier_ones_first : (xs : List GameAnswer) → AreApart xs → IsNonDecreasingBy (λ a. a.index) xs → AllPairs IsEarlier xs
+pub earlier_ones_first : (xs : List GameAnswer) → AreOfDistinctGames xs → IsNonDecreasingBy (λ a. a.index) xs → AllPairs IsEarlier xs
 earlier_ones_first xs apart up = λ i j d before inside. below _ _ (up i j d (omega (arith, before)) inside) (apart i j d before inside)
 
 first_value : (least : Bool) (x y : ℤ) → value_cmp least (Some x) (Some y) ≡ Less → ComesFirst least x y
@@ -118,7 +118,7 @@ comes_before items a b first_full second_full differ after Greater e =
 abbrev pub comes_after : List Bool → GameAnswer → GameAnswer → Bool
 comes_after items a b = is_lt (answer_cmp items a b)
 
-pub matches_in_order : (items : List Bool) (answers sorted : List GameAnswer) → AreApart answers → All (HasKeys items) answers
+pub matches_in_order : (items : List Bool) (answers sorted : List GameAnswer) → AreOfDistinctGames answers → All (HasKeys items) answers
     → IsPermutation (filter is_match answers) sorted → IsSortedBy (comes_after items) sorted → AllPairs (ComesBefore items) sorted
 matches_in_order items answers sorted apart full moves up = λ i j d before inside.
     let found = filter is_match answers in

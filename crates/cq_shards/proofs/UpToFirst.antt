@@ -13,11 +13,11 @@ use Rattle.pgn_batches.specs.declared.kept_game.KeptGame.{KeptGame}
 use Rattle.cq_board.proofs.Increasing.{one_if}
 use Rattle.cq_workers.proofs.Counting.{not_same}
 use Rattle.cql_syntax.specs.Trees.{QueryTree}
-use Rattle.pgn_reader.specs.Verdict.{IsRead}
+use Rattle.pgn_reader.specs.Verdict.{IsReadResult}
 use Rattle.cq_shards.specs.Answers.{IsAnswerAmong, IsAnswerOf, answer_of, answers_at}
 use Rattle.cq_shards.specs.Internal.Finders.{AreFound, IsAnswerIn, matches_at}
 use Rattle.cq_shards.specs.FirstMatch.{AnswersUpToFirst, AreUpToFirst}
-use Rattle.cq_shards.specs.Order.{AreApart, IsEarlier, is_match}
+use Rattle.cq_shards.specs.Order.{AreOfDistinctGames, IsEarlier, is_match}
 use Rattle.cq_shards.specs.declared.answers.GameAnswer.{GameAnswer}
 use Rattle.cq_shards.proofs.Beside.{NotLater, first_game, first_number, index_of, later_answer, later_pairs, none_counted, not_later}
 use Rattle.cq_shards.proofs.Counting.{answers_cons, matches_among, matches_cons, same_self}
@@ -51,7 +51,7 @@ first_of query n g gs word a ys are = record {
   index = here;
   answer = (
     at.1.outcome,
-    subst (λ (h : KeptGame). IsRead h.start h.first h.bytes at.1.outcome) (sym (first_game query n g gs a at number)) at.1.read,
+    subst (λ (h : KeptGame). IsReadResult h.start h.first h.bytes at.1.outcome) (sym (first_game query n g gs a at number)) at.1.read,
     at.1.is ∙ ap (λ k. answer_of query k at.1.outcome) (let e : n + at.0 ≡ n = omega (arith, number) in e),
   );
   none = let c = answers_cons n a ys in let o = ap one_if (is_here a.index n here) in omega (arith, c, o, once);
@@ -128,7 +128,7 @@ up_to query n (g ∷ gs) (suc word) (suc j) (a ∷ ys) is are =
     )
 
 -- no two answers are of one game, since each game has one at most
-once_apart : (xs : List GameAnswer) → All (λ a. answers_at a.index xs ≤ 1) xs → AreApart xs
+once_apart : (xs : List GameAnswer) → All (λ a. answers_at a.index xs ≤ 1) xs → AreOfDistinctGames xs
 once_apart [] once i j d before inside = absurd (omega (arith, inside))
 once_apart (a ∷ ys) once zero zero d before inside = absurd (omega (arith, before))
 once_apart (a ∷ ys) once zero (suc j) d before inside = λ same.
@@ -146,7 +146,7 @@ once_apart (a ∷ ys) once (suc i) (suc j) d before inside =
     (λ k e within. let o = All-tail (λ c. answers_at c.index (a ∷ ys) ≤ 1) a ys once k e within in let n = answers_cons (get_or ys k e).index a ys in omega (arith, o, n))
     i j d (omega (arith, before)) (omega (arith, inside))
 
-are_apart : (query : QueryTree) (batch : Batch) (word : ℕ) (xs : List GameAnswer) → AreFound query batch word xs → AreApart xs
+are_apart : (query : QueryTree) (batch : Batch) (word : ℕ) (xs : List GameAnswer) → AreFound query batch word xs → AreOfDistinctGames xs
 are_apart query batch word xs all = once_apart xs (All-weaker (IsAnswerIn query batch) (λ a. answers_at a.index xs ≤ 1) one xs all.each)
   where
     one : (a : GameAnswer) → IsAnswerIn query batch a → answers_at a.index xs ≤ 1
@@ -154,7 +154,7 @@ are_apart query batch word xs all = once_apart xs (All-weaker (IsAnswerIn query 
         subst (λ (n : ℕ). answers_at n xs ≤ 1) (sym (index_of query (number_of batch) (games_of batch) a at))
         (all.once at.0 (slice_get_within (games_of batch) at.0 at.1.game at.1.at))
 
-pub cut_off : (query : QueryTree) (batch : Batch) (word : ℕ) (xs sorted kept : List GameAnswer) → AreFound query batch word xs → IsPermutation xs sorted → (AreApart xs → AllPairs IsEarlier sorted)
+pub cut_off : (query : QueryTree) (batch : Batch) (word : ℕ) (xs sorted kept : List GameAnswer) → AreFound query batch word xs → IsPermutation xs sorted → (AreOfDistinctGames xs → AllPairs IsEarlier sorted)
     → kept ≡ take (word + 1) sorted → AnswersUpToFirst query batch kept
 cut_off query batch word xs sorted kept all moved order is =
     let n = number_of batch in

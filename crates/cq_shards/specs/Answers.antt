@@ -6,11 +6,11 @@ use Rattle.pgn_batches.specs.declared.batch.Batch.{Batch}
 use Rattle.pgn_batches.specs.declared.kept_game.KeptGame.{KeptGame}
 use Rattle.cq_position.specs.Games.{Game}
 use Rattle.pgn_export.specs.Export.{export_text}
-use Rattle.pgn_reader.specs.Verdict.{IsRead}
+use Rattle.pgn_reader.specs.Verdict.{IsReadResult}
 use Rattle.cql_syntax.specs.Hits.{hits, keys, marked}
 use Rattle.cql_syntax.specs.Trees.{QueryTree}
 use Rattle.cq_shards.specs.Order.{values_in}
-use Rattle.cq_shards.specs.ReadResults.{AreKeptRead, ReadResult}
+use Rattle.cq_shards.specs.ReadResults.{AreReadResults, ReadResult}
 use Rattle.cq_shards.specs.declared.answers.Answer.{Answer}
 use Rattle.cq_shards.specs.declared.answers.Answer.TheVariants.{Refused, Miss, Match}
 use Rattle.cq_shards.specs.declared.answers.GameAnswer.{GameAnswer}
@@ -45,14 +45,14 @@ text_of (Match text keys) = text
 -- the answer of a game
 abbrev pub IsAnswerOf : QueryTree → (index : ℕ) → KeptGame → GameAnswer → Type 0
 IsAnswerOf query index game a =
-    (outcome : ReadResult) × IsRead game.start game.first game.bytes outcome × (a ≡ answer_of query index outcome)
+    (outcome : ReadResult) × IsReadResult game.start game.first game.bytes outcome × (a ≡ answer_of query index outcome)
 
 -- the answer of the game that has this number among some games, of which the first has the number `n` in the archive
 pub record IsAnswerAt (query : QueryTree) (n : ℕ) (games : KeptGames) (number : ℕ) (a : GameAnswer) : Type 0 where
   pub game : KeptGame
   pub outcome : ReadResult
   pub at : slice_get games number ≡ Some game
-  pub read : IsRead game.start game.first game.bytes outcome
+  pub read : IsReadResult game.start game.first game.bytes outcome
   pub is : a ≡ answer_of query (n + number) outcome
 
 -- the answer of one of some games
@@ -71,7 +71,7 @@ pub record AreAnswersOf (query : QueryTree) (batch : Batch) (answers : List Game
 -- the answers of some games, in the order of the games
 pub record AreInGameOrder (query : QueryTree) (n : ℕ) (games : KeptGames) (answers : List GameAnswer) : Type 0 where
   pub outcomes : List ReadResult
-  pub are_read : AreKeptRead games outcomes
+  pub are_read : AreReadResults games outcomes
   pub are : answers ≡ answers_from query n outcomes
 
 abbrev pub AnswersBatch : QueryTree → Batch → List GameAnswer → Type 0

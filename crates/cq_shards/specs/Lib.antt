@@ -1,7 +1,7 @@
 pub mod PlanQuery
 pub mod ReadResults
 pub mod Order
-pub mod OrderRows
+pub mod OrderExamples
 pub mod Answers
 pub mod Many
 pub mod FirstMatch

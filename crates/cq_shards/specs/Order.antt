@@ -6,8 +6,8 @@ use Rattle.cq_shards.specs.declared.answers.Answer.TheVariants.{Refused, Miss, M
 use Rattle.cq_shards.specs.declared.answers.GameAnswer.{GameAnswer}
 
 -- no two answers are of one game
-abbrev pub AreApart : List GameAnswer → Type 0
-AreApart answers = AllPairs (λ a b. a.index ≢ b.index) answers
+abbrev pub AreOfDistinctGames : List GameAnswer → Type 0
+AreOfDistinctGames answers = AllPairs (λ a b. a.index ≢ b.index) answers
 
 -- one answer is of an earlier game than the other
 abbrev pub IsEarlier : GameAnswer → GameAnswer → Type 0

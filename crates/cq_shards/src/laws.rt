@@ -9,13 +9,13 @@ ghost use Rattle.cq_shards.specs.declared.answers.GameAnswer.{GameAnswer};
 ghost use Rattle.cq_shards.specs.Answers.{AnswersBatch, AreAnswersOf};
 ghost use Rattle.cq_shards.specs.Internal.Finders.{AreFound};
 ghost use Rattle.cq_shards.specs.FirstMatch.{AnswersUpToFirst};
-ghost use Rattle.cq_shards.specs.Order.{AreApart, ComesBefore, IsEarlier, directions, values_in};
-ghost use Rattle.cq_shards.specs.OrderRows.{OrderRows};
+ghost use Rattle.cq_shards.specs.Order.{AreOfDistinctGames, ComesBefore, IsEarlier, directions, values_in};
+ghost use Rattle.cq_shards.specs.OrderExamples.{OrderExamples};
 
 /// The order of two answers.
-#[tactic(auto, using(crate::proofs::OrderRows::order_rows))]
+#[tactic(auto, using(crate::proofs::OrderExamples::order_rows))]
 pub fn answers_are_ordered_as_worked()
-    ensures { OrderRows }
+    ensures { OrderExamples }
 {}
 
 /// The meaning of a query gives a game one key for each sort item. If the query matches, each of them has a value.
@@ -37,13 +37,13 @@ pub fn answers_have_one_order()
 #[tactic(auto, using(crate::proofs::Beside::ordered_answers))]
 pub fn ordered_answers_stand_beside_their_games()
     ensures { (query : QueryTree) (batch : Batch) (answers sorted : List GameAnswer) → AreAnswersOf query batch answers
-        → IsPermutation answers sorted → (AreApart answers → AllPairs IsEarlier sorted) → AnswersBatch query batch sorted }
+        → IsPermutation answers sorted → (AreOfDistinctGames answers → AllPairs IsEarlier sorted) → AnswersBatch query batch sorted }
 {}
 
 /// The answers of all workers, in the order of their games, are cut off after the first match.
 #[tactic(auto, using(crate::proofs::UpToFirst::cut_off))]
 pub fn ordered_answers_are_cut_off_behind_the_first_match()
     ensures { (query : QueryTree) (batch : Batch) (word : ℕ) (answers sorted kept : List GameAnswer)
-        → AreFound query batch word answers → IsPermutation answers sorted → (AreApart answers → AllPairs IsEarlier sorted)
+        → AreFound query batch word answers → IsPermutation answers sorted → (AreOfDistinctGames answers → AllPairs IsEarlier sorted)
         → kept ≡ take (word + 1) sorted → AnswersUpToFirst query batch kept }
 {}

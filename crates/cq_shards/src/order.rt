@@ -2,7 +2,7 @@
 ghost use Rattle.std.specs.Prelude.{◌≡◌, [], ◌∷◌, filter, slice_get, All, AllPairs, IfOk, MatchOption};
 ghost use Rattle.std.specs.List.Sorted.{IsPermutation};
 ghost use Rattle.cql_syntax.specs.TreeOf.{filter_tree, filter_trees, query_tree};
-ghost use Rattle.cq_shards.specs.Order.{AreApart, ComesBefore, HasKeys, IsEarlier, directions, filter_directions};
+ghost use Rattle.cq_shards.specs.Order.{AreOfDistinctGames, ComesBefore, HasKeys, IsEarlier, directions, filter_directions};
 ghost use Rattle.cq_shards.specs.Order.{is_match as is_matching, keys_in};
 ghost use Rattle.cq_shards.specs.Internal.Comparing.{answer_cmp, keys_cmp, value_cmp};
 
@@ -19,7 +19,7 @@ use std::cmp::Ordering;
 /// `NoMemory` if out of memory.
 pub fn in_order(alloc: Global, answers: Vec<GameAnswer>) -> Result<Vec<GameAnswer>, NoMemory>
     ensures same { IfOk result (λ sorted. IsPermutation answers.items sorted.items) }
-    ensures order { AreApart answers.items → IfOk result (λ sorted. AllPairs IsEarlier sorted.items) }
+    ensures order { AreOfDistinctGames answers.items → IfOk result (λ sorted. AllPairs IsEarlier sorted.items) }
 {
     let mut sorted = answers;
     sorted
@@ -41,7 +41,7 @@ pub fn by_keys(
     query: &Query,
 ) -> Result<Vec<GameAnswer>, NoMemory>
     ensures same { IfOk result (λ sorted. IsPermutation (filter is_matching answers.items) sorted.items) }
-    ensures order { AreApart answers.items → All (HasKeys (directions (query_tree query.now).items)) answers.items
+    ensures order { AreOfDistinctGames answers.items → All (HasKeys (directions (query_tree query.now).items)) answers.items
         → IfOk result (λ sorted. AllPairs (ComesBefore (directions (query_tree query.now).items)) sorted.items) }
 {
     let least = item_directions(alloc, query.items.as_slice())?;

@@ -29,7 +29,7 @@ impl<'a, A: Matcher, G: Gate> GameTask for AnswerTask<'a, A, G> {
 
     ghost games = { λ task. length (games_of task.batch.now) };
 
-    ghost has_made = { λ task _ numbers answers. HasAnswered (A.query task.matcher.now) task.batch.now numbers answers };
+    ghost has_outputs = { λ task _ numbers answers. HasAnswered (A.query task.matcher.now) task.batch.now numbers answers };
 
     fn len(&self) -> u64 {
         u64::from(self.batch.len())

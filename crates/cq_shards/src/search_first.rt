@@ -33,7 +33,7 @@ impl<'a, A: Matcher, G: Gate> GameTask for FirstMatchTask<'a, A, G> {
 
     ghost games = { λ task. length (games_of task.batch.now) };
 
-    ghost has_made = { λ task seat numbers answers.
+    ghost has_outputs = { λ task seat numbers answers.
         HasSearched task.first.now (A.query task.matcher.now) task.batch.now seat numbers answers };
 
     fn len(&self) -> u64 {

@@ -6,7 +6,7 @@ ghost use Rattle.cql_syntax.specs.TreeOf.{query_tree};
 ghost use Rattle.cql_syntax.specs.Trees.{QueryTree};
 ghost use Rattle.pgn_export.specs.Export.{export_text};
 ghost use Rattle.cq_shards.specs.Answers.{IsAnswerAt, answer_of, text_of};
-ghost use Rattle.cq_shards.specs.ReadResults.{IsReadAt};
+ghost use Rattle.cq_shards.specs.ReadResults.{IsReadResultAt};
 
 use crate::answers::{Answer, GameAnswer, Keys};
 use crate::matcher::Matcher;
@@ -52,7 +52,7 @@ pub(crate) fn read_at(
     number: u64,
 ) -> Result<Result<Game, GameFault>, NoMemory>
     requires { number < length (games_of batch.now) }
-    ensures { IfOk result (IsReadAt (games_of batch.now) number) }
+    ensures { IfOk result (IsReadResultAt (games_of batch.now) number) }
 {
     let game = batch.game(number);
     match read_game(alloc, game.bytes.as_slice(), game.start, game.first) {

@@ -45,7 +45,7 @@ impl<'a, A: MultiMatcher, G: Gate> GameTask for RowTask<'a, A, G> {
 
     ghost games = { λ task. length (games_of task.batch.now) };
 
-    ghost has_made = { λ task _ numbers rows. HasMadeRows (A.queries task.matcher.now) task.batch.now numbers rows };
+    ghost has_outputs = { λ task _ numbers rows. HasMadeRows (A.queries task.matcher.now) task.batch.now numbers rows };
 
     fn len(&self) -> u64 {
         u64::from(self.batch.len())

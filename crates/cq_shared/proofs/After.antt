@@ -9,7 +9,7 @@ use Rattle.cq_position.specs.Games.{Game}
 use Rattle.cq_shared.specs.declared.part.Part.{Part}
 use Rattle.cq_shared.specs.declared.nodes.NodeSet.{NodeSet}
 use Rattle.cq_shared.specs.Interning.{all_shown}
-use Rattle.cq_shared.specs.Matching.{is_left, meets, meets_if, is_class, is_before, cost_if, costs_if, part_cost, plan_cost, cost_at, AreLeft, AreReady, IsReady, CoversWanted, IsRowAt, IsNarrowedBy, IsNarrowedIf, HasRow, sort_class}
+use Rattle.cq_shared.specs.Matching.{is_left, meets, meets_if, is_class, is_before, cost_if, costs_if, part_cost, plan_cost, cost_at, AreLeft, AreReady, IsReady, CoversPending, IsRowAt, IsNarrowedBy, IsNarrowedIf, HasKeyColumn, sort_class}
 use Rattle.cq_shared.specs.Parts.{PartTree}
 use Rattle.cq_shared.specs.Singles.{shown}
 use Rattle.cq_shared.specs.StepBounds.{both, Admits, TakesAtMost}
@@ -205,7 +205,7 @@ cost_some game test (p ∷ ps) = by (test p) (filter test ps) (cost_some game te
 pub cost_taken : (taken want : Part → Bool) (game : Game) (p : Part) → taken p ≡ true → cost_if (both taken want) game p ≡ cost_if (both (λ p. true) want) game p
 cost_taken taken want game p is = ap (λ b. if b && want p then part_cost game (shown p.single) else 0) is
 
-pub cost_wanted : (game : Game) (p : Part) (left : List NodeSet) (live : List Bool) (before now : ℕ) → now ≤ before + cost_at live (part_cost game (shown p.single)) → CoversWanted p left live
+pub cost_wanted : (game : Game) (p : Part) (left : List NodeSet) (live : List Bool) (before now : ℕ) → now ≤ before + cost_at live (part_cost game (shown p.single)) → CoversPending p left live
     → TakesAtMost (λ p. true) game p left before now
 cost_wanted game p left live before now cost covers = λ want admits.
     let less = at_most (list_any (λ b. b) live) (want p) (λ some. admits (covers.some some)) in
@@ -230,8 +230,8 @@ pub narrowed_fewer : (taken : Part → Bool) (game : Game) (p : Part) (left late
 narrowed_fewer taken game p left later by q n there = and_first (is_left left q n) (meets_if taken game q n p) (sym (by.each q n) ∙ there)
 
 -- the numbers of a part, if the live nodes cover those that are left
-pub narrowed_row : (game : Game) (p : Part) (left later : List NodeSet) (live : List Bool) (row : List (Option ℤ)) → IsNarrowedBy game p left later → CoversWanted p left live
-    → (p.class ≡ sort_class → IsRowAt game p live row) → HasRow game later p row
+pub narrowed_row : (game : Game) (p : Part) (left later : List NodeSet) (live : List Bool) (row : List (Option ℤ)) → IsNarrowedBy game p left later → CoversPending p left live
+    → (p.class ≡ sort_class → IsRowAt game p live row) → HasKeyColumn game later p row
 narrowed_row game p left later live row by covers told = record {
   each = λ class q n has there.
       (told class).each n (covers.each q n has (and_first (is_left left q n) (meets game q n p) (sym (by.each q n) ∙ there)));

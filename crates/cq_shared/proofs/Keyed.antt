@@ -5,7 +5,7 @@ use Rattle.std.specs.List.{list_all}
 use Rattle.std.proofs.lemmas.Bool.{and_parts, and_from}
 use Rattle.std.proofs.lemmas.List.{drop_all, append-nil, drop_more}
 use Rattle.cq_position.specs.Search.{SearchedTree}
-use Rattle.cql_pruning.specs.Classes.{form_class, filter_class}
+use Rattle.cql_candidates.specs.Classes.{form_class, filter_class}
 use Rattle.cql_plan.specs.RowKeys.{key_in}
 use Rattle.cql_syntax.specs.Hits.{all_keys, item_keys, chosen}
 use Rattle.cql_syntax.specs.Meaning.{value}

@@ -8,7 +8,7 @@ use Rattle.std.proofs.lemmas.List.FromFn.{length-range_with_len, get_or-range_wi
 use Rattle.cq_position.specs.Games.{Game, numbers, is_searched, searched}
 use Rattle.cq_position.specs.Search.{SearchedTree}
 use Rattle.cql_columns.specs.Columns.{is_live}
-use Rattle.cql_pruning.specs.Classes.{filter_class}
+use Rattle.cql_candidates.specs.Classes.{filter_class}
 use Rattle.cql_plan.specs.Needs.{query_passes}
 use Rattle.cql_plan.specs.RowKeys.{key_in}
 use Rattle.cql_syntax.specs.Flat.{flat_query}
@@ -23,14 +23,14 @@ use Rattle.cql_values.specs.Trees.{searched_tree}
 use Rattle.cq_shared.specs.PartOwners.{owner_query, AreOwners}
 use Rattle.cq_shared.specs.Internal.FirstNodes.{is_start_node}
 use Rattle.cq_shared.specs.Interning.{all_shown}
-use Rattle.cq_shared.specs.Matching.{holds_at, sort_number, tree_for, HaveRows}
+use Rattle.cq_shared.specs.Matching.{holds_at, sort_number, tree_for, HaveKeyColumns}
 use Rattle.cq_shared.specs.Parts.{PartTree, parts_with, top_parts, top_sorts, same_part, is_at, are_at}
 use Rattle.cq_shared.specs.PartTables.{is_among}
 use Rattle.cq_shared.specs.Internal.Reading.{nodes_there, is_found, is_least, row_key, row_keys, AreFound, HaveNumbers, IsFoundBy}
 use Rattle.cq_shared.specs.Singles.{part_tree, shown}
 use Rattle.cq_shared.specs.Verdicts.{IsKeyed}
 use Rattle.cq_shared.specs.declared.nodes.NodeSet.{NodeSet}
-use Rattle.cq_shared.specs.declared.nodes.SortRow.{SortRow}
+use Rattle.cq_shared.specs.declared.nodes.KeyColumn.{KeyColumn}
 use Rattle.cq_shared.specs.declared.part.PartOwner.{PartOwner}
 use Rattle.cq_shared.specs.declared.part.Part.{Part}
 use Rattle.cq_shared.proofs.Gaining.{shown_length, shown_read}
@@ -125,13 +125,13 @@ hits_found q game there law is = by (query_passes q game) refl
         ∙ sym (none (hits q game) law refused)
 
 -- the nodes left to all queries, and the rows of their parts
-pub record AreSought (game : Game) (parts : List Part) (owners : List PartOwner) (left : List NodeSet) (rows : List SortRow) : Type 0 where
+pub record AreSought (game : Game) (parts : List Part) (owners : List PartOwner) (left : List NodeSet) (rows : List KeyColumn) : Type 0 where
   pub askers_ : AreOwners parts owners
   pub found : AreFound game owners left
-  pub rows_ : HaveRows game left parts rows
+  pub rows_ : HaveKeyColumns game left parts rows
 
 -- the nodes left and the rows, of one query
-pub found_by : (game : Game) (parts : List Part) (owners : List PartOwner) (left : List NodeSet) (rows : List SortRow) (q : ℕ) (a : PartOwner) (x : NodeSet) → AreSought game parts owners left rows
+pub found_by : (game : Game) (parts : List Part) (owners : List PartOwner) (left : List NodeSet) (rows : List KeyColumn) (q : ℕ) (a : PartOwner) (x : NodeSet) → AreSought game parts owners left rows
     → q < length owners → a ≡ get_or owners q a → x ≡ get_or left q x → IsFoundBy game parts a x rows
 found_by game parts owners left rows q a x are low reads here =
     let is = are.askers_.each q a low reads in
@@ -191,25 +191,25 @@ second_all : (h : FilterTree → Bool) (xs ys : List FilterTree) → list_all h 
 second_all h [] ys all = all
 second_all h (x ∷ xs) ys all = second_all h xs ys (and_parts (h x) (list_all h (xs ++ ys)) all).1
 
-pub key_at : (parts : List Part) (rows : List SortRow) (nodes : List ℕ) (k : ℕ) (p : Part) (r : SortRow) → k < length parts → k < length rows → p ≡ get_or parts k p → r ≡ get_or rows k r
+pub key_at : (parts : List Part) (rows : List KeyColumn) (nodes : List ℕ) (k : ℕ) (p : Part) (r : KeyColumn) → k < length parts → k < length rows → p ≡ get_or parts k p → r ≡ get_or rows k r
     → row_key parts rows nodes k ≡ key_in (is_least (shown p.single).filter) r.numbers.items nodes
 unfolding row_key
 key_at [] rows nodes k p r low below reads here = absurd (omega (arith, low))
 key_at (y ∷ ps) [] nodes k p r low below reads here = absurd (omega (arith, below))
 key_at (y ∷ ps) (s ∷ rs) nodes zero p r low below reads here =
-    ap₂ (λ (x : Part) (t : SortRow). key_in (is_least (shown x.single).filter) t.numbers.items nodes) (sym reads) (sym here)
+    ap₂ (λ (x : Part) (t : KeyColumn). key_in (is_least (shown x.single).filter) t.numbers.items nodes) (sym reads) (sym here)
 key_at (y ∷ ps) (s ∷ rs) nodes (suc k) p r low below reads here = key_at ps rs nodes k p r (omega (arith, low)) (omega (arith, below)) reads here
 
-record RowAt (rows : List SortRow) (k : ℕ) : Type 0 where
-  row : SortRow
+record RowAt (rows : List KeyColumn) (k : ℕ) : Type 0 where
+  row : KeyColumn
   reads : row ≡ get_or rows k row
 
-row_at : (rows : List SortRow) (k : ℕ) → k < length rows → RowAt rows k
+row_at : (rows : List KeyColumn) (k : ℕ) → k < length rows → RowAt rows k
 row_at [] k low = absurd (omega (arith, low))
 row_at (x ∷ xs) zero low = record { row = x; reads = refl }
 row_at (x ∷ xs) (suc k) low = let e = row_at xs k (omega (arith, low)) in record { row = e.row; reads = e.reads }
 
-module _ (game : Game) (parts : List Part) (a : PartOwner) (x : NodeSet) (rows : List SortRow) (is : IsFoundBy game parts a x rows) where
+module _ (game : Game) (parts : List Part) (a : PartOwner) (x : NodeSet) (rows : List KeyColumn) (is : IsFoundBy game parts a x rows) where
   abbrev query : QueryTree
   query = owner_query a
 

@@ -8,7 +8,7 @@ use Rattle.cql_syntax.specs.declared.words.Word.TheVariants as meanings
 use Rattle.std.specs.Fmt.{decimal}
 use Rattle.std.specs.Prelude.{unwrap_or, codes, ◌++◌}
 use Rattle.cql_syntax.proofs.SameSound.{filter_is}
-use Rattle.cq_shared.specs.Parts.{alone}
+use Rattle.cql_plan.specs.Replacements.{alone}
 
 module _ (p : Bool) where
   mutual

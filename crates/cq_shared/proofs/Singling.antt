@@ -3,7 +3,8 @@ use Rattle.std.proofs.Common.{◌≡◌, ◌<◌, true, List, [], ◌∷◌, len
 use Rattle.cql_syntax.specs.TreeOf.{filter_tree, filter_trees}
 use Rattle.cql_syntax.specs.Trees.{FilterTrees, no_filters, more_filters}
 use Rattle.cql_syntax.specs.declared.tree.Filter.{Filter}
-use Rattle.cq_shared.specs.Parts.{is_single, first_of, alone}
+use Rattle.cq_shared.specs.Parts.{is_single, first_of}
+use Rattle.cql_plan.specs.Replacements.{alone}
 
 pub single_is : (fs : FilterTrees) → is_single fs ≡ true → fs ≡ alone (first_of fs)
 single_is no_filters e = cc

@@ -9,8 +9,10 @@ use Rattle.cql_syntax.specs.Trees.{FilterTree, filter_at, FormTree, chain, sort,
 use Rattle.cql_syntax.specs.declared.leaves.Chain.TheVariants.{And, All}
 use Rattle.cql_syntax.specs.declared.leaves.Kind.TheVariants.{Position}
 use Rattle.cql_syntax.specs.declared.fault.QueryReason.{QueryReason}
-use Rattle.cq_shared.specs.StandaloneFilters.{is_sound, stands_alone}
-use Rattle.cq_shared.specs.Parts.{parts_of, form_parts, all_parts, item_parts, item_sorts, top_parts, top_sorts, query_parts, alone}
+use Rattle.cql_plan.specs.Replacements.{is_sound, alone}
+use Rattle.cql_plan.proofs.Sound.{own_kind, own_rules}
+use Rattle.cq_shared.specs.StandaloneFilters.{stands_alone}
+use Rattle.cq_shared.specs.Parts.{parts_of, form_parts, all_parts, item_parts, item_sorts, top_parts, top_sorts, query_parts}
 
 first : (a b : Bool) → (a && b) ≡ true → a ≡ true
 first true b e = refl
@@ -90,15 +92,13 @@ sound_same i at f e =
     let kind : Bool = has_its_kind f in
     let long : Bool = not (is_long_line f) in
     let fifth : Bool = not (is_fifth_square 0 f) in
-    let kept : (kind && breaks_none o) ≡ true = second family (kind && breaks_none o) e in
-    let none : breaks_none o ≡ true = second kind (breaks_none o) kept in
+    let none : breaks_none o ≡ true = second (family && kind) (breaks_none o) e in
     let rules : is_empty (broken_rules o) ≡ true = first (is_empty (broken_rules o)) long (first (is_empty (broken_rules o) && long) fifth none) in
     let now : Bool = is_empty (broken_rules (record { standing = standing (Some 0); at = at; form = f })) in
-    both family (kind && ((now && long) && fifth)) (first family (kind && breaks_none o) e)
-    (both kind ((now && long) && fifth) (first kind (breaks_none o) kept)
+    both (family && kind) ((now && long) && fifth) (first (family && kind) (breaks_none o) e)
     (both (now && long) fifth
     (both now long (rules_same i at f rules) (second (is_empty (broken_rules o)) long (first (is_empty (broken_rules o) && long) fifth none)))
-    (second (is_empty (broken_rules o) && long) fifth none)))
+    (second (is_empty (broken_rules o) && long) fifth none))
 
 alone_sound : (i : Option ℕ) (at : ℕ) (f : FormTree) → list_all is_sound (occurrences (standing i) (filter_at at f)) ≡ true → stands_alone (filter_at at f) ≡ true
 unfolding stands_alone occurrences
@@ -185,29 +185,31 @@ together (o ∷ os) a b c =
     let kinds : Bool = list_all (λ o. has_its_kind o.form) os in
     let rules : Bool = list_all breaks_none os in
     both (is_sound o) (list_all is_sound os)
-    (both (not (is_family o.form)) (has_its_kind o.form && breaks_none o) (denied (is_family o.form) (or_first (is_family o.form) families a))
-    (both (has_its_kind o.form) (breaks_none o) (first (has_its_kind o.form) kinds b) (first (breaks_none o) rules c)))
+    (both (not (is_family o.form) && has_its_kind o.form) (breaks_none o)
+    (both (not (is_family o.form)) (has_its_kind o.form) (denied (is_family o.form) (or_first (is_family o.form) families a)) (first (has_its_kind o.form) kinds b))
+    (first (breaks_none o) rules c))
     (together os (or_second (is_family o.form) families a) (second (has_its_kind o.form) kinds b) (second (breaks_none o) rules c))
 
 no_families : (os : List Occurrence) → list_all is_sound os ≡ true → list_any (λ o. is_family o.form) os ≡ false
 no_families [] e = refl
 no_families (o ∷ os) e =
     neither (is_family o.form) (list_any (λ o. is_family o.form) os)
-    (granted (is_family o.form) (first (not (is_family o.form)) (has_its_kind o.form && breaks_none o) (first (is_sound o) (list_all is_sound os) e)))
+    (granted (is_family o.form) (first (not (is_family o.form)) (has_its_kind o.form)
+    (first (not (is_family o.form) && has_its_kind o.form) (breaks_none o) (first (is_sound o) (list_all is_sound os) e))))
     (no_families os (second (is_sound o) (list_all is_sound os) e))
 
 all_kinds : (os : List Occurrence) → list_all is_sound os ≡ true → list_all (λ o. has_its_kind o.form) os ≡ true
 all_kinds [] e = refl
 all_kinds (o ∷ os) e =
     both (has_its_kind o.form) (list_all (λ o. has_its_kind o.form) os)
-    (first (has_its_kind o.form) (breaks_none o) (second (not (is_family o.form)) (has_its_kind o.form && breaks_none o) (first (is_sound o) (list_all is_sound os) e)))
+    (own_kind o (first (is_sound o) (list_all is_sound os) e))
     (all_kinds os (second (is_sound o) (list_all is_sound os) e))
 
 all_rules : (os : List Occurrence) → list_all is_sound os ≡ true → list_all breaks_none os ≡ true
 all_rules [] e = refl
 all_rules (o ∷ os) e =
     both (breaks_none o) (list_all breaks_none os)
-    (second (has_its_kind o.form) (breaks_none o) (second (not (is_family o.form)) (has_its_kind o.form && breaks_none o) (first (is_sound o) (list_all is_sound os) e)))
+    (own_rules o (first (is_sound o) (list_all is_sound os) e))
     (all_rules os (second (is_sound o) (list_all is_sound os) e))
 
 pub parts_stand : (fs : FilterTrees) → has_family fs ≡ false → kinds_agree fs ≡ true → break_no_rule fs ≡ true → list_all stands_alone (query_parts fs) ≡ true

@@ -7,7 +7,7 @@ use Rattle.cq_position.specs.Games.{Game, is_searched, searched}
 use Rattle.cq_position.specs.Search.{SearchedTree, nodes_in}
 use Rattle.cql_columns.specs.Columns.{is_live, IsNodeSet}
 use Rattle.cql_columns.specs.Costs.{filter_cost, filters_cost, searched_len}
-use Rattle.cql_pruning.specs.Classes.{filter_class}
+use Rattle.cql_candidates.specs.Classes.{filter_class}
 use Rattle.cql_eval.specs.Hits.{AreKeysAtHits}
 use Rattle.cql_syntax.specs.Hits.{is_hit}
 use Rattle.cql_syntax.specs.Meaning.{value}
@@ -16,7 +16,8 @@ use Rattle.cql_syntax.specs.Trees.{FilterTree, filter_at, FormTree, sort, Filter
 use Rattle.cql_syntax.specs.Values.{holds}
 use Rattle.cql_values.specs.Trees.{searched_tree}
 use Rattle.cq_shared.specs.Matching.{tree_for, holds_at, part_holds, part_cost, sort_number, ArePartTruths, IsRowAt}
-use Rattle.cq_shared.specs.Parts.{first_of, alone, is_single}
+use Rattle.cq_shared.specs.Parts.{first_of, is_single}
+use Rattle.cql_plan.specs.Replacements.{alone}
 use Rattle.cq_shared.specs.Singles.{shown}
 use Rattle.cq_shared.specs.declared.part.Part.{Part}
 use Rattle.cq_shared.proofs.Keyed.{SortForm, form_sorts, sort_has}

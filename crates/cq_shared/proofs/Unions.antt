@@ -10,7 +10,7 @@ use Rattle.cq_shared.specs.PartTables.{is_among}
 use Rattle.cq_shared.specs.declared.part.Part.{Part}
 use Rattle.cq_shared.specs.declared.nodes.NodeSet.{NodeSet}
 use Rattle.cql_columns.specs.Columns.{is_live, IsNodeSet, AreKept}
-use Rattle.cq_shared.specs.Matching.{is_left, is_owned_by, meets, part_holds, tree_for, IsReady, CoversWanted, ArePartTruths, IsNarrowedBy}
+use Rattle.cq_shared.specs.Matching.{is_left, is_owned_by, meets, part_holds, tree_for, IsReady, CoversPending, ArePartTruths, IsNarrowedBy}
 
 -- the first k items are the values of their numbers
 pub record Filled {X : Type 0} (none : X) (value : ℕ → X) (k : ℕ) (items : List X) : Type 0 where
@@ -102,7 +102,7 @@ wanted t (x ∷ xs) q among is = ⊎_elim
 
 pub are_united : (game : Game) (p : Part) (left : List NodeSet) (k : ℕ) (live : List Bool) → length game.nodes ≤ k → k ≤ length game.nodes → IsReady game left p
     → Told (λ n. list_any (λ q. is_left left q n) p.owners.items) k live
-    → IsNodeSet (tree_for game p) live × CoversWanted p left live
+    → IsNodeSet (tree_for game p) live × CoversPending p left live
 are_united game p left k live high low ready had = (
   record {
     count = had.count ∙ omega (arith, high, low);
@@ -170,7 +170,7 @@ pub record TruthsOf (game : Game) (p : Part) (left : List NodeSet) : Type 0 wher
   pub live : List Bool
   pub truths : List Bool
   pub told : ArePartTruths game p live truths
-  pub covers : CoversWanted p left live
+  pub covers : CoversPending p left live
 
 -- the nodes left of some, if the part is evaluated
 abbrev pub AreLeftOf : Bool → List Bool → NodeSet → NodeSet → Type 0

@@ -14,7 +14,7 @@ use Rattle.cq_shared.specs.PartTables.{is_among}
 use Rattle.cq_shared.specs.Singles.{shown}
 use Rattle.cq_shared.specs.declared.part.Part.{Part}
 use Rattle.cq_shared.specs.declared.nodes.NodeSet.{NodeSet}
-use Rattle.cq_shared.specs.declared.nodes.SortRow.{SortRow}
+use Rattle.cq_shared.specs.declared.nodes.KeyColumn.{KeyColumn}
 
 abbrev pub tree_for : Game → Part → SearchedTree
 tree_for game p = searched_tree game p.single.query.variations
@@ -92,16 +92,16 @@ abbrev pub AreReady : Game → List NodeSet → List Part → Type 0
 AreReady game left parts = (k : ℕ) (p : Part) → k < length parts → p ≡ get_or parts k p → IsReady game left p
 
 -- a node is still left to some query that has the part
-pub record IsWanted (p : Part) (left : List NodeSet) : Type 0 where
+pub record IsPending (p : Part) (left : List NodeSet) : Type 0 where
   pub query : ℕ
   pub node : ℕ
   pub has : is_owned_by query p ≡ true
   pub there : is_left left query node ≡ true
 
 -- Every node still left to a query with the part is in the set. If the set has a node, one is left to some query with the part.
-pub record CoversWanted (p : Part) (left : List NodeSet) (live : List Bool) : Type 0 where
+pub record CoversPending (p : Part) (left : List NodeSet) (live : List Bool) : Type 0 where
   pub each : (q n : ℕ) → is_owned_by q p ≡ true → is_left left q n ≡ true → is_live live n ≡ true
-  pub some : list_any (λ b. b) live ≡ true → IsWanted p left
+  pub some : list_any (λ b. b) live ≡ true → IsPending p left
 
 -- a cost, if the set has a node
 abbrev pub cost_at : List Bool → ℕ → ℕ
@@ -125,12 +125,12 @@ pub record IsNarrowedIf (taken : Part → Bool) (game : Game) (p : Part) (left l
   pub each : (q n : ℕ) → is_left later q n ≡ (is_left left q n && meets_if taken game q n p)
 
 -- the numbers of a sort item, at the nodes that are left to the queries that have it
-pub record HasRow (game : Game) (left : List NodeSet) (p : Part) (row : List (Option ℤ)) : Type 0 where
+pub record HasKeyColumn (game : Game) (left : List NodeSet) (p : Part) (row : List (Option ℤ)) : Type 0 where
   pub each : p.class ≡ sort_class → (q n : ℕ) → is_owned_by q p ≡ true → is_left left q n ≡ true
       → get_or row n None ≡ sort_number (tree_for game p) (shown p.single).filter n
 
 -- a row for each part, in order
-abbrev pub HaveRows : Game → List NodeSet → List Part → List SortRow → Type 0
-HaveRows game left [] [] = Unit {0}
-HaveRows game left (p ∷ ps) (r ∷ rs) = HasRow game left p r.numbers.items × HaveRows game left ps rs
-HaveRows game left ps rs = ⊥
+abbrev pub HaveKeyColumns : Game → List NodeSet → List Part → List KeyColumn → Type 0
+HaveKeyColumns game left [] [] = Unit {0}
+HaveKeyColumns game left (p ∷ ps) (r ∷ rs) = HasKeyColumn game left p r.numbers.items × HaveKeyColumns game left ps rs
+HaveKeyColumns game left ps rs = ⊥

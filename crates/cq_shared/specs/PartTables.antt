@@ -2,7 +2,8 @@
 use Rattle.std.specs.Prelude.{◌≡◌, ℕ, zero, suc, ◌+◌, ◌*◌, ◌%◌, ◌<◌, ◌==◌, Bool, true, List, [], ◌∷◌, fold, length, get_or}
 use Rattle.std.specs.List.{list_any}
 use Rattle.cql_rewrite.specs.FlatText.{items_text}
-use Rattle.cq_shared.specs.Parts.{PartTree, alone}
+use Rattle.cq_shared.specs.Parts.{PartTree}
+use Rattle.cql_plan.specs.Replacements.{alone}
 use Rattle.cq_shared.specs.declared.table.PartBucket.{PartBucket}
 
 -- a hash of the bytes of a text

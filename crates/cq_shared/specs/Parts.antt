@@ -92,10 +92,6 @@ is_single no_filters = false
 is_single (more_filters f no_filters) = true
 is_single (more_filters f (more_filters g fs)) = false
 
--- a list of one filter
-abbrev pub alone : FilterTree → FilterTrees
-alone f = more_filters f no_filters
-
 -- the part with a number is the same as this one
 unfoldable pub is_at : List PartTree → ℕ → PartTree → Bool
 is_at [] k r = false

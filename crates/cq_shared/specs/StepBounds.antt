@@ -4,14 +4,14 @@ use Rattle.std.specs.List.{list_any, filter}
 use Rattle.cq_position.specs.Games.{Game}
 use Rattle.cql_plan.specs.Needs.{query_passes}
 use Rattle.cql_syntax.specs.Trees.{QueryTree}
-use Rattle.cq_shared.specs.Matching.{cost_if, costs_if, IsWanted}
+use Rattle.cq_shared.specs.Matching.{cost_if, costs_if, IsPending}
 use Rattle.cq_shared.specs.Parts.{PartTree, same_part, parts_in}
 use Rattle.cq_shared.specs.declared.nodes.NodeSet.{NodeSet}
 use Rattle.cq_shared.specs.declared.part.Part.{Part}
 
 -- The test is true of the part if a node is still left to a query that has the part. `AdmitsAll` requires it of each part.
 abbrev pub Admits : (Part → Bool) → List NodeSet → Part → Type 0
-Admits want left p = IsWanted p left → want p ≡ true
+Admits want left p = IsPending p left → want p ≡ true
 
 abbrev pub AdmitsAll : (Part → Bool) → List NodeSet → List Part → Type 0
 AdmitsAll want left parts = (k : ℕ) (p : Part) → k < length parts → p ≡ get_or parts k p → Admits want left p

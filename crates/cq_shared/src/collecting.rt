@@ -4,12 +4,12 @@ ghost use Rattle.cql_columns.specs.Columns.{is_live};
 ghost use Rattle.cql_syntax.specs.Hits.{hits as hits_of};
 ghost use Rattle.cq_shared.specs.PartOwners.{owner_query, AreOwners};
 ghost use Rattle.cq_shared.specs.Internal.Reading.{nodes_there, AreFound, IsFoundBy};
-ghost use Rattle.cq_shared.specs.Matching.{HaveRows};
+ghost use Rattle.cq_shared.specs.Matching.{HaveKeyColumns};
 ghost use Rattle.cq_shared.specs.Verdicts.{nodes_of, keys_of, IsKeyed, HaveKeys};
 
 use crate::keys::keys;
 use crate::narrowing::is_there;
-use crate::nodes::{NodeSet, SortRow, SortedNodes};
+use crate::nodes::{KeyColumn, NodeSet, NodesAndKeys};
 use crate::part::{Part, PartOwner};
 use crate::verdicts::{HitsAndKeys, Verdicts};
 use cq_common::NoMemory;
@@ -28,11 +28,11 @@ pub fn collect_verdicts(
     owners: &[PartOwner],
     parts: &[Part],
     game: &Game,
-    sorted: &SortedNodes,
+    sorted: &NodesAndKeys,
 ) -> Result<Verdicts, NoMemory>
     requires owners { AreOwners parts.now owners.now }
     requires found { AreFound game.now owners.now sorted.now.left.items }
-    requires rows { HaveRows game.now sorted.now.left.items parts.now sorted.now.rows.items }
+    requires rows { HaveKeyColumns game.now sorted.now.left.items parts.now sorted.now.rows.items }
     ensures nodes { IfOk result (λ v. nodes_of v ≡ map (λ a. hits_of (owner_query a) game.now) owners.now) }
     ensures increasing { IfOk result (λ v. All (λ nodes. AllPairs (λ m n. m < n) nodes) (nodes_of v)) }
     ensures keys { IfOk result (λ v. HaveKeys game.now (map (λ a. owner_query a) owners.now) (nodes_of v) (keys_of v)) }
@@ -54,7 +54,7 @@ fn collect_one(
     parts: &[Part],
     game: &Game,
     nodes: &NodeSet,
-    rows: &[SortRow],
+    rows: &[KeyColumn],
 ) -> Result<HitsAndKeys, NoMemory>
     requires { IsFoundBy game.now parts.now owner.now nodes.now rows.now }
     ensures nodes { IfOk result (λ f. f.nodes.items ≡ hits_of (owner_query owner.now) game.now) }

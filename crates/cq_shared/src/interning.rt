@@ -9,11 +9,11 @@ ghost use Rattle.cq_shared.specs.PartTables.{IsTable, bucket_of, is_among};
 ghost use Rattle.cq_shared.specs.Singles.{shown};
 
 use crate::part::Part;
-use crate::single::Single;
+use crate::single::StandaloneFilter;
 use crate::single::reading::{filter_of, place, same_single, single_of};
 use crate::table::{PartBucket, put};
 use cq_common::NoMemory;
-use cql_pruning::order::class_of;
+use cql_candidates::order::class_of;
 use cql_syntax::Filter;
 use std::alloc::Global;
 
@@ -51,7 +51,7 @@ fn add(
     alloc: Global,
     parts: &mut Vec<Part>,
     places: &mut Vec<PartBucket>,
-    single: Single,
+    single: StandaloneFilter,
     owner: u32,
 ) -> Result<usize, NoMemory>
     requires table { IsTable places.old.items (all_shown parts.old.items) }
@@ -72,7 +72,12 @@ fn add(
 }
 
 // The number of the part that is the same, among those at a place.
-fn find(parts: &[Part], places: &[PartBucket], at: usize, single: &Single) -> Option<usize>
+fn find(
+    parts: &[Part],
+    places: &[PartBucket],
+    at: usize,
+    single: &StandaloneFilter,
+) -> Option<usize>
     requires table { IsTable places.now (all_shown parts.now) }
     requires at { at ≡ bucket_of (length places.now) (shown single.now) }
     requires below { at < length places.now }
@@ -87,7 +92,7 @@ fn find(parts: &[Part], places: &[PartBucket], at: usize, single: &Single) -> Op
     None
 }
 
-fn is_same(parts: &[Part], number: usize, single: &Single) -> bool
+fn is_same(parts: &[Part], number: usize, single: &StandaloneFilter) -> bool
     ensures { result ≡ is_at (all_shown parts.now) number (shown single.now) }
 {
     if number >= parts.len() {
@@ -114,7 +119,7 @@ fn add_new(
     parts: &mut Vec<Part>,
     places: &mut Vec<PartBucket>,
     at: usize,
-    single: Single,
+    single: StandaloneFilter,
     owner: u32,
 ) -> Result<usize, NoMemory>
     requires table { IsTable places.old.items (all_shown parts.old.items) }

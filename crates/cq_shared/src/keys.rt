@@ -2,9 +2,9 @@
 ghost use Rattle.std.specs.Prelude.{◌≡◌, ◌<◌, ◌≢◌, [], length, map, drop, get_or, true, None, Some, is_some, All, IfOk};
 ghost use Rattle.cql_syntax.specs.TreeOf.{filter_tree};
 ghost use Rattle.cq_shared.specs.Internal.Reading.{is_least, row_key, row_keys, HaveNumbers};
-ghost use Rattle.cq_shared.specs.declared.nodes.SortRow.{SortRow as RowOf};
+ghost use Rattle.cq_shared.specs.declared.nodes.KeyColumn.{KeyColumn as RowOf};
 
-use crate::nodes::SortRow;
+use crate::nodes::KeyColumn;
 use crate::part::{Part, PartOwner};
 use crate::single::reading::filter_of;
 use cq_common::NoMemory;
@@ -17,7 +17,7 @@ pub(crate) fn keys(
     alloc: Global,
     owner: &PartOwner,
     parts: &[Part],
-    rows: &[SortRow],
+    rows: &[KeyColumn],
     nodes: &[u32],
 ) -> Result<Vec<i64>, NoMemory>
     requires { HaveNumbers parts.now rows.now nodes.now (drop owner.now.sorts owner.now.numbers.items) }
@@ -38,7 +38,7 @@ pub(crate) fn keys(
 }
 
 // The key of a part over some nodes, by its row.
-fn key_of(parts: &[Part], rows: &[SortRow], number: usize, nodes: &[u32]) -> i64
+fn key_of(parts: &[Part], rows: &[KeyColumn], number: usize, nodes: &[u32]) -> i64
     requires some { 0 < length nodes.now }
     requires part { number < length parts.now }
     requires row { number < length rows.now }

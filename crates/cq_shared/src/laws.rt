@@ -10,7 +10,8 @@ ghost use Rattle.cql_syntax.specs.Trees.{FilterTree, FilterTrees};
 ghost use Rattle.cql_syntax.specs.Unplaced.{same_unplaced};
 ghost use Rattle.cql_syntax.specs.Values.{holds};
 ghost use Rattle.cq_shared.specs.StandaloneFilters.{stands_alone};
-ghost use Rattle.cq_shared.specs.Parts.{query_parts, alone};
+ghost use Rattle.cq_shared.specs.Parts.{query_parts};
+ghost use Rattle.cql_plan.specs.Replacements.{alone};
 
 /// A query has a hit at a node exactly if all of its parts hold there.
 #[tactic(auto, using(crate::proofs::PartsHold::parts_hold))]

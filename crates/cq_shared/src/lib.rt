@@ -6,7 +6,6 @@
 
 mod collecting;
 mod finding;
-mod first_nodes;
 mod interning;
 mod keys;
 pub mod laws;
@@ -18,6 +17,7 @@ mod part;
 mod part_values;
 mod plan;
 mod single;
+mod start_nodes;
 mod table;
 mod verdicts;
 

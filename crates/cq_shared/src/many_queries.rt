@@ -8,9 +8,9 @@ ghost use Rattle.cq_shared.specs.StepBounds.{needed_parts};
 ghost use Rattle.cq_shared.specs.Verdicts.{nodes_of, keys_of, HaveKeys};
 
 use crate::collecting::collect_verdicts;
-use crate::first_nodes::start_nodes;
 use crate::matching::{nodes_left_by, sort_rows_by};
 use crate::plan::SharedPlan;
+use crate::start_nodes::start_nodes;
 use crate::verdicts::Verdicts;
 use cq_common::{NoMemory, Steps};
 use pgn_tree::Game;

@@ -1,15 +1,15 @@
 //! One game against all parts of a plan.
 ghost use Rattle.std.specs.Prelude.{true, IfOk};
 ghost use Rattle.cq_shared.specs.Matching.{sort_class, is_before, is_class, AreLeft, AreReady, IsReady};
-ghost use Rattle.cq_shared.specs.Matching.{IsNarrowedBy, IsNarrowedIf, HasRow, HaveRows};
+ghost use Rattle.cq_shared.specs.Matching.{IsNarrowedBy, IsNarrowedIf, HasKeyColumn, HaveKeyColumns};
 ghost use Rattle.cq_shared.specs.StepBounds.{TakesAtMost, TakeAtMost};
 
-use crate::narrowing::{narrowed, wanted_nodes};
-use crate::nodes::{NarrowedNodes, NodeSet, SortRow, SortedNodes};
+use crate::narrowing::{narrowed, pending_nodes};
+use crate::nodes::{KeyColumn, NodeSet, NodesAndKeys, PartResult};
 use crate::part::Part;
 use crate::part_values::values_at;
 use cq_common::{NoMemory, Steps};
-use cql_pruning::order::SORTS;
+use cql_candidates::order::SORT_CLASS;
 use pgn_tree::Game;
 use std::alloc::Global;
 use std::sync::ledger::Ledger;
@@ -28,7 +28,7 @@ pub(crate) fn nodes_left_by<L: Ledger>(
     ensures cost { TakeAtMost (is_before sort_class) game.now parts.now start_nodes.items steps.old steps.new }
 {
     let mut left = start_nodes;
-    for class in 0..SORTS {
+    for class in 0..SORT_CLASS {
         left = narrow_by_class(alloc, class, parts, game, left, steps)?;
     }
     Ok(left)
@@ -82,20 +82,20 @@ fn after<L: Ledger>(
     game: &Game,
     left: Vec<NodeSet>,
     steps: &mut Steps<L>,
-) -> Result<NarrowedNodes, NoMemory>
+) -> Result<PartResult, NoMemory>
     requires ready { IsReady game.now left.items part.now }
     ensures left { IfOk result (λ n. IsNarrowedBy game.now part.now left.items n.left.items) }
-    ensures row { IfOk result (λ n. HasRow game.now n.left.items part.now n.row.numbers.items) }
+    ensures row { IfOk result (λ n. HasKeyColumn game.now n.left.items part.now n.row.numbers.items) }
     ensures cost { TakesAtMost (λ p. true) game.now part.now left.items steps.old steps.new }
 {
-    let live = wanted_nodes(alloc, part, game, left.as_slice())?;
+    let live = pending_nodes(alloc, part, game, left.as_slice())?;
     let asked = values_at(alloc, part, game, live.as_slice(), steps)?;
     let truths = asked.truths;
     let later = narrowed(alloc, part, game, left, live.as_slice(), truths.as_slice())?;
-    let row = SortRow {
+    let row = KeyColumn {
         numbers: asked.numbers,
     };
-    Ok(NarrowedNodes { left: later, row })
+    Ok(PartResult { left: later, row })
 }
 
 /// The nodes that are left to each query after the sort items, and the numbers of these there.
@@ -105,10 +105,10 @@ pub(crate) fn sort_rows_by<L: Ledger>(
     game: &Game,
     left: Vec<NodeSet>,
     steps: &mut Steps<L>,
-) -> Result<SortedNodes, NoMemory>
+) -> Result<NodesAndKeys, NoMemory>
     requires ready { AreReady game.now left.items parts.now }
     ensures left { IfOk result (λ s. AreLeft (is_class sort_class) game.now parts.now left.items s.left.items) }
-    ensures rows { IfOk result (λ s. HaveRows game.now s.left.items parts.now s.rows.items) }
+    ensures rows { IfOk result (λ s. HaveKeyColumns game.now s.left.items parts.now s.rows.items) }
     ensures cost { TakeAtMost (is_class sort_class) game.now parts.now left.items steps.old steps.new }
 {
     let mut later = left;
@@ -118,7 +118,7 @@ pub(crate) fn sort_rows_by<L: Ledger>(
         later = sorted.left;
         rows.push(sorted.row)?;
     }
-    Ok(SortedNodes { left: later, rows })
+    Ok(NodesAndKeys { left: later, rows })
 }
 
 // The nodes that are left after a part, if it is a sort item, and its numbers there.
@@ -128,17 +128,17 @@ fn after_sort_if<L: Ledger>(
     game: &Game,
     left: Vec<NodeSet>,
     steps: &mut Steps<L>,
-) -> Result<NarrowedNodes, NoMemory>
+) -> Result<PartResult, NoMemory>
     requires ready { IsReady game.now left.items part.now }
     ensures left { IfOk result (λ s. IsNarrowedIf (is_class sort_class) game.now part.now left.items s.left.items) }
-    ensures row { IfOk result (λ s. HasRow game.now s.left.items part.now s.row.numbers.items) }
+    ensures row { IfOk result (λ s. HasKeyColumn game.now s.left.items part.now s.row.numbers.items) }
     ensures cost { TakesAtMost (is_class sort_class) game.now part.now left.items steps.old steps.new }
 {
-    if part.class != SORTS {
-        let row = SortRow {
+    if part.class != SORT_CLASS {
+        let row = KeyColumn {
             numbers: Vec::new(alloc),
         };
-        return Ok(NarrowedNodes { left, row });
+        return Ok(PartResult { left, row });
     }
     let sorted = after(alloc, part, game, left, steps)?;
     Ok(sorted)

@@ -2,7 +2,7 @@
 ghost use Rattle.std.specs.Prelude.{◌≡◌, ℕ, ◌<◌, ◌&&◌, ◌||◌, not, length, true, false, get_or, IfOk};
 ghost use Rattle.std.specs.List.{list_any};
 ghost use Rattle.cql_columns.specs.Columns.{IsNodeSet};
-ghost use Rattle.cq_shared.specs.Matching.{tree_for, is_left, is_owned_by, IsReady, CoversWanted, ArePartTruths, IsNarrowedBy};
+ghost use Rattle.cq_shared.specs.Matching.{tree_for, is_left, is_owned_by, IsReady, CoversPending, ArePartTruths, IsNarrowedBy};
 
 use crate::nodes::NodeSet;
 use crate::part::Part;
@@ -16,14 +16,14 @@ use std::alloc::Global;
 /// # Errors
 ///
 /// `NoMemory` if out of memory.
-pub fn wanted_nodes(
+pub fn pending_nodes(
     alloc: Global,
     part: &Part,
     game: &Game,
     left: &[NodeSet],
 ) -> Result<Vec<bool>, NoMemory>
     requires ready { IsReady game.now left.now part.now }
-    ensures { IfOk result (λ live. IsNodeSet (tree_for game.now part.now) live.items × CoversWanted part.now left.now live.items) }
+    ensures { IfOk result (λ live. IsNodeSet (tree_for game.now part.now) live.items × CoversPending part.now left.now live.items) }
 {
     let mut live = Vec::with_capacity(alloc, game.len() as usize)?;
     for n in 0..game.len() {
@@ -82,7 +82,7 @@ pub fn narrowed(
     truths: &[bool],
 ) -> Result<Vec<NodeSet>, NoMemory>
     requires told { ArePartTruths game.now part.now live.now truths.now }
-    requires covers { CoversWanted part.now left.items live.now }
+    requires covers { CoversPending part.now left.items live.now }
     ensures { IfOk result (λ later. IsNarrowedBy game.now part.now left.items later.items) }
 {
     let mut later = Vec::with_capacity(alloc, left.len())?;

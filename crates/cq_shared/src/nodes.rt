@@ -8,22 +8,22 @@ pub struct NodeSet {
 
 /// The numbers of a sort item, a place for each node.
 #[derive(Drop)]
-pub struct SortRow {
+pub struct KeyColumn {
     pub numbers: Vec<Option<i64>>,
 }
 
 /// The nodes that are left to each query after the sort items, and a row for each part.
 #[derive(Drop)]
-pub struct SortedNodes {
+pub struct NodesAndKeys {
     pub left: Vec<NodeSet>,
-    pub rows: Vec<SortRow>,
+    pub rows: Vec<KeyColumn>,
 }
 
 /// The nodes that are left to each query after one part, and if this is a sort item, its row.
 #[derive(Drop)]
-pub struct NarrowedNodes {
+pub struct PartResult {
     pub left: Vec<NodeSet>,
-    pub row: SortRow,
+    pub row: KeyColumn,
 }
 
 /// The truths of a part and, if it is a sort item, its numbers, a place for each node.

@@ -1,17 +1,17 @@
 //! A part of queries, and a query's record of its own parts.
 ghost use Rattle.std.specs.Prelude.{◌≡◌};
-ghost use Rattle.cql_pruning.specs.Classes.{filter_class};
+ghost use Rattle.cql_candidates.specs.Classes.{filter_class};
 ghost use Rattle.cql_syntax.specs.TreeOf.{filters_tree};
 ghost use Rattle.cq_shared.specs.Parts.{first_of};
 
-use crate::single::Single;
+use crate::single::StandaloneFilter;
 use cql_plan::Plan;
 use cql_syntax::Filter;
 
 /// A part, its class, which is a guess at its cost, and the numbers of the queries that have it, each as often as the query has it.
 #[derive(Drop)]
 pub struct Part {
-    pub single: Single,
+    pub single: StandaloneFilter,
     pub class: u32,
     pub owners: Vec<u32>,
     pub ghost class_is: { class ≡ filter_class (first_of (filters_tree single.query.items)) },

@@ -1,6 +1,5 @@
 //! The values of a part at the live nodes.
 ghost use Rattle.std.specs.Prelude.{◌≡◌, ℕ, ◌+◌, ◌<◌, ◌≤◌, [], length, get_or, false, None, IfOk, if◌then◌else◌};
-ghost use Rattle.std.specs.List.{list_any};
 ghost use Rattle.cql_columns.specs.Columns.{IsNodeSet};
 ghost use Rattle.cql_eval.specs.Hits.{hits_of, keys_of, AreKeysAtHits};
 ghost use Rattle.cql_syntax.specs.TreeOf.{filters_tree};
@@ -10,8 +9,9 @@ ghost use Rattle.cq_shared.specs.Singles.{shown};
 use crate::nodes::PartValues;
 use crate::part::Part;
 use cq_common::{NoMemory, Steps};
+use cql_candidates::order::SORT_CLASS;
+use cql_columns::nodes::any_live;
 use cql_eval::{Column, hit_columns_at};
-use cql_pruning::order::SORTS;
 use pgn_tree::Game;
 use std::alloc::Global;
 use std::sync::ledger::Ledger;
@@ -35,7 +35,7 @@ pub(crate) fn values_at<L: Ledger>(
             numbers: Vec::new(alloc),
         });
     }
-    if part.class != SORTS {
+    if part.class != SORT_CLASS {
         return joined_values_at(alloc, part, game, live, steps);
     }
     sort_values_at(alloc, part, game, live, steps)
@@ -80,12 +80,6 @@ fn sort_values_at<L: Ledger>(
     Ok(PartValues { truths, numbers })
 }
 
-fn any_live(live: &[bool]) -> bool
-    ensures { result ≡ list_any (λ b. b) live.now }
-{
-    live.iter().any(|there| *there)
-}
-
 // The numbers of a sort item, by its column; another part has none.
 fn numbers_of(
     alloc: Global,
@@ -99,7 +93,7 @@ fn numbers_of(
     ensures { IfOk result (λ row. part.now.class ≡ sort_class → (n : ℕ) → get_or row.items n None
         ≡ (if get_or (hits_of column.now) n false then get_or (get_or (keys_of column.now) 0 []) n None else None)) }
 {
-    if part.class != SORTS {
+    if part.class != SORT_CLASS {
         return Ok(Vec::new(alloc));
     }
     let numbers = row(alloc, column, game)?;

@@ -10,7 +10,7 @@ use cql_syntax::FlatQuery;
 
 /// A filter as the only item of a flat query, and the form in which it is evaluated if it is no sort item.
 #[derive(Drop)]
-pub struct Single {
+pub struct StandaloneFilter {
     pub query: FlatQuery,
     pub joined: FlatQuery,
     pub ghost one: { is_single (filters_tree query.items) ≡ true },

@@ -1,10 +1,10 @@
 //! Laws of cuts, of readers and of lines, which nothing else calls, and the conditions of those of lines on a game.
 use cq_common::Refusal;
+use pgn_cut_laws::{markers_end_games, split_games_are_read_alike};
 use pgn_json::{
     games_have_valid_nodes, lines_are_json, lines_are_utf8, same_lines_have_the_same_game,
     strings_are_read_back, texts_are_bytes,
 };
-use pgn_laws::{markers_end_games, split_games_are_read_alike};
 use pgn_pieces::pieces_cover_their_archive;
 use pgn_reader::{GameFault, read_game};
 use std::alloc::Global;

@@ -1,4 +1,4 @@
 pub mod Counting
-pub mod CrewDraws
+pub mod WorkerDraws
 pub mod Makings
 mod OneByOne

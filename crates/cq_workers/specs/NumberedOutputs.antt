@@ -12,16 +12,16 @@ abbrev pub IsOfSome : {X : Type 0} → (IsOf : ℕ → X → Type 0) → X → T
 IsOfSome IsOf x = (number : ℕ) × IsOf number x
 
 -- the number of outputs of the game with this number
-abbrev pub made_at : {X : Type 0} → (index : X → ℕ) → (first : ℕ) → (number : ℕ) → List X → ℕ
-made_at index first number made = count_by (λ x. index x == first + number) made
+abbrev pub outputs_at : {X : Type 0} → (index : X → ℕ) → (first : ℕ) → (number : ℕ) → List X → ℕ
+outputs_at index first number made = count_by (λ x. index x == first + number) made
 
 -- the outputs are of these games, each as often as its number is in the list, if that is below n
-pub record HasMade {X : Type 0} (IsOf : ℕ → X → Type 0) (index : X → ℕ) (first n : ℕ) (numbers : List ℕ)
+pub record HasOutputs {X : Type 0} (IsOf : ℕ → X → Type 0) (index : X → ℕ) (first n : ℕ) (numbers : List ℕ)
     (made : List X) : Type 0 where
   pub each : All (IsOfSome IsOf) made
-  pub drawn_ : (number : ℕ) → number < n → made_at index first number made ≡ times number numbers
+  pub drawn_ : (number : ℕ) → number < n → outputs_at index first number made ≡ times number numbers
 
 -- up to order, the output of each game, once
-pub record AreMade {X : Type 0} (IsOf : ℕ → X → Type 0) (index : X → ℕ) (first n : ℕ) (made : List X) : Type 0 where
+pub record AreOutputs {X : Type 0} (IsOf : ℕ → X → Type 0) (index : X → ℕ) (first n : ℕ) (made : List X) : Type 0 where
   pub each : All (IsOfSome IsOf) made
-  pub once : (number : ℕ) → number < n → made_at index first number made ≡ 1
+  pub once : (number : ℕ) → number < n → outputs_at index first number made ≡ 1

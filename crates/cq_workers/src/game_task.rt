@@ -1,6 +1,6 @@
 //! The task of a worker on the games that it draws.
 ghost use Rattle.std.specs.Prelude.{◌<◌, ◌≡◌, ℕ, List, IfOk};
-ghost use Rattle.cq_workers.specs.Outputs.{AddsOne};
+ghost use Rattle.cq_workers.specs.Outputs.{AddsOutput};
 
 use cq_common::NoMemory;
 use std::alloc::Global;
@@ -17,7 +17,7 @@ pub trait GameTask {
     ghost games: { Self → ℕ };
 
     /// A worker with this state made these outputs of the games with these numbers.
-    ghost has_made: { Self → Self.State → List ℕ → List Self.Output → Type 0 };
+    ghost has_outputs: { Self → Self.State → List ℕ → List Self.Output → Type 0 };
 
     /// Returns the number of games.
     fn len(&self) -> u64
@@ -36,6 +36,6 @@ pub trait GameTask {
         kept: &mut Self::State,
     ) -> Result<Option<Self::Output>, NoMemory>
         requires number { number < games self.now }
-        requires before { (numbers : List ℕ) × (made : List Self.Output) × has_made self.now kept.old numbers made }
-        ensures { IfOk result (λ one. AddsOne (has_made self.now) number kept.old kept.new one) };
+        requires before { (numbers : List ℕ) × (made : List Self.Output) × has_outputs self.now kept.old numbers made }
+        ensures { IfOk result (λ one. AddsOutput (has_outputs self.now) number kept.old kept.new one) };
 }

@@ -2,7 +2,7 @@
 ghost use Rattle.std.specs.Prelude.{◌≡◌, ◌++◌, ◌<◌, ◌≤◌, ◌^◌, [], length, All, IfOk, OnOk};
 ghost use Rattle.cq_board.specs.Seats.{numbers_of, seats_of, IsSeatOf, drawn, HasEnded};
 ghost use Rattle.cq_workers.specs.Internal.WorkerStates.{HasWorked, IsFresh, IsThrough};
-ghost use Rattle.cq_workers.specs.Outputs.{AreMadeOf, those};
+ghost use Rattle.cq_workers.specs.Outputs.{AreOutputsOf, option_list};
 
 use crate::game_task::GameTask;
 use crate::starting::for_each_started;
@@ -49,8 +49,8 @@ pub fn run_workers<R: Threads + Sync, M: GameTask + Sync>(
 ) -> Result<(Vec<M::State>, Vec<M::Output>), NoMemory>
     requires games { M.games task.now ≤ 2 ^ 32 }
     requires workers { (1 ≤ length kept.items) × (length kept.items ≤ 64) }
-    requires nothing { All (λ k. M.has_made task.now k [] []) kept.items }
-    ensures made { IfOk result (λ r. AreMadeOf (M.has_made task.now) (M.games task.now) r.0.items r.1.items) }
+    requires nothing { All (λ k. M.has_outputs task.now k [] []) kept.items }
+    ensures made { IfOk result (λ r. AreOutputsOf (M.has_outputs task.now) (M.games task.now) r.0.items r.1.items) }
     ensures count { IfOk result (λ r. length r.0.items ≡ length kept.items) }
 {
     let (board, seats) = Board::make(alloc, task.len(), kept.len() as u32)?;
@@ -60,7 +60,7 @@ pub fn run_workers<R: Threads + Sync, M: GameTask + Sync>(
         slots.as_mut_slice(),
         &|me: usize, worker: &mut Worker<M::State, M::Output>|
             requires games { numbers_of board ≡ M.games task.now }
-            requires fresh { IsFresh (M.has_made task.now) board worker.old }
+            requires fresh { IsFresh (M.has_outputs task.now) board worker.old }
         { work(alloc, task, &board, me as u64, worker) },
     );
     collect_outputs(alloc, task, board, slots)
@@ -75,9 +75,9 @@ fn seat_workers<M: GameTask>(
     kept: Vec<M::State>,
 ) -> Result<Vec<Worker<M::State, M::Output>>, NoMemory>
     requires seats { All (λ s. IsSeatOf board.now s × (drawn s ≡ []) × (HasEnded s → ⊥)) seats.items }
-    requires nothing { All (λ k. M.has_made task.now k [] []) kept.items }
+    requires nothing { All (λ k. M.has_outputs task.now k [] []) kept.items }
     requires count { length kept.items ≡ length seats.items }
-    ensures fresh { IfOk result (λ slots. All (IsFresh (M.has_made task.now) board.now) slots.items) }
+    ensures fresh { IfOk result (λ slots. All (IsFresh (M.has_outputs task.now) board.now) slots.items) }
     ensures count { IfOk result (λ slots. length slots.items ≡ length seats.items) }
 {
     let mut seats = seats;
@@ -106,8 +106,8 @@ fn work<M: GameTask>(
     worker: &mut Worker<M::State, M::Output>,
 )
     requires games { numbers_of board.now ≡ M.games task.now }
-    requires fresh { IsFresh (M.has_made task.now) board.now worker.old }
-    ensures { HasWorked (M.has_made task.now) board.now worker.new }
+    requires fresh { IsFresh (M.has_outputs task.now) board.now worker.old }
+    ensures { HasWorked (M.has_outputs task.now) board.now worker.new }
 {
     worker.is_out_of_memory = draw_all(alloc, task, board, me, worker).is_err();
 }
@@ -121,8 +121,8 @@ fn draw_all<M: GameTask>(
     worker: &mut Worker<M::State, M::Output>,
 ) -> Result<(), NoMemory>
     requires games { numbers_of board.now ≡ M.games task.now }
-    requires fresh { IsFresh (M.has_made task.now) board.now worker.old }
-    ensures { OnOk result (IsThrough (M.has_made task.now) board.now worker.new) }
+    requires fresh { IsFresh (M.has_outputs task.now) board.now worker.old }
+    ensures { OnOk result (IsThrough (M.has_outputs task.now) board.now worker.new) }
 {
     for _turn in 0..task.len() + 1 {
         let Some(number) = board.claim(&mut worker.seat) else {
@@ -136,7 +136,7 @@ fn draw_all<M: GameTask>(
 
 // Keeps the output, if there is one.
 fn keep<X: Drop>(made: &mut Vec<X>, one: Option<X>) -> Result<(), NoMemory>
-    ensures { OnOk result (made.new.items ≡ made.old.items ++ those one) }
+    ensures { OnOk result (made.new.items ≡ made.old.items ++ option_list one) }
 {
     match one {
         Some(one) => Ok(made.push(one)?),
@@ -152,9 +152,9 @@ fn collect_outputs<M: GameTask>(
     slots: Vec<Worker<M::State, M::Output>>,
 ) -> Result<(Vec<M::State>, Vec<M::Output>), NoMemory>
     requires games { numbers_of board ≡ M.games task.now }
-    requires worked { All (HasWorked (M.has_made task.now) board) slots.items }
+    requires worked { All (HasWorked (M.has_outputs task.now) board) slots.items }
     requires count { length slots.items ≡ seats_of board }
-    ensures made { IfOk result (λ r. AreMadeOf (M.has_made task.now) (M.games task.now) r.0.items r.1.items) }
+    ensures made { IfOk result (λ r. AreOutputsOf (M.has_outputs task.now) (M.games task.now) r.0.items r.1.items) }
     ensures count { IfOk result (λ r. length r.0.items ≡ seats_of board) }
 {
     let mut slots = slots;

@@ -1,7 +1,9 @@
 //! The values of a filter at the nodes of a game.
-ghost use Rattle.std.specs.Prelude.{◌≡◌, get_or, length, false, None, IfOk};
+ghost use Rattle.std.specs.Prelude.{◌≡◌, get_or, length, true, false, None, IfOk};
+ghost use Rattle.cq_symmetry.specs.Images.{is_in};
+ghost use Rattle.cql_syntax.specs.Values.{has};
 ghost use Rattle.cql_values.specs.declared.value.Value.TheVariants.{Truth};
-ghost use Rattle.cql_columns.specs.Columns.{kept_at};
+ghost use Rattle.cql_columns.specs.Columns.{kept_at, shown};
 
 use cq_common::NoMemory;
 use cql_values::value::Value;
@@ -98,4 +100,11 @@ pub fn value_at(values: &[Value], n: usize) -> Value
     } else {
         Value::Truth(false)
     }
+}
+
+/// Returns the squares of a column at a node. If `asked` is false, the column isn't read, and any set will do.
+pub fn squares_if(asked: bool, column: &FilterColumn, n: usize) -> u64
+    ensures { asked ≡ true → is_in result ≡ has (shown column.now n) }
+{
+    if asked { column.at(n).squares() } else { 0 }
 }

@@ -1,7 +1,7 @@
 //! Columns: the values of a filter at the live nodes of a game, and sets of such nodes. A live node is one at which a filter is evaluated.
 //!
 //! `cql_syntax/specs/Meaning` has the meaning, and `specs/Columns` the promise of a column. `cql_operators` makes columns of columns.
-//! `cql_pruning` finds the nodes that need no evaluation, and `cql_eval` evaluates the parts of a filter. All three use this crate.
+//! `cql_candidates` finds the nodes that need no evaluation, and `cql_eval` evaluates the parts of a filter. All three use this crate.
 #![tactic(auto)]
 
 pub mod binding;

@@ -9,13 +9,13 @@ use Rattle.cql_syntax.specs.Values.{Value, as_truth}
 use Rattle.cql_syntax.specs.declared.tree.Played.{Played}
 use Rattle.cql_columns.specs.Columns.{shown}
 use Rattle.cql_columns.specs.declared.filter_column.FilterColumn.{FilterColumn}
-use Rattle.cql_pruning.specs.Covers.{AreCut, IsNecessaryPart, HasSome, IsIndependentPart, MayHold}
-use Rattle.cql_pruning.specs.MoveTargets.{is_as_asked}
-use Rattle.cql_pruning.specs.declared.moves.PartColumns.{PartColumns}
-use Rattle.cql_pruning.proofs.CoverForms.{KeepsHolding, Tried, first_true, second_true, yes_both}
-use Rattle.cql_pruning.proofs.CoverLaw.{cut_as, cut_wide}
+use Rattle.cql_candidates.specs.Covers.{AreRetained, IsNecessaryPart, HasSome, IsIndependentPart, MayHold}
+use Rattle.cql_candidates.specs.MoveTargets.{move_matches}
+use Rattle.cql_candidates.specs.declared.moves.PartColumns.{PartColumns}
+use Rattle.cql_candidates.proofs.CoverForms.{KeepsHolding, Tried, first_true, second_true, yes_both}
+use Rattle.cql_candidates.proofs.CoverLaw.{cut_as, cut_wide}
 use Rattle.cql_eval.specs.Internal.Trials.{AreNecessaryParts}
-use Rattle.cql_pruning.proofs.MoveLaw.{IsPartColumn, move_value, origin_of, goal_of, taken_of, promoted_of}
+use Rattle.cql_candidates.proofs.MoveLaw.{IsPartColumn, move_value, origin_of, goal_of, taken_of, promoted_of}
 
 pub asks_nothing : (tree : SearchedTree) (opened outer : Names) (w : WrittenTree) (live : List Bool) → IsNecessaryPart tree opened outer w live None
 asks_nothing tree opened outer w live = record { each = λ n inner a agree q met. refl }
@@ -63,13 +63,13 @@ meets_less (Some l) less parts asks all =
 
 pub free_parts_cut : (t : Tried) (some : List Bool) (p : Played) (parts : PartColumns) (goal : Option FilterColumn) (old new : List ℕ) → HasSome t.tree t.live old some
     → AreNecessaryParts t.tree t.opened t.outer p some parts → IsNecessaryPart t.tree t.opened t.outer (goal_of p) some goal
-    → AreCut some (λ n s. is_as_asked t.tree parts (option_map (λ c. shown c n) goal) n ≡ true) old new
+    → AreRetained some (λ n s. move_matches t.tree parts (option_map (λ c. shown c n) goal) n ≡ true) old new
     → KeepsHolding t (λ e n. as_truth (played_value t.tree [] e (played_tree p) n)) old new
 free_parts_cut t some p parts goal old new has asks at_goal cut =
     let tree = t.tree in
     cut_wide tree t.live some (MayHold t.opened t.outer t.name (λ e n. as_truth (played_value tree [] e (played_tree p) n))) old new has
     (cut_as some (MayHold t.opened t.outer t.name (λ e n. as_truth (played_value tree [] e (played_tree p) n)))
-    (λ n s. is_as_asked tree parts (option_map (λ c. shown c n) goal) n ≡ true) old new
+    (λ n s. move_matches tree parts (option_map (λ c. shown c n) goal) n ≡ true) old new
     (λ n s a m. meets_less (led_to tree.game.nodes n)
     (record {
       origin = option_map (λ c. shown c (before tree n)) parts.origin;

@@ -20,8 +20,8 @@ use Rattle.cql_columns.specs.declared.filter_column.FilterColumn.{FilterColumn}
 use Rattle.cql_columns.proofs.Chains.{all_begun, all_more, take_whole}
 use Rattle.cql_eval.specs.Hits.{hit_column, key_column, key_row_of, number_at, sort_numbers, item_numbers, AreKeysAtHits}
 use Rattle.cql_columns.proofs.Filling.{live_below, any_default, both_left, part_asked}
-use Rattle.cql_pruning.specs.Classes.{IsLeft}
-use Rattle.cql_pruning.proofs.Placing.{Placed}
+use Rattle.cql_candidates.specs.Classes.{IsLeft}
+use Rattle.cql_candidates.proofs.Placing.{Placed}
 
 -- the searched nodes are live
 module _ (tree : SearchedTree) (all : List Bool) (is : all ≡ map (is_searched tree.variations tree.game.nodes) (numbers tree.game.nodes)) where

@@ -8,8 +8,8 @@ use Rattle.cql_columns.specs.Columns.{is_live, IsNodeSet}
 use Rattle.cql_columns.proofs.Filling.{live_below}
 use Rattle.cql_operators.specs.OtherNodes.{is_from_other_nodes, CoverSourceNodes, GatherSourceSquares}
 use Rattle.cql_operators.proofs.OtherNodesLaw.{holds_at}
-use Rattle.cql_pruning.specs.Covers.{AreCut, MayHold, AreAmong, AreUniform}
-use Rattle.cql_pruning.proofs.CoverForms.{KeepsHolding, Tried}
+use Rattle.cql_candidates.specs.Covers.{AreRetained, MayHold, AreAmong, AreUniform}
+use Rattle.cql_candidates.proofs.CoverForms.{KeepsHolding, Tried}
 
 -- the word evaluates its part at other nodes, all of which have the squares of the sets
 pub record StandThere (t : Tried) (word : Unary) (wide : List Bool) (old there : List ℕ) : Type 0 where
@@ -23,10 +23,10 @@ pub record StandThere (t : Tried) (word : Unary) (wide : List Bool) (old there :
 pub record AreLeftBack (t : Tried) (word : Unary) (left old new : List ℕ) : Type 0 where
   pub back : List ℕ
   pub brought : GatherSourceSquares t.tree.game.nodes word left back
-  pub cut : AreCut t.live (λ n s. is_in (get_or back n 0) s ≡ true) old new
+  pub cut : AreRetained t.live (λ n s. is_in (get_or back n 0) s ≡ true) old new
 
 pub elsewhere_cut : (t : Tried) (word : Unary) (v : Names → ℕ → Value) (wide : List Bool) (there left old new : List ℕ) → IsNodeSet t.tree t.live → StandThere t word wide old there
-    → AreCut wide (MayHold t.opened t.outer t.name v) there left → AreLeftBack t word left old new → KeepsHolding t (λ e. unary_of t.tree word (v e)) old new
+    → AreRetained wide (MayHold t.opened t.outer t.name v) there left → AreLeftBack t word left old new → KeepsHolding t (λ e. unary_of t.tree word (v e)) old new
 elsewhere_cut t word v wide there left old new asked stand cut last = record {
   count = last.cut.count;
   within = last.cut.within;

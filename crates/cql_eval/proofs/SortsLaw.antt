@@ -11,10 +11,10 @@ use Rattle.cql_columns.specs.Columns.{is_live, shown, IsNodeSet, IsColumn, IsNum
 use Rattle.cql_columns.specs.Costs.{filters_cost}
 use Rattle.cql_columns.specs.declared.filter_column.FilterColumn.{FilterColumn}
 use Rattle.cql_columns.proofs.Filling.{both_left, part_asked}
-use Rattle.cql_pruning.specs.Classes.{form_class, is_of, is_before, is_as_wanted_if, are_as_wanted, cost_of, IsLeft}
+use Rattle.cql_candidates.specs.Classes.{form_class, is_of, is_before, is_as_wanted_if, are_as_wanted, cost_of, IsLeft}
 use Rattle.cql_eval.proofs.HitsLaw.{IsSort, ItemsSoFar}
-use Rattle.cql_pruning.proofs.ClassLaw.{InPlace, left_after, after_is, is_left_then, is_left_same, so_begun, so_more, so_whole, so_next, so_all, cost_next, cost_all}
-use Rattle.cql_pruning.proofs.Placing.{Placed}
+use Rattle.cql_candidates.proofs.ClassLaw.{InPlace, left_after, after_is, is_left_then, is_left_same, so_begun, so_more, so_whole, so_next, so_all, cost_next, cost_all}
+use Rattle.cql_candidates.proofs.Placing.{Placed}
 
 and_true : (b : Bool) → b ≡ (b && true)
 and_true true = refl

@@ -30,13 +30,13 @@ use columns::{
     numbered_column, paired_column, reached_column, standing_column, sum_column, word_column,
 };
 use cq_common::{NoMemory, Steps};
+use cql_candidates::order::COST_CLASSES;
 use cql_columns::binding::Binding;
 use cql_columns::filter_column::FilterColumn;
 use cql_columns::nodes::any_live;
 use cql_columns::scope::Scope;
 use cql_operators::from_other_nodes::{reads_other_nodes, source_nodes};
 use cql_operators::narrow::part_of;
-use cql_pruning::order::CLASSES;
 use cql_syntax::{Chain, Filter, Filters, Form, Kind, Unary};
 use cql_values::headers::{has_text, is_result, rating};
 use cql_values::numbers::count_value;
@@ -200,7 +200,7 @@ fn chain_column<L: Ledger>(
 {
     match chain {
         Chain::And | Chain::All => {
-            let left = left_by(alloc, CLASSES, true, parts, scope, live, steps)?;
+            let left = left_by(alloc, COST_CLASSES, true, parts, scope, live, steps)?;
             Ok(FilterColumn::Truths(left))
         }
         Chain::Or => some_column(alloc, parts, scope, live, steps),

@@ -10,7 +10,7 @@ use cq_common::NoMemory;
 use cql_columns::binding::Binding;
 use cql_columns::filter_column::blank_truths;
 use cql_columns::spans::{first_live_node, live_node_end};
-use cql_local::{NodeScope, is_cheap_locally, local_square_truth};
+use cql_local::{GameNode, is_cheap_locally, local_square_truth};
 use cql_syntax::Filter;
 use cql_values::names::Names;
 use std::alloc::Global;
@@ -63,7 +63,7 @@ fn local_truth(
     if squares.squares() == 0 {
         return Ok(Some(binding.every));
     }
-    let place = NodeScope {
+    let place = GameNode {
         game: binding.scope.game,
         variations: binding.scope.variations,
         node: n,

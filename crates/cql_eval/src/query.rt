@@ -13,18 +13,18 @@ ghost use Rattle.cql_columns.specs.Costs.{filter_cost, filters_cost, searched_le
 ghost use Rattle.cql_columns.specs.FlatTrees.{IsFlat};
 ghost use Rattle.cql_columns.specs.Scopes.{tree_in};
 ghost use Rattle.cql_eval.specs.Hits.{hits_of, keys_of, hit_column, key_columns, key_row_of, item_numbers, AreKeysAtHits};
-ghost use Rattle.cql_pruning.specs.Classes.{is_of, is_as_wanted_if, cost_if, IsLeft};
+ghost use Rattle.cql_candidates.specs.Classes.{is_of, is_as_wanted_if, cost_if, IsLeft};
 
 use crate::column::Column;
 use crate::evaluate::{evaluate, left_by};
 use cq_common::{NoMemory, Steps};
+use cql_candidates::order::SORT_CLASS;
 use cql_columns::filter_column::FilterColumn;
 use cql_columns::nodes::same;
 use cql_columns::scope::Scope;
 use cql_operators::combine::numbered;
 use cql_operators::narrow::{keep_numbered, narrowed};
 use cql_operators::nodes::{searched_nodes, tick_nodes};
-use cql_pruning::order::SORTS;
 use cql_syntax::{Filter, FlatQuery, Form};
 use cql_values::names::Names;
 use pgn_tree::Game;
@@ -154,7 +154,7 @@ fn columns_of<L: Ledger>(
         names: &names,
     };
     let items = &query.items;
-    let mut left = left_by(alloc, SORTS, true, items, &scope, live, steps)?;
+    let mut left = left_by(alloc, SORT_CLASS, true, items, &scope, live, steps)?;
     let mut keys = Vec::new(alloc);
     for item in items.as_slice() {
         sort_by(alloc, item, &scope, &mut left, &mut keys, steps)?;
@@ -163,7 +163,7 @@ fn columns_of<L: Ledger>(
 }
 
 // Removes the nodes of a set at which a sort item has no value, and adds its values at the nodes of the set. Another item changes nothing.
-#[tactic(auto, unfolding(cql_syntax::specs::Meaning::value, cql_columns::specs::Costs::filter_cost, cql_columns::specs::FlatTrees::unflat, cql_pruning::specs::Classes::form_class))]
+#[tactic(auto, unfolding(cql_syntax::specs::Meaning::value, cql_columns::specs::Costs::filter_cost, cql_columns::specs::FlatTrees::unflat, cql_candidates::specs::Classes::form_class))]
 fn sort_by<L: Ledger>(
     alloc: Global,
     item: &Filter,

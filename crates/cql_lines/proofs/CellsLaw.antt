@@ -34,13 +34,10 @@ goes_known true = place_set_known
 goes_known false = place_greatest
 
 module _ (primary : Bool) (tree_nodes : List TreeNode) (below : (n p : ℕ) → joined primary tree_nodes n ≡ Some p → p < n) (words : List ℕ) (rules : List Transition) (few : length tree_nodes ≤ most_nodes) where
-  pub room_below : (sets : Bool) (n j m : ℕ) → Represents sets (Below (holds words) rules (Edge false primary tree_nodes) j n) m → LeavesRoom sets m
-  room_below true n j m known = tt
-  room_below false n j m known = below_short primary tree_nodes below words rules n j m few known
-
-  pub room_above : (sets : Bool) (n j m : ℕ) → n < length tree_nodes → Represents sets (Below (holds words) rules (Edge true primary tree_nodes) j n) m → LeavesRoom sets m
-  room_above true n j m low known = tt
-  room_above false n j m low known = above_short primary tree_nodes below words rules n j m low few known
+  pub room_after : (back sets : Bool) (n j m : ℕ) → n < length tree_nodes → Represents sets (Below (holds words) rules (Edge back primary tree_nodes) j n) m → LeavesRoom sets m
+  room_after back true n j m low known = tt
+  room_after true false n j m low known = above_short primary tree_nodes below words rules n j m low few known
+  room_after false false n j m low known = below_short primary tree_nodes below words rules n j m few known
 
 -- the value is the greatest length of those that count
 pub read_answer : (words : List ℕ) (rules : List Transition) (E : ℕ → ℕ → Type 0) (first n : ℕ) (cells : ℕ → ℕ) (sets : Bool) (extent : Option Limits) (o : Option ℕ) → Counts sets extent

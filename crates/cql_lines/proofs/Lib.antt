@@ -12,6 +12,7 @@ pub mod Puts
 pub mod LinesLaw
 pub mod MasksLaw
 pub mod OwnLaw
+pub mod PassLaw
 pub mod PlacesLaw
 pub mod RowsLaw
 pub mod SetsLaw

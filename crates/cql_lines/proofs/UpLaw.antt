@@ -1,19 +1,17 @@
 -- One node more, upwards.
-use Rattle.std.proofs.Common.{◌≡◌, ℕ, ◌+◌, ◌<◌, ◌≤◌, Bool, true, false, List, length, get_or, refl, sym, ap, ◌∙◌, subst, Option, Some, None, inl, inr, arith, slice_get, slice_set}
+use Rattle.std.proofs.Common.{◌≡◌, ℕ, ◌+◌, ◌<◌, ◌≤◌, Bool, true, false, List, length, get_or, refl, sym, ap, ◌∙◌, subst, Option, Some, None, inl, inr, arith, slice_set}
 use Rattle.std.proofs.lemmas.Bool.{cases_eq}
 use Rattle.std.proofs.lemmas.List.{get_or-set_same, get_or-set_other, length-set}
 use Rattle.cql_lines.specs.declared.automaton.Transition.{Transition}
 use Rattle.cql_lines.specs.declared.shape.TreeNode.{TreeNode}
 use Rattle.cql_lines.specs.Internal.AcceptedLengths.{AcceptedLengthFrom}
 use Rattle.cql_lines.proofs.Below.{Below}
-use Rattle.cql_lines.specs.Internal.Lengths.{is_set, at}
 use Rattle.cql_lines.specs.Shapes.{joined, is_searched, Edge}
 use Rattle.cql_lines.specs.Tables.{holds}
 use Rattle.cql_lines.specs.Values.{GreatestWhere}
 use Rattle.cql_lines.specs.Internal.DownwardPass.{cell}
 use Rattle.cql_lines.specs.Internal.UpwardPass.{UpInvariant, IsAbove}
-use Rattle.cql_lines.proofs.Measures.{Measure, Keeps, HasNone, Goes}
-use Rattle.cql_lines.proofs.OwnLaw.{own_known}
+use Rattle.cql_lines.proofs.Measures.{Measure, Keeps, HasNone}
 
 pub set_cell : (rows : List (ℕ → ℕ)) (n m j : ℕ) (own : ℕ → ℕ) → m ≡ n → n < length rows → cell (slice_set rows n own) m j ≡ own j
 set_cell rows n m j own e low = ap (λ k. cell (slice_set rows n own) k j) e ∙ ap (λ r. r j) (get_or-set_same rows n own (λ j. 0) low)
@@ -39,14 +37,6 @@ module _ (Represents : Measure) (same : Keeps Represents) (none : HasNone Repres
   pub row_here : (n : ℕ) (rows : List (ℕ → ℕ)) (row : ℕ → ℕ) → UpInvariant Represents words rules primary tree_nodes n rows
       → IsAbove (joined primary tree_nodes n) rows row → (j : ℕ) → Represents (Below (holds words) rules (Edge true primary tree_nodes) j n) (row j)
   row_here n rows row s a = row_above n n rows row (joined primary tree_nodes n) refl (omega arith) s a
-
-  pub above_known : (place : Transition → ℕ → (ℕ → ℕ) → ℕ → ℕ) (goes : Goes Represents place) (n : ℕ) (rows : List (ℕ → ℕ)) (row own : ℕ → ℕ) (held atoms : ℕ) → UpInvariant Represents words rules primary tree_nodes n rows
-      → IsAbove (joined primary tree_nodes n) rows row
-      → ((a : ℕ) → a < atoms → is_set held a ≡ is_set (at words n) a) → ((i : ℕ) (r : Transition) → slice_get rules i ≡ Some r → r.atom < atoms)
-      → ((i : ℕ) (r : Transition) → slice_get rules i ≡ Some r → own i ≡ place r held row (length rules)) → ((i : ℕ) → length rules ≤ i → own i ≡ 0)
-      → (i : ℕ) → Represents (AcceptedLengthFrom (holds words) rules (Edge true primary tree_nodes) i n) (own i)
-  above_known place goes n rows row own held atoms s a table few here past =
-      own_known Represents none place goes words rules (Edge true primary tree_nodes) n held row own (row_here n rows row s a) (λ i r rule. table r.atom (few i r rule)) here past
 
   pub stands_up : (n : ℕ) (rows : List (ℕ → ℕ)) (own : ℕ → ℕ) → n < length tree_nodes → UpInvariant Represents words rules primary tree_nodes n rows
       → ((i : ℕ) → Represents (AcceptedLengthFrom (holds words) rules (Edge true primary tree_nodes) i n) (own i))

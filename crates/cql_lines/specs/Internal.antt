@@ -6,3 +6,4 @@ pub mod Lengths
 pub mod AcceptedLengths
 pub mod LengthSets
 pub mod BinaryPatterns
+pub mod Passes

@@ -1,12 +1,13 @@
 //! Visits of the nodes of a tree, each after the nodes whose lengths it needs.
-ghost use Rattle.std.specs.Prelude.{◌≡◌, ℕ, ◌+◌, ◌*◌, ◌<◌, ◌≤◌, get_or, length, map, None, ◌-◌, false, IfOk, OnErr, OnOk, replicate, true};
+ghost use Rattle.std.specs.Prelude.{◌≡◌, ℕ, ◌+◌, ◌*◌, ◌<◌, ◌≤◌, get_or, length, map, None, false, IfOk, OnErr, OnOk, replicate, true};
 ghost use Rattle.cql_lines.specs.Internal.Cells.{Represents, both_kinds, Counts, AllowedLength};
-ghost use Rattle.cql_lines.specs.Internal.DownwardPass.{IsParentUpdate, DownInvariant, cell};
+ghost use Rattle.cql_lines.specs.Internal.DownwardPass.{IsParentUpdate, cell};
+ghost use Rattle.cql_lines.specs.Internal.Passes.{IsNextRow, IsUpdate, PassInvariant, turns_before, visited_node};
 ghost use Rattle.cql_lines.specs.Internal.SizesFit.{SizesFit};
 ghost use Rattle.cql_lines.specs.Internal.AcceptedLengths.{AcceptedLength};
 ghost use Rattle.cql_lines.specs.Shapes.{Edge, is_searched, joined, searched_count};
 ghost use Rattle.cql_lines.specs.Tables.{holds};
-ghost use Rattle.cql_lines.specs.Internal.UpwardPass.{UpInvariant, IsAbove};
+ghost use Rattle.cql_lines.specs.Internal.UpwardPass.{IsAbove};
 ghost use Rattle.cql_lines.specs.Values.{GreatestWhere};
 
 use crate::automaton::Transition;
@@ -38,39 +39,6 @@ fn merge_into_parent<R: StateLengths>(
     rows[above as usize].merge(own, count);
 }
 
-// Returns the greatest allowed length at one node, and adds the node's lengths to the row of the node above.
-fn visit_down<L: Ledger, R: StateLengths>(
-    rules: &[Transition],
-    first: u64,
-    table: &AtomTable<L>,
-    shape: &Shape,
-    node: usize,
-    rows: &mut [R],
-    steps: &mut Steps<L>,
-) -> Option<u32>
-    requires counts { Counts R.sets shape.now.extent }
-    requires fit { SizesFit rules.now table.now shape.now }
-    requires node { node < length shape.now.tree_nodes.items }
-    requires stands { DownInvariant (Represents R.sets) table.now.words.items rules.now shape.now.primary shape.now.tree_nodes.items
-        (length shape.now.tree_nodes.items - node - 1) (map R.cells rows.old) }
-    ensures stands { DownInvariant (Represents R.sets) table.now.words.items rules.now shape.now.primary shape.now.tree_nodes.items
-        (length shape.now.tree_nodes.items - node) (map R.cells rows.new) }
-    ensures value { GreatestWhere (is_searched shape.now.tree_nodes.items node)
-        (AllowedLength shape.now.extent
-        (AcceptedLength (holds table.now.words.items) rules.now (Edge false shape.now.primary shape.now.tree_nodes.items) first node)) result }
-    ensures cost { steps.new ≤ steps.old + table.now.atoms }
-    ensures unsearched { is_searched shape.now.tree_nodes.items node ≡ false → steps.new ≡ steps.old }
-    ensures searched { is_searched shape.now.tree_nodes.items node ≡ true → steps.new ≡ steps.old + table.now.atoms }
-{
-    if !shape.searched(node) {
-        return None;
-    }
-    let held = table.held(node, steps);
-    let own = rows[node].own(rules, held);
-    merge_into_parent(shape, node, rows, &own, rules.len());
-    own.greatest_allowed(first, rules.len(), shape.extent)
-}
-
 // Rows without lengths.
 fn blank_rows<R: StateLengths>(alloc: Global, nodes: usize) -> Result<Vec<R>, AllocError>
     ensures count { IfOk result (λ rows. length rows.items ≡ nodes) }
@@ -89,38 +57,6 @@ fn blank_values(alloc: Global, nodes: usize) -> Result<Vec<Option<u32>>, AllocEr
     vec![in alloc; None; nodes]
 }
 
-// For each node, the greatest allowed length of a way down that is read.
-fn longest_down<L: Ledger, R: StateLengths>(
-    alloc: Global,
-    rules: &[Transition],
-    first: u64,
-    table: &AtomTable<L>,
-    shape: &Shape,
-    steps: &mut Steps<L>,
-) -> Result<Vec<Option<u32>>, NoMemory>
-    requires counts { Counts R.sets shape.now.extent }
-    requires fit { SizesFit rules.now table.now shape.now }
-    ensures count { IfOk result (λ values. length values.items ≡ length shape.now.tree_nodes.items) }
-    ensures values { IfOk result (λ values. (n : ℕ) → n < length shape.now.tree_nodes.items →
-        GreatestWhere (is_searched shape.now.tree_nodes.items n)
-        (AllowedLength shape.now.extent
-        (AcceptedLength (holds table.now.words.items) rules.now (Edge false shape.now.primary shape.now.tree_nodes.items) first n))
-        (get_or values.items n None)) }
-    ensures cost { steps.new ≤ steps.old + table.now.atoms * searched_count shape.now.tree_nodes.items }
-    ensures exact { OnOk result (steps.new ≡ steps.old + table.now.atoms * searched_count shape.now.tree_nodes.items) }
-    ensures kept { OnErr result (steps.new ≡ steps.old) }
-{
-    let nodes = shape.len();
-    let mut rows = blank_rows::<R>(alloc, nodes)?;
-    let mut values = blank_values(alloc, nodes)?;
-    let grid = rows.as_mut_slice();
-    for turn in 0..nodes {
-        let node = nodes - 1 - turn;
-        values[node] = visit_down(rules, first, table, shape, node, grid, steps);
-    }
-    Ok(values)
-}
-
 // The row of the node above, or a row without lengths if there is no such node.
 fn row_above<R: StateLengths>(shape: &Shape, node: usize, rows: &[R]) -> R
     requires node { node < length shape.now.tree_nodes.items }
@@ -133,8 +69,37 @@ fn row_above<R: StateLengths>(shape: &Shape, node: usize, rows: &[R]) -> R
     }
 }
 
-// Returns the greatest allowed length at one node, and puts the node's lengths in its row.
-fn visit_up<L: Ledger, R: StateLengths>(
+// The row of the nodes after a node on the paths: upwards that of the node above, downwards the node's own.
+fn next_row<R: StateLengths>(shape: &Shape, node: usize, rows: &[R]) -> R
+    requires node { node < length shape.now.tree_nodes.items }
+    requires rows { length rows.now ≡ length shape.now.tree_nodes.items }
+    ensures { IsNextRow shape.now.back shape.now.primary shape.now.tree_nodes.items node (map R.cells rows.now) (R.cells result) }
+{
+    if shape.back {
+        row_above(shape, node, rows)
+    } else {
+        rows[node]
+    }
+}
+
+// Keeps a node's lengths: upwards in its own row, downwards in that of the node above.
+fn keep_lengths<R: StateLengths>(shape: &Shape, node: usize, rows: &mut [R], own: &R, count: usize)
+    requires count { count ≤ 64 }
+    requires past { (j : ℕ) → count ≤ j → R.cells own.now j ≡ 0 }
+    requires node { node < length shape.now.tree_nodes.items }
+    requires rows { length rows.old ≡ length shape.now.tree_nodes.items }
+    ensures { IsUpdate shape.now.back (both_kinds R.sets) shape.now.primary shape.now.tree_nodes.items node
+        (map R.cells rows.old) (map R.cells rows.new) (R.cells own.now) }
+{
+    if shape.back {
+        rows[node] = *own;
+    } else {
+        merge_into_parent(shape, node, rows, own, count);
+    }
+}
+
+// Returns the greatest allowed length at one node, and keeps the node's lengths.
+fn visit<L: Ledger, R: StateLengths>(
     rules: &[Transition],
     first: u64,
     table: &AtomTable<L>,
@@ -146,13 +111,14 @@ fn visit_up<L: Ledger, R: StateLengths>(
     requires counts { Counts R.sets shape.now.extent }
     requires fit { SizesFit rules.now table.now shape.now }
     requires node { node < length shape.now.tree_nodes.items }
-    requires stands { UpInvariant (Represents R.sets) table.now.words.items rules.now shape.now.primary shape.now.tree_nodes.items node
-        (map R.cells rows.old) }
-    ensures stands { UpInvariant (Represents R.sets) table.now.words.items rules.now shape.now.primary shape.now.tree_nodes.items (node + 1)
-        (map R.cells rows.new) }
+    requires stands { PassInvariant shape.now.back (Represents R.sets) table.now.words.items rules.now shape.now.primary
+        shape.now.tree_nodes.items (turns_before shape.now.back (length shape.now.tree_nodes.items) node) (map R.cells rows.old) }
+    ensures stands { PassInvariant shape.now.back (Represents R.sets) table.now.words.items rules.now shape.now.primary
+        shape.now.tree_nodes.items (turns_before shape.now.back (length shape.now.tree_nodes.items) node + 1) (map R.cells rows.new) }
     ensures value { GreatestWhere (is_searched shape.now.tree_nodes.items node)
         (AllowedLength shape.now.extent
-        (AcceptedLength (holds table.now.words.items) rules.now (Edge true shape.now.primary shape.now.tree_nodes.items) first node)) result }
+        (AcceptedLength (holds table.now.words.items) rules.now (Edge shape.now.back shape.now.primary shape.now.tree_nodes.items) first node))
+        result }
     ensures cost { steps.new ≤ steps.old + table.now.atoms }
     ensures unsearched { is_searched shape.now.tree_nodes.items node ≡ false → steps.new ≡ steps.old }
     ensures searched { is_searched shape.now.tree_nodes.items node ≡ true → steps.new ≡ steps.old + table.now.atoms }
@@ -161,41 +127,22 @@ fn visit_up<L: Ledger, R: StateLengths>(
         return None;
     }
     let held = table.held(node, steps);
-    let above = row_above(shape, node, rows);
-    let own = above.own(rules, held);
-    rows[node] = own;
+    let next = next_row(shape, node, rows);
+    let own = next.own(rules, held);
+    keep_lengths(shape, node, rows, &own, rules.len());
     own.greatest_allowed(first, rules.len(), shape.extent)
 }
 
-// For each node, the greatest allowed length of a way up that is read.
-fn longest_up<L: Ledger, R: StateLengths>(
-    alloc: Global,
-    rules: &[Transition],
-    first: u64,
-    table: &AtomTable<L>,
-    shape: &Shape,
-    steps: &mut Steps<L>,
-) -> Result<Vec<Option<u32>>, NoMemory>
-    requires counts { Counts R.sets shape.now.extent }
-    requires fit { SizesFit rules.now table.now shape.now }
-    ensures count { IfOk result (λ values. length values.items ≡ length shape.now.tree_nodes.items) }
-    ensures values { IfOk result (λ values. (n : ℕ) → n < length shape.now.tree_nodes.items →
-        GreatestWhere (is_searched shape.now.tree_nodes.items n)
-        (AllowedLength shape.now.extent
-        (AcceptedLength (holds table.now.words.items) rules.now (Edge true shape.now.primary shape.now.tree_nodes.items) first n))
-        (get_or values.items n None)) }
-    ensures cost { steps.new ≤ steps.old + table.now.atoms * searched_count shape.now.tree_nodes.items }
-    ensures exact { OnOk result (steps.new ≡ steps.old + table.now.atoms * searched_count shape.now.tree_nodes.items) }
-    ensures kept { OnErr result (steps.new ≡ steps.old) }
+// The node that a pass visits after a number of others.
+fn node_at_turn(shape: &Shape, turn: usize) -> usize
+    requires { turn < length shape.now.tree_nodes.items }
+    ensures { result ≡ visited_node shape.now.back (length shape.now.tree_nodes.items) turn }
 {
-    let nodes = shape.len();
-    let mut rows = blank_rows::<R>(alloc, nodes)?;
-    let mut values = blank_values(alloc, nodes)?;
-    let grid = rows.as_mut_slice();
-    for node in 0..nodes {
-        values[node] = visit_up(rules, first, table, shape, node, grid, steps);
+    if shape.back {
+        turn
+    } else {
+        shape.len() - 1 - turn
     }
-    Ok(values)
 }
 
 /// Returns for each node the greatest allowed length of a way that is read.
@@ -223,8 +170,13 @@ pub fn longest<L: Ledger, R: StateLengths>(
     ensures exact { OnOk result (steps.new ≡ steps.old + table.now.atoms * searched_count shape.now.tree_nodes.items) }
     ensures kept { OnErr result (steps.new ≡ steps.old) }
 {
-    if shape.back {
-        return longest_up::<L, R>(alloc, rules, first, table, shape, steps);
+    let nodes = shape.len();
+    let mut rows = blank_rows::<R>(alloc, nodes)?;
+    let mut values = blank_values(alloc, nodes)?;
+    let grid = rows.as_mut_slice();
+    for turn in 0..nodes {
+        let node = node_at_turn(shape, turn);
+        values[node] = visit(rules, first, table, shape, node, grid, steps);
     }
-    longest_down::<L, R>(alloc, rules, first, table, shape, steps)
+    Ok(values)
 }

@@ -1,5 +1,5 @@
 -- Squares that are candidates for a name.
-use Rattle.std.proofs.Common.{◌≡◌, ℕ, zero, suc, ◌^◌, ◌<◌, Bool, true, false, ◌&&◌, ◌==◌, nat_lt, List, [], ◌∷◌, length, get_or, ◌⊎◌, refl, sym, ap, ap₂, ◌∙◌, arith, inl, inr, Option, option_map, Some, None}
+use Rattle.std.proofs.Common.{◌≡◌, ℕ, zero, suc, ◌^◌, ◌<◌, Bool, true, false, ◌&&◌, ◌==◌, nat_lt, List, [], ◌∷◌, length, get_or, refl, sym, ap, ap₂, ◌∙◌, arith, inl, inr, Option, option_map, Some, None}
 use Rattle.std.specs.Prelude.{bit_and}
 use Rattle.std.specs.List.{filter, list_any, list_all}
 use Rattle.std.proofs.lemmas.Bool.{cases_lt, eqb-true, lt-ltb}
@@ -14,19 +14,19 @@ use Rattle.cql_played.specs.declared.led.Led.{Led}
 use Rattle.cql_syntax.specs.Contexts.{designator_image}
 use Rattle.cql_syntax.specs.Meaning.{Names, value, values, written_value, played_value, meets, meets_all, goal_if, before, stands_on, position_at}
 use Rattle.cql_syntax.specs.TreeOf.{filter_tree, filter_trees, form_tree, held_tree, played_tree, written_tree}
-use Rattle.cql_syntax.specs.Trees.{FilterTree, FilterTrees, pair, PlayedTree, WrittenTree, filter_at, move_of}
-use Rattle.cql_syntax.specs.Values.{Value, holds, has, as_truth, as_squares, as_number, pair_of, square_of, squares_where, related, intersection_of}
+use Rattle.cql_syntax.specs.Trees.{FilterTrees, PlayedTree, WrittenTree, filter_at, move_of}
+use Rattle.cql_syntax.specs.Values.{Value, holds, has, as_truth, as_squares, as_number, square_of, squares_where, related, intersection_of}
 use Rattle.cql_syntax.specs.declared.leaves.Designator.{Designator}
-use Rattle.cql_syntax.specs.declared.leaves.Pair.{Pair}
-use Rattle.cql_syntax.specs.declared.leaves.Pair.TheVariants.{Attacks, AttackedBy}
 use Rattle.cql_syntax.specs.declared.tree.Filter.{Filter}
 use Rattle.cql_syntax.specs.declared.tree.Form.{Squares}
 use Rattle.cql_syntax.specs.declared.tree.Played.{Played, Played', out-Played, outs-Played', Held-Played-origin, view-Played-origin, None', Some'}
+use Rattle.cql_values.proofs.FilterForms.{bound_here}
 use Rattle.cql_values.proofs.Masks.{above, in_both, is_in_bit, is_mask, nothing_in}
 use Rattle.cql_values.proofs.Evaluated.{by_settling}
 use Rattle.cql_values.proofs.Ranges.{left, right, both, same_any, same_truth, some_square, square_found}
 use Rattle.cql_values.specs.FilterValues.{settles}
-use Rattle.cql_local.specs.Internal.Candidates.{KeepsCandidates, IsName, GivesOnlyName, IntersectInName}
+use Rattle.cql_values.specs.FilterForms.{GivesOnlyName}
+use Rattle.cql_local.specs.Internal.Candidates.{KeepsCandidates}
 
 -- candidates of candidates, for tests that the filter implies
 pub cut_again : (test more : ℕ → Bool) (old mid new : ℕ) → ((s : ℕ) → is_in old s ≡ true → test s ≡ true → more s ≡ true) → KeepsCandidates test old mid → KeepsCandidates more mid new → KeepsCandidates test old new
@@ -59,36 +59,11 @@ each_passes test tree e n (x ∷ fs) (suc i) f low is all =
 own_square : (s t : ℕ) → (nat_lt t 64 && (s == t)) ≡ true → s ≡ t
 own_square s t e = eqb-true s t (right (nat_lt t 64) (s == t) e)
 
-pub name_own : (name : List ℕ) (f : FilterTree) → IsName name f → GivesOnlyName name f
-name_own name f is = record { own = λ tree e n s t h. own_square s t (sym (ap (λ v. has v t) (is.own tree e n s)) ∙ h) }
-
--- the squares of a filter that are so related to another's
-pub related_own : (name : List ℕ) (whole a b : FilterTree) (at : ℕ) (p : Pair) → (p ≡ Attacks) ⊎ (p ≡ AttackedBy) → whole ≡ filter_at at (pair p a b) → IsName name a → GivesOnlyName name whole
-unfolding value
-related_own name whole a b at p (inl e) is own = record {
-  own = λ tree m n s t h. (name_own name a own).own tree m n s t
-      (left (has (value tree [] ((name, s) ∷ m) a n) t) _ (right (nat_lt t 64) _
-      (sym (ap (λ q. has (pair_of (position_at tree n).men q (value tree [] ((name, s) ∷ m) a n) (value tree [] ((name, s) ∷ m) b n)) t) e)
-      ∙ sym (ap (λ w. has (value tree [] ((name, s) ∷ m) w n) t) is) ∙ h)));
-}
-related_own name whole a b at p (inr e) is own = record {
-  own = λ tree m n s t h. (name_own name a own).own tree m n s t
-      (left (has (value tree [] ((name, s) ∷ m) a n) t) _ (right (nat_lt t 64) _
-      (sym (ap (λ q. has (pair_of (position_at tree n).men q (value tree [] ((name, s) ∷ m) a n) (value tree [] ((name, s) ∷ m) b n)) t) e)
-      ∙ sym (ap (λ w. has (value tree [] ((name, s) ∷ m) w n) t) is) ∙ h)));
-}
-
 -- a set that has a square holds
 pub having_holds : (v : Value) (s : ℕ) → s < 64 → has v s ≡ true → holds v ≡ true
 having_holds (as_truth b) s low e = cc
 having_holds (as_squares x) s low e = some_square x s low e
 having_holds (as_number n) s low e = cc
-
--- a filter among others that has no square but the name's
-pub named : (name : List ℕ) (fs : List Filter) (i : ℕ) (f : Filter) → i < length fs → f ≡ get_or fs i f → GivesOnlyName name (filter_tree f) → IntersectInName name (filter_trees fs)
-named name fs i f low is own = record {
-  own = λ tree e n s t all. own.own tree e n s t (each_passes (λ v. has v t) tree ((name, s) ∷ e) n fs i f low is all);
-}
 
 -- some square of both sets that passes, if one of them has a single square
 pub first_is : (test : ℕ → ℕ → Bool) (x y : Value) (s : ℕ) → x ≡ squares_where (λ t. s == t) → holds (related test x y) ≡ true
@@ -110,10 +85,10 @@ second_is test x y s is e =
     (ap (λ u. test f.k u) same ∙ right (has y g.k) (test f.k g.k) g.passes))
 
 -- the squares of a set that are so related to a fixed set
-pub cut_related : (test : ℕ → ℕ → Bool) (v : ℕ → Value) (set other new : ℕ) → set < 2 ^ 64 → ((s : ℕ) → has (v s) ≡ is_in other)
+pub retain_attackers : (test : ℕ → ℕ → Bool) (v : ℕ → Value) (set other new : ℕ) → set < 2 ^ 64 → ((s : ℕ) → has (v s) ≡ is_in other)
     → (λ s. nat_lt s 64 && (is_in set s && list_any (λ t. is_in other t && test s t) squares)) ≡ is_in new
     → KeepsCandidates (λ s. list_any (λ t. has (v s) t && test s t) squares) set new
-cut_related test v set other new fits fixed is = record {
+retain_attackers test v set other new fits fixed is = record {
   within = λ s e. left (is_in set s) (list_any (λ t. is_in other t && test s t) squares)
       (right (nat_lt s 64) (is_in set s && list_any (λ t. is_in other t && test s t) squares) (ap (λ f. f s) is ∙ e));
   keeps = λ s e h. sym (ap (λ f. f s) is) ∙ both (nat_lt s 64) (is_in set s && list_any (λ t. is_in other t && test s t) squares)
@@ -134,12 +109,10 @@ pub uncut : (test : ℕ → Bool) (set : ℕ) → KeepsCandidates test set set
 uncut test set = record { within = λ s e. e; keeps = λ s e h. e }
 
 -- a square that all sets of a list have, if the name is one of them
-pub in_common : (tree : SearchedTree) (e : Names) (n s : ℕ) (name : List ℕ) (fs : FilterTrees) → IntersectInName name fs → holds (intersection_of (values tree [] ((name, s) ∷ e) fs n)) ≡ true
-    → list_all (λ v. has v s) (values tree [] ((name, s) ∷ e) fs n) ≡ true
-in_common tree e n s name fs named h =
-    let f = square_found (λ t. nat_lt t 64 && list_all (λ v. has v t) (values tree [] ((name, s) ∷ e) fs n)) h in
-    let all = right (nat_lt f.k 64) (list_all (λ v. has v f.k) (values tree [] ((name, s) ∷ e) fs n)) f.passes in
-    ap (λ t. list_all (λ v. has v t) (values tree [] ((name, s) ∷ e) fs n)) (named.own tree e n s f.k all) ∙ all
+pub in_common : (tree : SearchedTree) (e : Names) (n s : ℕ) (name : List ℕ) (fs : FilterTrees) → GivesOnlyName name (λ tree e n. intersection_of (values tree [] e fs n))
+    → holds (intersection_of (values tree [] ((name, s) ∷ e) fs n)) ≡ true → list_all (λ v. has v s) (values tree [] ((name, s) ∷ e) fs n) ≡ true
+in_common tree e n s name fs own h =
+    right (nat_lt s 64) (list_all (λ v. has v s) (values tree [] ((name, s) ∷ e) fs n)) (own.some tree ((name, s) ∷ e) n s (bound_here name s e) h)
 
 -- all squares
 pub all_in : (t : ℕ) → t < 64 → is_in 18446744073709551615 t ≡ true

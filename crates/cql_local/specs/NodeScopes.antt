@@ -1,29 +1,8 @@
--- The values of filters at a node.
-use Rattle.std.specs.Prelude.{ℕ, ◌<◌, Bool, List, [], ◌∷◌, length}
-use Rattle.cq_position.specs.Games.{IsTree}
+-- The tree of a node at which filters are evaluated.
 use Rattle.cq_position.specs.Search.{SearchedTree}
-use Rattle.cql_syntax.specs.Meaning.{Names, value, values}
-use Rattle.cql_syntax.specs.Trees.{FilterTree, FilterTrees}
-use Rattle.cql_syntax.specs.Values.{Value, holds}
 use Rattle.cql_values.specs.Trees.{searched_tree}
-use Rattle.cql_local.specs.declared.node_scope.NodeScope.{NodeScope}
+use Rattle.cql_local.specs.declared.node_scope.GameNode.{GameNode}
 
 -- the tree that is searched
-abbrev pub tree_of : NodeScope → SearchedTree
+abbrev pub tree_of : GameNode → SearchedTree
 tree_of p = searched_tree p.game.now p.variations
-
--- the game's nodes are a tree, and the node is one of them
-pub record IsAt (p : NodeScope) : Type 0 where
-  pub tree : IsTree p.game.now.nodes
-  pub node : p.node < length p.game.now.nodes
-
--- the value of a filter at the nodes of the place's game
-abbrev pub value_at : NodeScope → Names → FilterTree → ℕ → Value
-value_at p e f n = value (tree_of p) [] e f n
-
-abbrev pub values_at : NodeScope → Names → FilterTrees → ℕ → List Value
-values_at p e fs n = values (tree_of p) [] e fs n
-
--- a filter holds at the place with a name bound to a square
-abbrev pub holds_at : NodeScope → List ℕ → Names → FilterTree → ℕ → Bool
-holds_at p name e f s = holds (value (tree_of p) [] ((name, s) ∷ e) f p.node)

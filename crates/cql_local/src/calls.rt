@@ -8,7 +8,7 @@ ghost use Rattle.cql_values.specs.ValueModel.{as_value};
 
 use crate::evaluate::square_at;
 use crate::local_cost::{is_cheap, is_moved};
-use crate::node_scope::NodeScope;
+use crate::node_scope::GameNode;
 use cq_common::{NoMemory, Refusal};
 use cql_syntax::Filter;
 use cql_values::names::Names;
@@ -29,7 +29,7 @@ pub fn local_square_truth(
     name: &[u8],
     squares: Value,
     asked: &Filter,
-    place: &NodeScope,
+    place: &GameNode,
     names: &mut Names,
 ) -> Result<Option<bool>, NoMemory>
     requires { place.now.node < length place.now.game.now.nodes }

@@ -1,20 +1,21 @@
 //! Candidates for a name: those squares of a set for which a condition may hold.
-ghost use Rattle.std.specs.Prelude.{◌≡◌, ℕ, ◌<◌, ◌⊎◌, ◌&&◌, [], ◌∷◌, true, IfSome};
+ghost use Rattle.std.specs.Prelude.{◌≡◌, ℕ, ◌<◌, ◌&&◌, [], ◌∷◌, true, IfSome};
 ghost use Rattle.std.specs.List.{list_any, list_all};
 ghost use Rattle.cq_geometry.specs.Squares.{squares};
 ghost use Rattle.cq_position.specs.Attacks.{attacks};
 ghost use Rattle.cq_symmetry.specs.Images.{is_in};
-ghost use Rattle.cql_local.specs.Internal.Candidates.{KeepsCandidates, IsFixed, IsName, GivesOnlyName, IntersectInName, Allows, value_with, values_with, position_of};
-ghost use Rattle.cql_local.specs.NodeScopes.{IsAt, tree_of, holds_at};
+ghost use Rattle.cql_local.specs.Internal.Candidates.{KeepsCandidates, IsFixed, Allows, value_with, values_with, position_of};
+ghost use Rattle.cql_local.specs.NodeScopes.{tree_of};
+ghost use Rattle.cql_local.specs.Internal.NodeValues.{IsAt, holds_at};
 ghost use Rattle.cql_syntax.specs.Meaning as meaning;
 ghost use Rattle.cql_syntax.specs.TreeOf.{filter_tree, filters_tree, written_tree, played_tree};
 ghost use Rattle.cql_syntax.specs.Values as spec;
-ghost use Rattle.cql_syntax.specs.declared.leaves.Pair.TheVariants.{Attacks, AttackedBy};
 
-use crate::node_scope::NodeScope;
+use crate::node_scope::GameNode;
 use cq_geometry::Square;
 use cq_square_sets::set_of;
 use cql_syntax::{Chain, Filter, Filters, Form, Pair, Played};
+use cql_values::filter_forms::{is_name, some_gives_only_name};
 use cql_values::move_filter::led_to;
 use cql_values::names::Names;
 use cql_values::sets::{attacked_by, attacking};
@@ -25,7 +26,7 @@ use cql_values::words::standing_on;
 #[derive(Clone, Copy)]
 struct LocalBinding<'a, 'b> {
     name: &'a [u8],
-    place: &'a NodeScope<'b>,
+    place: &'a GameNode<'b>,
     /// The bindings outside. One of them may have the same name, which is hidden here.
     names: &'a Names,
 }
@@ -36,7 +37,7 @@ pub(crate) fn squares_to_try<'x, 'y>(
     name: &'x [u8],
     set: u64,
     asked: &Filter,
-    place: &'x NodeScope<'y>,
+    place: &'x GameNode<'y>,
     names: &'x Names,
 ) -> u64
     requires { IsAt place.now }
@@ -107,18 +108,6 @@ fn candidates_in_common(trial: &LocalBinding, parts: &Filters, set: u64) -> u64
         left = candidates_if_pair(trial, part, left) & fixed_or_all(trial, part);
     }
     left
-}
-
-// True only if one of some sets has no square but the one that is bound to the name.
-fn some_gives_only_name(name: &[u8], parts: &Filters) -> bool
-    ensures { result ≡ true → IntersectInName name.now (filters_tree parts.now) }
-{
-    for part in parts.as_slice() {
-        if gives_only_name(name, part) {
-            return true;
-        }
-    }
-    false
 }
 
 // The candidates of a filter of two parts. For another filter all squares are candidates.
@@ -257,38 +246,5 @@ fn fixed(trial: &LocalBinding, f: &Filter) -> Option<u64>
             }
         }
         _ => None,
-    }
-}
-
-// True only if a filter has no square but the one that is bound to the name.
-#[tactic(auto, unfolding(cql_syntax::specs::Meaning::value))]
-fn gives_only_name(name: &[u8], f: &Filter) -> bool
-    ensures { result ≡ true → GivesOnlyName name.now (filter_tree f.now) }
-{
-    match &f.form {
-        Form::Name(_) => is_name(name, f),
-        Form::Pair(pair, first, _) => is_attack(*pair) && is_name(name, first),
-        _ => false,
-    }
-}
-
-// True only for the two filters of attack.
-fn is_attack(pair: Pair) -> bool
-    ensures { result ≡ true → (pair ≡ Attacks) ⊎ (pair ≡ AttackedBy) }
-{
-    match pair {
-        Pair::Attacks | Pair::AttackedBy => true,
-        _ => false,
-    }
-}
-
-// True only if a filter is the name alone.
-#[tactic(auto, unfolding(cql_syntax::specs::Meaning::value))]
-fn is_name(name: &[u8], f: &Filter) -> bool
-    ensures { result ≡ true → IsName name.now (filter_tree f.now) }
-{
-    match &f.form {
-        Form::Name(text) => name == text.as_slice(),
-        _ => false,
     }
 }

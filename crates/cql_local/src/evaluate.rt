@@ -8,7 +8,8 @@ ghost use Rattle.cq_position.specs.Games.{IsTree};
 ghost use Rattle.cq_position.specs.Search.{children_in};
 ghost use Rattle.cq_symmetry.specs.Images.{is_in};
 ghost use Rattle.cql_local.specs.Internal.MovesSought.{HoldsAfterMoves};
-ghost use Rattle.cql_local.specs.NodeScopes.{tree_of, value_at, values_at, holds_at, IsAt};
+ghost use Rattle.cql_local.specs.NodeScopes.{tree_of};
+ghost use Rattle.cql_local.specs.Internal.NodeValues.{value_at, values_at, holds_at, IsAt};
 ghost use Rattle.cql_syntax.specs.Meaning as meaning;
 ghost use Rattle.cql_syntax.specs.TreeOf.{filter_tree, filters_tree, played_tree, written_tree};
 ghost use Rattle.cql_syntax.specs.Values as spec;
@@ -20,15 +21,14 @@ use crate::candidates::squares_to_try;
 use crate::leaves::local_leaf;
 use crate::move_ends::ends_of;
 use crate::moves_sought::{MoveConstraint, may_hold, moves_sought};
-use crate::node_scope::NodeScope;
+use crate::node_scope::GameNode;
 use crate::not_local::NotLocal;
 use cq_common::Refusal;
 use cq_geometry::Square;
 use cq_square_sets::lowest_square;
-use cql_played::Led;
 use cql_syntax::{Chain, Filter, Filters, Form, Kind, Played, Unary};
 use cql_values::combine::{if_of, pair_of, unary_of_value};
-use cql_values::move_filter::led_to;
+use cql_values::move_filter::{led_to, promotion_goal};
 use cql_values::names::Names;
 use cql_values::sets::{has_square, reached};
 use cql_values::value::Value;
@@ -44,7 +44,7 @@ use cql_values::words::directions;
 #[cycle(evaluate)]
 pub(crate) fn evaluate(
     f: &Filter,
-    place: &NodeScope,
+    place: &GameNode,
     names: &mut Names,
 ) -> Result<Value, Refusal<NotLocal>>
     requires { IsAt place.now }
@@ -99,7 +99,7 @@ pub(crate) fn evaluate(
 fn unary_at(
     word: Unary,
     part: &Filter,
-    place: &NodeScope,
+    place: &GameNode,
     names: &mut Names,
 ) -> Result<Value, Refusal<NotLocal>>
     requires { IsAt place.now }
@@ -121,11 +121,7 @@ fn unary_at(
 
 // True if a filter holds at the parent of a node. It is false at the root.
 #[cycle(evaluate)]
-fn at_parent(
-    part: &Filter,
-    place: &NodeScope,
-    names: &mut Names,
-) -> Result<Value, Refusal<NotLocal>>
+fn at_parent(part: &Filter, place: &GameNode, names: &mut Names) -> Result<Value, Refusal<NotLocal>>
     requires { IsAt place.now }
     ensures value { IfOk result (λ v. as_value v ≡ meaning.some_node (value_at place.now names.old (filter_tree part.now))
         (option_to_list (games.node_at place.now.game.now.nodes place.now.node).parent)) }
@@ -134,7 +130,7 @@ fn at_parent(
     let Some(parent) = place.game.parent(place.node) else {
         return Ok(Value::Truth(false));
     };
-    let above = NodeScope {
+    let above = GameNode {
         node: parent,
         ..*place
     };
@@ -146,7 +142,7 @@ fn at_parent(
 #[cycle(evaluate)]
 fn some_child(
     part: &Filter,
-    place: &NodeScope,
+    place: &GameNode,
     names: &mut Names,
 ) -> Result<Value, Refusal<NotLocal>>
     requires { IsAt place.now }
@@ -156,7 +152,7 @@ fn some_child(
 {
     let mut at = place.game.first_child(place.node);
     while let Some(child) = at {
-        let below = NodeScope {
+        let below = GameNode {
             node: child,
             ..*place
         };
@@ -173,7 +169,7 @@ fn some_child(
 #[cycle(evaluate)]
 fn holds_searched(
     part: &Filter,
-    place: &NodeScope,
+    place: &GameNode,
     names: &mut Names,
 ) -> Result<bool, Refusal<NotLocal>>
     requires { IsAt place.now }
@@ -192,7 +188,7 @@ fn holds_searched(
 #[cycle(evaluate)]
 fn some_above(
     part: &Filter,
-    place: &NodeScope,
+    place: &GameNode,
     names: &mut Names,
 ) -> Result<Value, Refusal<NotLocal>>
     requires { IsAt place.now }
@@ -203,7 +199,7 @@ fn some_above(
     let moves = moves_sought(part, &*names);
     let mut at = Some(place.node);
     while let Some(node) = at {
-        let above = NodeScope { node, ..*place };
+        let above = GameNode { node, ..*place };
         let there = holds_after(&moves, part, &above, names)?;
         if there {
             return Ok(Value::Truth(true));
@@ -218,7 +214,7 @@ fn some_above(
 fn holds_after(
     moves: &MoveConstraint,
     part: &Filter,
-    place: &NodeScope,
+    place: &GameNode,
     names: &mut Names,
 ) -> Result<bool, Refusal<NotLocal>>
     requires at { IsAt place.now }
@@ -238,7 +234,7 @@ fn holds_after(
 fn chain_at(
     chain: Chain,
     parts: &Filters,
-    place: &NodeScope,
+    place: &GameNode,
     names: &mut Names,
 ) -> Result<Value, Refusal<NotLocal>>
     requires { IsAt place.now }
@@ -260,7 +256,7 @@ fn chain_at(
 fn any_at(
     kind: Kind,
     parts: &Filters,
-    place: &NodeScope,
+    place: &GameNode,
     names: &mut Names,
 ) -> Result<Value, Refusal<NotLocal>>
     requires { IsAt place.now }
@@ -276,7 +272,7 @@ fn any_at(
 
 // True if all of some filters hold.
 #[cycle(evaluate)]
-fn all_of(parts: &Filters, place: &NodeScope, names: &mut Names) -> Result<Value, Refusal<NotLocal>>
+fn all_of(parts: &Filters, place: &GameNode, names: &mut Names) -> Result<Value, Refusal<NotLocal>>
     requires { IsAt place.now }
     ensures value { IfOk result (λ v. as_value v ≡ spec.all_hold (values_at place.now names.old (filters_tree parts.now) place.now.node)) }
     ensures names { names.new ≡ names.old }
@@ -292,11 +288,7 @@ fn all_of(parts: &Filters, place: &NodeScope, names: &mut Names) -> Result<Value
 
 // True if one of some filters holds.
 #[cycle(evaluate)]
-fn some_of(
-    parts: &Filters,
-    place: &NodeScope,
-    names: &mut Names,
-) -> Result<Value, Refusal<NotLocal>>
+fn some_of(parts: &Filters, place: &GameNode, names: &mut Names) -> Result<Value, Refusal<NotLocal>>
     requires { IsAt place.now }
     ensures value { IfOk result (λ v. as_value v ≡ spec.some_holds (values_at place.now names.old (filters_tree parts.now) place.now.node)) }
     ensures names { names.new ≡ names.old }
@@ -314,7 +306,7 @@ fn some_of(
 #[cycle(evaluate)]
 fn union_of(
     parts: &Filters,
-    place: &NodeScope,
+    place: &GameNode,
     names: &mut Names,
 ) -> Result<Value, Refusal<NotLocal>>
     requires { IsAt place.now }
@@ -333,7 +325,7 @@ fn union_of(
 #[cycle(evaluate)]
 fn common_of(
     parts: &Filters,
-    place: &NodeScope,
+    place: &GameNode,
     names: &mut Names,
 ) -> Result<Value, Refusal<NotLocal>>
     requires { IsAt place.now }
@@ -361,7 +353,7 @@ pub(crate) fn square_at(
     name: &[u8],
     set: u64,
     asked: &Filter,
-    place: &NodeScope,
+    place: &GameNode,
     names: &mut Names,
 ) -> Result<bool, Refusal<NotLocal>>
     requires { IsAt place.now }
@@ -388,7 +380,7 @@ fn some_settles(
     every: bool,
     set: u64,
     asked: &Filter,
-    place: &NodeScope,
+    place: &GameNode,
     names: &mut Names,
 ) -> Result<bool, Refusal<NotLocal>>
     requires at { IsAt place.now }
@@ -415,7 +407,7 @@ fn some_settles(
 #[cycle(evaluate)]
 fn played_at(
     played: &Played,
-    place: &NodeScope,
+    place: &GameNode,
     names: &mut Names,
 ) -> Result<bool, Refusal<NotLocal>>
     requires { IsAt place.now }
@@ -425,7 +417,7 @@ fn played_at(
     let Some(ends) = ends_of(place.game, place.node) else {
         return Ok(false);
     };
-    let above = NodeScope {
+    let above = GameNode {
         node: ends.before,
         ..*place
     };
@@ -444,7 +436,7 @@ fn played_at(
     if !is_met(&played.taken, led.taken, &above, names)? {
         return Ok(false);
     }
-    is_met(&played.promoted, promoted_on(&led), place, names)
+    is_met(&played.promoted, promotion_goal(&led), place, names)
 }
 
 // True if the square exists and is in the set of the part. A part that is left out always agrees.
@@ -452,7 +444,7 @@ fn played_at(
 fn is_met(
     part: &Option<Box<Filter>>,
     square: Option<Square>,
-    place: &NodeScope,
+    place: &GameNode,
     names: &mut Names,
 ) -> Result<bool, Refusal<NotLocal>>
     requires { IsAt place.now }
@@ -468,11 +460,4 @@ fn is_met(
     };
     let value = evaluate(part, place, names)?;
     Ok(has_square(value.squares(), square))
-}
-
-// The goal of a promotion; none if the move is no promotion.
-fn promoted_on(led: &Led) -> Option<Square>
-    ensures { result ≡ meaning.goal_if led.now.promoted led.now.goal }
-{
-    if led.promoted { Some(led.goal) } else { None }
 }

@@ -1,20 +1,18 @@
 //! Filters without parts.
-ghost use Rattle.std.specs.Prelude.{◌≡◌, ◌<◌, length, IfOk, IfSome};
-ghost use Rattle.cql_local.specs.NodeScopes.{IsAt, tree_of, value_at};
-ghost use Rattle.cql_syntax.specs.Meaning as meaning;
+ghost use Rattle.std.specs.Prelude.{◌≡◌, IfOk};
+ghost use Rattle.cql_local.specs.Internal.NodeValues.{IsAt, value_at};
 ghost use Rattle.cql_syntax.specs.TreeOf.{filter_tree};
 ghost use Rattle.cql_values.specs.ValueModel.{as_value};
 
-use crate::node_scope::NodeScope;
+use crate::node_scope::GameNode;
 use crate::not_local::NotLocal;
 use cq_common::Refusal;
-use cq_position::in_check;
-use cql_syntax::{Filter, Form, Plain};
-use cql_values::headers::{has_text, is_result, rating, year};
+use cql_syntax::{Filter, Form};
+use cql_values::headers::{has_text, is_result, rating};
 use cql_values::names::Names;
 use cql_values::numbers::count_value;
 use cql_values::value::Value;
-use cql_values::words::{is_mated, is_stalemated, is_white, standing_on};
+use cql_values::words::{local_word, standing_on};
 
 /// Returns the value of a filter without parts.
 ///
@@ -25,7 +23,7 @@ use cql_values::words::{is_mated, is_stalemated, is_white, standing_on};
 #[tactic(auto, unfolding(cql_syntax::specs::Meaning::value, cql_syntax::specs::Contexts::designator_image))]
 pub(crate) fn local_leaf(
     f: &Filter,
-    place: &NodeScope,
+    place: &GameNode,
     names: &Names,
 ) -> Result<Value, Refusal<NotLocal>>
     requires { IsAt place.now }
@@ -35,7 +33,9 @@ pub(crate) fn local_leaf(
         Form::Squares(d) => Ok(Value::Set(standing_on(place.game.position(place.node), d))),
         Form::Number(number) => Ok(count_value(*number)),
         Form::Name(name) => Ok(names.squares_of(name.as_slice())),
-        Form::Plain(word) => local_word(*word, place).ok_or(Refusal::Fault(NotLocal)),
+        Form::Plain(word) => local_word(*word, place.game, place.node).ok_or(Refusal::Fault(
+            NotLocal,
+        )),
         Form::Tagged(field, text) => {
             let there = has_text(place.game, *field, text.as_slice());
             Ok(Value::Truth(there))
@@ -44,28 +44,5 @@ pub(crate) fn local_leaf(
         Form::Elo(of) => Ok(Value::Number(rating(place.game, *of))),
         Form::Comment(_) => Ok(Value::Truth(true)),
         _ => Err(Refusal::Fault(NotLocal)),
-    }
-}
-
-/// Returns the value of a word. The result is `None` for `terminal`, `ply` and `depth`, which depend on other nodes.
-pub(crate) fn local_word(word: Plain, place: &NodeScope) -> Option<Value>
-    requires { place.now.node < length place.now.game.now.nodes }
-    ensures { IfSome result (λ v. as_value v ≡ meaning.word_of (tree_of place.now) word place.now.node) }
-{
-    let game = place.game;
-    let position = game.position(place.node);
-    match word {
-        Plain::Check => Some(Value::Truth(in_check(position, position.side()))),
-        Plain::Mate => Some(Value::Truth(is_mated(position))),
-        Plain::Stalemate => Some(Value::Truth(is_stalemated(position))),
-        Plain::Wtm => Some(Value::Truth(is_white(position.side()))),
-        Plain::Btm => Some(Value::Truth(!is_white(position.side()))),
-        Plain::Initial => Some(Value::Truth(place.node == 0)),
-        Plain::Mainline => Some(Value::Truth(game.is_main(place.node))),
-        Plain::Variation => Some(Value::Truth(!game.is_main(place.node))),
-        Plain::HasComment => Some(Value::Truth(game.comments(place.node) != 0)),
-        Plain::MoveNumber => Some(count_value(position.number())),
-        Plain::Year => Some(Value::Number(year(game))),
-        Plain::Terminal | Plain::Ply | Plain::Depth => None,
     }
 }

@@ -15,4 +15,4 @@ mod node_scope;
 mod not_local;
 
 pub use calls::{is_cheap_locally, local_square_truth};
-pub use node_scope::NodeScope;
+pub use node_scope::GameNode;

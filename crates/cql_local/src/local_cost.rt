@@ -1,6 +1,7 @@
 //! Filters that are cheap to evaluate node by node.
 
 use cql_syntax::{Chain, Filter, Filters, Form, Kind, Plain, Played, Unary};
+use cql_values::filter_forms::is_name_part;
 
 /// Returns true if a filter is cheap to evaluate node by node. With `upwards` it may search the nodes above each node.
 ///
@@ -83,13 +84,6 @@ fn is_moved_in_some(name: &[u8], parts: &Filters) -> bool {
         }
     }
     false
-}
-
-fn is_name_part(name: &[u8], part: &Option<Box<Filter>>) -> bool {
-    match part {
-        Some(part) => matches!(&part.form, Form::Name(text) if text.as_slice() == name),
-        None => false,
-    }
 }
 
 // True for a word that takes no search for legal moves or of the nodes above or below.

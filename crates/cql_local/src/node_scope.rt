@@ -4,7 +4,7 @@ use pgn_tree::Game;
 
 /// A node of a game at which filters are evaluated.
 #[derive(Clone, Copy)]
-pub struct NodeScope<'a> {
+pub struct GameNode<'a> {
     pub game: &'a Game,
     /// True if the variations are searched, and false if the main line alone is.
     pub variations: bool,

@@ -16,7 +16,8 @@ use Rattle.cql_columns.specs.Columns.{IsNodeSet}
 use Rattle.cql_columns.proofs.Filling.{equal_or, split_last, any_default, or_left, or_right}
 use Rattle.cql_columns.proofs.FindLaw.{any_below}
 use Rattle.cql_columns.proofs.Wanting.{in_either}
-use Rattle.cql_operators.specs.OtherNodes.{ReadsFrom, is_from_other_nodes, goes_down, CoverSourceNodes, GatherSourceSquares, AddSquaresToParent, set_of_node}
+use Rattle.cql_operators.specs.OtherNodes.{ReadsFrom, is_from_other_nodes, goes_down, CoverSourceNodes, GatherSourceSquares, AddSquaresToParent}
+use Rattle.cql_operators.specs.Internal.NodeSets.{set_of_node}
 use Rattle.cql_operators.specs.Trees.{Searched, IsBelowLive, IsAboveLive, AreChildrenOfLive, AreParentsOfLive}
 use Rattle.cql_operators.proofs.Raising.{child_is}
 use Rattle.cql_operators.proofs.UnaryLaws.{any_child, at_any}

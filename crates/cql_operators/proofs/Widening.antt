@@ -8,7 +8,8 @@ use Rattle.cq_position.proofs.WaysUp.{below_parent, root_below, parent_before, s
 use Rattle.cql_values.proofs.Ranges.{left, both}
 use Rattle.cql_columns.specs.Columns.{is_live}
 use Rattle.cql_columns.proofs.Filling.{live_below, split_last, equal_or}
-use Rattle.cql_operators.specs.Trees.{IsBelowLive, is_below_live, flag_of}
+use Rattle.cql_operators.specs.Trees.{IsBelowLive, flag_of}
+use Rattle.cql_operators.specs.Internal.NodeSets.{is_below_live}
 
 -- the first k nodes, in a list that is written over
 pub record Widened (tree : SearchedTree) (live : List Bool) (end k : ℕ) (wide : List Bool) : Type 0 where

@@ -1,5 +1,5 @@
 -- Words that evaluate their part at other nodes.
-use Rattle.std.specs.Prelude.{◌≡◌, ◌↔◌, ℕ, ◌<◌, ◌≤◌, Bool, true, false, List, Option, Some, None, get_or, length}
+use Rattle.std.specs.Prelude.{◌≡◌, ◌↔◌, ℕ, ◌<◌, ◌≤◌, Bool, true, false, List, Some, get_or, length}
 use Rattle.cq_position.specs.Games.{Node, node_at, is_below}
 use Rattle.cq_position.specs.Search.{SearchedTree}
 use Rattle.cq_symmetry.specs.Images.{is_in}
@@ -52,8 +52,3 @@ pub record AddSquaresToParent (nodes : List Node) (k more : ℕ) (old new : List
   pub grows : (n s : ℕ) → is_in (get_or old n 0) s ≡ true → is_in (get_or new n 0) s ≡ true
   pub adds : (n s : ℕ) → (node_at nodes k).parent ≡ Some n → is_in more s ≡ true → is_in (get_or new n 0) s ≡ true
   pub later : (n : ℕ) → k ≤ n → get_or new n 0 ≡ get_or old n 0
-
--- the set of a node, or the empty set without a node
-abbrev pub set_of_node : List ℕ → Option ℕ → ℕ
-set_of_node sets None = 0
-set_of_node sets (Some n) = get_or sets n 0

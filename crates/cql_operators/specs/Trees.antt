@@ -13,10 +13,6 @@ flag_of flags (Some p) = get_or flags p false
 abbrev pub Searched : SearchedTree → ℕ → Type 0
 Searched tree n = is_searched tree.variations tree.game.nodes n ≡ true
 
-abbrev pub is_below_live : SearchedTree → (live wide : List Bool) → ℕ → Bool
-is_below_live tree live wide k =
-    is_searched tree.variations tree.game.nodes k && (is_live live k || flag_of wide (node_at tree.game.nodes k).parent)
-
 -- searched nodes, among them all at or below a live node
 pub record IsBelowLive (tree : SearchedTree) (live wide : List Bool) : Type 0 where
   pub asked : IsNodeSet tree wide

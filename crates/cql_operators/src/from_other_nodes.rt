@@ -4,7 +4,8 @@ ghost use Rattle.cq_position.specs.Games.{IsTree, node_at};
 ghost use Rattle.cql_syntax.specs.declared.leaves.Unary.TheVariants.{Find, FindUp, Child, Parent};
 ghost use Rattle.cql_columns.specs.Columns.{IsNodeSet};
 ghost use Rattle.cql_columns.specs.Scopes.{tree_in};
-ghost use Rattle.cql_operators.specs.OtherNodes.{is_from_other_nodes, CoverSourceNodes, FindSourceNodes, GatherSourceSquares, AddSquaresToParent, set_of_node};
+ghost use Rattle.cql_operators.specs.OtherNodes.{is_from_other_nodes, CoverSourceNodes, FindSourceNodes, GatherSourceSquares, AddSquaresToParent};
+ghost use Rattle.cql_operators.specs.Internal.NodeSets.{set_of_node};
 
 use crate::tree::{
     above, below, children, none, of_parents, parents, with_ancestors, with_descendants,

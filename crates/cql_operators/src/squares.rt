@@ -1,6 +1,5 @@
 //! The nodes of a set that are left as squares are tried one by one.
 ghost use Rattle.std.specs.Prelude.{◌≡◌, ℕ, ◌<◌, ◌&&◌, length, get_or, true, false, not, IfOk, if◌then◌else◌};
-ghost use Rattle.cq_symmetry.specs.Images.{is_in};
 ghost use Rattle.cql_syntax.specs.Values as spec;
 ghost use Rattle.cql_values.specs.ValueModel.{as_value};
 ghost use Rattle.cql_columns.specs.SquareTrials.{AreNodesWithSquare, AreLeftOpen, CoverSquares};
@@ -9,7 +8,7 @@ ghost use Rattle.cql_columns.specs.Columns.{shown, AreKept};
 
 use cq_common::NoMemory;
 use cq_geometry::Square;
-use cql_columns::filter_column::{FilterColumn, set_at, truth_at};
+use cql_columns::filter_column::{FilterColumn, set_at, squares_if, truth_at};
 use cql_columns::nodes::same;
 use cql_columns::spans::{first_live, live_end};
 use cql_values::sets::has_square;
@@ -22,15 +21,9 @@ pub fn wanted_squares(live: &[bool], squares: &FilterColumn) -> u64
 {
     let mut wanted = 0;
     for n in 0..live.len() {
-        wanted |= wanted_at(live[n], squares, n);
+        wanted |= squares_if(live[n], squares, n);
     }
     wanted
-}
-
-fn wanted_at(asked: bool, squares: &FilterColumn, n: usize) -> u64
-    ensures { asked ≡ true → spec.has (shown squares.now n) ≡ is_in result }
-{
-    if asked { squares.at(n).squares() } else { 0 }
 }
 
 /// Returns the nodes of a set at which the column has a square.

@@ -4,7 +4,8 @@ ghost use Rattle.cq_position.specs.Games.{IsTree, is_searched as is_searched_in,
 ghost use Rattle.cql_columns.specs.Columns.{IsNodeSet};
 ghost use Rattle.cql_columns.specs.Scopes.{tree_in};
 ghost use Rattle.cql_operators.specs.SpelledParts.{AreOnward, AreReached};
-ghost use Rattle.cql_operators.specs.Trees.{IsBelowLive, IsAboveLive, AreChildrenOfLive, AreParentsOfLive, AreBeforeLive, is_below_live, flag_of, AddsParent, AreWithAncestors, AreWithDescendants, HasParents};
+ghost use Rattle.cql_operators.specs.Trees.{IsBelowLive, IsAboveLive, AreChildrenOfLive, AreParentsOfLive, AreBeforeLive, flag_of, AddsParent, AreWithAncestors, AreWithDescendants, HasParents};
+ghost use Rattle.cql_operators.specs.Internal.NodeSets.{is_below_live};
 
 use cq_common::NoMemory;
 use cql_columns::filter_column::{blank_truths, truth_at};

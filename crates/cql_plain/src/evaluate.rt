@@ -21,10 +21,10 @@ use crate::scope::Scope;
 use cq_common::NoMemory;
 use cq_geometry::Square;
 use cq_symmetry::{Family, Mapping, member, size as family_size};
-use cql_contexts::contexts::{
+use cql_images::contexts::{
     field_image, inside, of_image, outcome_image, unary_image, way_image, word_image,
 };
-use cql_contexts::fits::fits;
+use cql_images::fits::fits;
 use cql_syntax::{Chain, Field, Filter, Filters, Form, Kind, Outcome, Terms, Unary, kind_of};
 use cql_values::combine::{any_of, chain_of, if_of, pair_of, unary_of_value};
 use cql_values::headers::{has_text, is_result, rating};

@@ -6,7 +6,7 @@ ghost use Rattle.cql_values.specs.ValueModel.{as_value};
 
 use cq_position::Position;
 use cq_symmetry::Mapping;
-use cql_contexts::contexts::designator_image;
+use cql_images::contexts::designator_image;
 use cql_syntax::Designator;
 use cql_values::value::Value;
 use cql_values::words::standing_on;

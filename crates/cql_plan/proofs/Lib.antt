@@ -12,4 +12,4 @@ pub mod KeysLaw
 pub mod MenLaw
 pub mod Needed
 pub mod NeedsParts
-pub mod NeedsRows
+pub mod NeedsExamples

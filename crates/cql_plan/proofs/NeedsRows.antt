@@ -5,7 +5,7 @@ use Rattle.cq_position.specs.Games as games
 use Rattle.cq_position.specs.Legal as legal
 use Rattle.cq_position.specs.Search as search
 use Rattle.cql_plan.specs.Needs as needs
-use Rattle.cql_plan.specs.NeedsRows.{DesignatorRows, HeaderRows, PartRows, OtherRows}
+use Rattle.cql_plan.specs.NeedsExamples.{DesignatorRows, HeaderRows, PartRows, OtherRows}
 
 pub designator_rows : DesignatorRows
 unfolding needs.passes needs.one_stands board.squares games.way_up games.first_child games.searched legal.after search.has_man search.has_man_in

@@ -1,7 +1,7 @@
 pub mod Verdicts
 pub mod Replacements
 pub mod Needs
-pub mod NeedsRows
+pub mod NeedsExamples
 pub mod Plans
 pub mod RowKeys
 pub mod Internal

@@ -7,10 +7,10 @@ ghost use Rattle.cql_syntax.specs.Meaning.{Names, value};
 ghost use Rattle.cql_syntax.specs.Trees.{FilterTree, QueryTree};
 ghost use Rattle.cql_syntax.specs.Values.{holds};
 ghost use Rattle.cql_plan.specs.Needs.{passes, all_pass, query_passes};
-ghost use Rattle.cql_plan.specs.NeedsRows.{DesignatorRows, HeaderRows, PartRows, OtherRows};
+ghost use Rattle.cql_plan.specs.NeedsExamples.{DesignatorRows, HeaderRows, PartRows, OtherRows};
 
 /// The games that pass the needs of small filters.
-#[tactic(auto, using(crate::proofs::NeedsRows::designator_rows, crate::proofs::NeedsRows::header_rows, crate::proofs::NeedsRows::part_rows, crate::proofs::NeedsRows::other_rows))]
+#[tactic(auto, using(crate::proofs::NeedsExamples::designator_rows, crate::proofs::NeedsExamples::header_rows, crate::proofs::NeedsExamples::part_rows, crate::proofs::NeedsExamples::other_rows))]
 pub fn needs_are_as_worked()
     ensures designators { DesignatorRows }
     ensures headers { HeaderRows }

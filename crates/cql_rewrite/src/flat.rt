@@ -10,11 +10,11 @@ ghost use Rattle.cql_rewrite.specs.Internal.DistinctMembers.{with_new, some_same
 use crate::same::same_filter;
 use cq_common::{Bytes, NoMemory};
 use cq_symmetry::{Family, Mapping, SquarePart, member, size};
-use cql_contexts::contexts::{
+use cql_images::contexts::{
     designator_image, field_image, inside, of_image, outcome_image, unary_image, way_image,
     word_image,
 };
-use cql_contexts::fits::fits;
+use cql_images::fits::fits;
 use cql_syntax::{
     Body, Constituent, Constituents, Designator, Filter, Filters, FlatQuery, Form, Line, Played,
     Term, Terms, TypedQuery, kind_of,

@@ -4,7 +4,7 @@ ghost use Rattle.std.specs.Prelude.{◌≡◌, ◌≤◌, length, IfOk};
 use crate::plans::read_query;
 use cq_common::{NoMemory, Refusal};
 use cq_outside::{MemSource, OpenGate, SureSink};
-use cq_queries::Status;
+use cq_query_files::Status;
 use cq_search::{answer, answer_many};
 use cq_words::Settings;
 use cql_syntax::{QueryFault, TypedQuery};

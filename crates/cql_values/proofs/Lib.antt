@@ -1,5 +1,6 @@
 pub mod Bound
 pub mod Evaluated
+pub mod FilterForms
 pub mod Masks
 pub mod Mates
 pub mod MenFound

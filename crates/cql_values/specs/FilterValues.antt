@@ -1,10 +1,12 @@
 -- Tests of one square, and the value of a word by one value.
-use Rattle.std.specs.Prelude.{◌≡◌, ℕ, Bool, false, ◌&&◌, not, List, if◌then◌else◌}
+use Rattle.std.specs.Prelude.{◌≡◌, ℕ, Bool, true, false, ◌&&◌, not, List, if◌then◌else◌}
 use Rattle.std.specs.List.{list_any}
 use Rattle.cq_position.specs.Men.{man_number, same_man}
 use Rattle.cq_position.specs.declared.men.Man.{Man}
 use Rattle.cq_symmetry.specs.Images.{is_in}
 use Rattle.cql_syntax.specs.Values.{Value, as_truth, as_squares, as_number, holds, complement_of, size_of, power_of, light_of, dark_of}
+use Rattle.cql_syntax.specs.declared.leaves.Plain.{Plain}
+use Rattle.cql_syntax.specs.declared.leaves.Plain.TheVariants.{Terminal, Ply, Depth}
 use Rattle.cql_syntax.specs.declared.leaves.Unary.{Unary}
 use Rattle.cql_syntax.specs.declared.leaves.Unary.TheVariants.{Complement, Count, Power, Light, Dark}
 
@@ -26,6 +28,13 @@ abbrev pub is_true : Value → Bool
 is_true (as_truth b) = b
 is_true (as_squares x) = false
 is_true (as_number v) = false
+
+-- the value of a word depends on one node alone
+abbrev pub is_local : Plain → Bool
+is_local Terminal = false
+is_local Ply = false
+is_local Depth = false
+is_local word = true
 
 -- a list has exactly the men of a set
 abbrev pub AreMenOf : ℕ → List Man → Type 0

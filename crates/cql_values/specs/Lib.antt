@@ -1,3 +1,4 @@
+pub mod FilterForms
 pub mod FilterValues
 pub mod Bindings
 pub mod Counts

@@ -6,6 +6,7 @@
 
 pub mod combine;
 pub mod counts;
+pub mod filter_forms;
 pub mod headers;
 pub mod move_filter;
 pub mod names;

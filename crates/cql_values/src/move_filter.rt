@@ -56,14 +56,14 @@ pub fn meets_all(
             meets(origin, Some(led.origin))
                 && meets(goal, Some(led.goal))
                 && meets(taken, led.taken)
-                && meets(promoted, goal_if(led))
+                && meets(promoted, promotion_goal(led))
         }
         None => false,
     }
 }
 
-// The goal of a promotion; none if the move is no promotion.
-fn goal_if(led: &Led) -> Option<Square>
+/// Returns the goal of a promotion, or `None` if the move is no promotion.
+pub fn promotion_goal(led: &Led) -> Option<Square>
     ensures { result ≡ meaning.goal_if led.now.promoted led.now.goal }
 {
     if led.promoted { Some(led.goal) } else { None }

@@ -1,5 +1,5 @@
 //! Filters without parts.
-ghost use Rattle.std.specs.Prelude.{◌≡◌, ◌<◌, ◌^◌, ◌&&◌, ◌++◌, ◌∷◌, [], not, length, Some, IfOk, OnOk, if◌then◌else◌};
+ghost use Rattle.std.specs.Prelude.{◌≡◌, ◌<◌, ◌^◌, ◌&&◌, ◌++◌, ◌∷◌, [], not, length, Bool, false, Some, is_some, IfOk, IfSome, OnOk, if◌then◌else◌};
 ghost use Rattle.std.specs.List.{list_any};
 ghost use Rattle.cq_position.specs.Games.{IsTree};
 ghost use Rattle.cq_position.specs.Legality.{has_legal_move};
@@ -8,7 +8,7 @@ ghost use Rattle.cq_position.specs.Board.{man_at, stands};
 ghost use Rattle.cq_position.specs.Men.{man_number};
 ghost use Rattle.cq_symmetry.specs.Images.{is_in};
 ghost use Rattle.cql_syntax.specs.Meaning as meaning;
-ghost use Rattle.cql_values.specs.FilterValues.{AreMenOf};
+ghost use Rattle.cql_values.specs.FilterValues.{AreMenOf, is_local};
 ghost use Rattle.cql_values.specs.ValueModel.{as_value};
 ghost use Rattle.cql_values.specs.Trees.{searched_tree};
 
@@ -133,23 +133,55 @@ pub fn word_at(
     requires node { n < length game.now.nodes }
     ensures { IfOk result (λ v. as_value v ≡ meaning.word_of (searched_tree game.now variations) word n) }
 {
+    match local_word(word, game, n) {
+        Some(value) => Ok(value),
+        None => wide_word(alloc, word, game, variations, n),
+    }
+}
+
+/// Returns the value of a word that depends on one node alone. The result is `None` for `terminal`, `ply` and `depth`, which depend on
+/// other nodes.
+pub fn local_word(word: Plain, game: &Game, n: u32) -> Option<Value>
+    requires { n < length game.now.nodes }
+    ensures some { IfSome result (λ v. (variations : Bool) → as_value v ≡ meaning.word_of (searched_tree game.now variations) word n) }
+    ensures none { is_some result ≡ is_local word }
+{
     let position = game.position(n);
-    Ok(match word {
-        Plain::Check => Value::Truth(in_check(position, position.side())),
-        Plain::Mate => Value::Truth(is_mated(position)),
-        Plain::Stalemate => Value::Truth(is_stalemated(position)),
-        Plain::Wtm => Value::Truth(is_white(position.side())),
-        Plain::Btm => Value::Truth(!is_white(position.side())),
-        Plain::Initial => Value::Truth(n == 0),
-        Plain::Terminal => Value::Truth(children(alloc, game, variations, n)?.is_empty()),
-        Plain::Mainline => Value::Truth(game.is_main(n)),
-        Plain::Variation => Value::Truth(!game.is_main(n)),
-        Plain::HasComment => Value::Truth(game.comments(n) != 0),
-        Plain::Ply => count_value(ply(alloc, game, n)?),
-        Plain::MoveNumber => count_value(position.number()),
-        Plain::Depth => count_value(depth(alloc, game, n)?),
-        Plain::Year => Value::Number(year(game)),
-    })
+    match word {
+        Plain::Check => Some(Value::Truth(in_check(position, position.side()))),
+        Plain::Mate => Some(Value::Truth(is_mated(position))),
+        Plain::Stalemate => Some(Value::Truth(is_stalemated(position))),
+        Plain::Wtm => Some(Value::Truth(is_white(position.side()))),
+        Plain::Btm => Some(Value::Truth(!is_white(position.side()))),
+        Plain::Initial => Some(Value::Truth(n == 0)),
+        Plain::Mainline => Some(Value::Truth(game.is_main(n))),
+        Plain::Variation => Some(Value::Truth(!game.is_main(n))),
+        Plain::HasComment => Some(Value::Truth(game.comments(n) != 0)),
+        Plain::MoveNumber => Some(count_value(position.number())),
+        Plain::Year => Some(Value::Number(year(game))),
+        Plain::Terminal | Plain::Ply | Plain::Depth => None,
+    }
+}
+
+// The value of a word that depends on other nodes.
+fn wide_word(
+    alloc: Global,
+    word: Plain,
+    game: &Game,
+    variations: bool,
+    n: u32,
+) -> Result<Value, NoMemory>
+    requires tree { IsTree game.now.nodes }
+    requires node { n < length game.now.nodes }
+    requires wide { is_local word ≡ false }
+    ensures { IfOk result (λ v. as_value v ≡ meaning.word_of (searched_tree game.now variations) word n) }
+{
+    match word {
+        Plain::Terminal => Ok(Value::Truth(children(alloc, game, variations, n)?.is_empty())),
+        Plain::Ply => Ok(count_value(ply(alloc, game, n)?)),
+        Plain::Depth => Ok(count_value(depth(alloc, game, n)?)),
+        _ => unreachable!(),
+    }
 }
 
 /// Returns true if the side to move is in check and has no legal move.

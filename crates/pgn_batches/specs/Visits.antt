@@ -14,12 +14,12 @@ use Rattle.pgn_batches.specs.Whole.{cut_games, whole}
 
 -- a visitor and its two sinks at one moment
 pub record Moment (T O E : Type 0) : Type 0 where
-  pub taker : T
+  pub visitor : T
   pub out : O
   pub err : E
 
 abbrev pub moment : {T O E : Type 0} → T → O → E → Moment T O E
-moment taker out err = record { taker = taker; out = out; err = err }
+moment visitor out err = record { visitor = visitor; out = out; err = err }
 
 -- the games of the next batch were visited, or the visitor stopped at them
 abbrev pub HasVisited : {X : Type 0} → (KeptGames → Type 0) → (KeptGames → KeptGames → X → Type 0) → (games batch : KeptGames)

@@ -24,7 +24,7 @@ pub trait BatchVisitor<O, E> {
     ghost has_stopped: { Moment Self O E → Moment Self O E → KeptGames → KeptGames → Self.Stop → Type 0 };
 
     /// Visits the next batch. Returns a reason to stop, or nothing.
-    fn take(&mut self, batch: &Batch, out: &mut O, err: &mut E) -> Option<Self::Stop>
+    fn visit(&mut self, batch: &Batch, out: &mut O, err: &mut E) -> Option<Self::Stop>
         requires { (was : Moment Self O E) × (games : KeptGames) × has_taken was (moment self.old out.old err.old) games
             × (number_of batch.now ≡ length games) }
         ensures { (was : Moment Self O E) (games : KeptGames) → has_taken was (moment self.old out.old err.old) games
@@ -41,7 +41,7 @@ pub enum VisitEnd<X> {
     Early(X),
 }
 
-/// Visits the batches of the rest of the archive `source` with `taker`. The limit of bytes must be from 1 to 2^40. The
+/// Visits the batches of the rest of the archive `source` with `visitor`. The limit of bytes must be from 1 to 2^40. The
 /// next batch is read after the visit of the one before, and nothing more is read for it than it needs.
 ///
 /// Returns:
@@ -57,15 +57,15 @@ pub fn visit_batches<S: Source, O, E, T: BatchVisitor<O, E>>(
     alloc: Global,
     limit: u64,
     source: &mut S,
-    taker: &mut T,
+    visitor: &mut T,
     out: &mut O,
     err: &mut E,
 ) -> Result<VisitEnd<T::Stop>, Refusal<BatchFault>>
     requires limit { (1 ≤ limit) × (limit ≤ 2 ^ 40) }
-    requires nothing { T.has_taken (moment taker.old out.old err.old) (moment taker.old out.old err.old) [] }
+    requires nothing { T.has_taken (moment visitor.old out.old err.old) (moment visitor.old out.old err.old) [] }
     ensures says { IsVisitResult limit (S.left source.old) (S.left source.new)
-        (T.has_taken (moment taker.old out.old err.old) (moment taker.new out.new err.new))
-        (T.has_stopped (moment taker.old out.old err.old) (moment taker.new out.new err.new)) result }
+        (T.has_taken (moment visitor.old out.old err.old) (moment visitor.new out.new err.new))
+        (T.has_stopped (moment visitor.old out.old err.old) (moment visitor.new out.new err.new)) result }
     ensures cause { HasVisitCause (S.faults source.old) (S.faults source.new) result }
     ensures next { S.follows source.old source.new }
 {
@@ -78,7 +78,7 @@ pub fn visit_batches<S: Source, O, E, T: BatchVisitor<O, E>>(
             Ok(None) => return Ok(VisitEnd::All(games)),
             Err(refusal) => return Err(refusal),
         };
-        if let Some(stop) = taker.take(&batch, out, err) {
+        if let Some(stop) = visitor.visit(&batch, out, err) {
             return Ok(VisitEnd::Early(stop));
         }
         games += u64::from(batch.len());

@@ -39,7 +39,7 @@ number_is (Some q) p e = ap Some (eqb-true q p e)
 
 module _ (nodes : List Node) (tree : IsTree nodes) where
   -- the place of a child of a node; its siblings begin with it
-  pub record Begins (parent k c : ℕ) : Type 0 where
+  pub record IsViablePrefix (parent k c : ℕ) : Type 0 where
     pub from : k ≤ c
     pub within : c < length nodes
     pub child : (node_at nodes c).parent ≡ Some parent
@@ -48,13 +48,13 @@ module _ (nodes : List Node) (tree : IsTree nodes) where
 
   BeginsBy : (parent k : ℕ) → Option ℕ → Type 0
   BeginsBy parent k None = children_from nodes parent k ≡ none
-  BeginsBy parent k (Some c) = Begins parent k c
+  BeginsBy parent k (Some c) = IsViablePrefix parent k c
 
   by_none : (parent k : ℕ) → length nodes ≤ k → BeginsBy parent k None
   unfolding BeginsBy children_from
   by_none parent k past = ap (continuations parent k) (drop_all k nodes past) ∙ nothing_left parent k
 
-  here : (parent k : ℕ) → k < length nodes → (node_at nodes k).parent ≡ Some parent → Begins parent k k
+  here : (parent k : ℕ) → k < length nodes → (node_at nodes k).parent ≡ Some parent → IsViablePrefix parent k k
   unfolding children_from
   here parent k within is = record {
     from = omega arith;
@@ -135,7 +135,7 @@ module _ (nodes : List Node) (tree : IsTree nodes) where
   unfolding BeginsBy
   no_child parent within e = subst (BeginsBy parent (parent + 1)) e (first_by parent within)
 
-  pub has_child : (parent c : ℕ) → parent < length nodes → first_child nodes parent ≡ Some c → Begins parent (parent + 1) c
+  pub has_child : (parent c : ℕ) → parent < length nodes → first_child nodes parent ≡ Some c → IsViablePrefix parent (parent + 1) c
   unfolding BeginsBy
   has_child parent c within e = subst (BeginsBy parent (parent + 1)) e (first_by parent within)
 
@@ -143,7 +143,7 @@ module _ (nodes : List Node) (tree : IsTree nodes) where
   unfolding BeginsBy
   no_sibling parent k within is e = subst (BeginsBy parent (k + 1)) e (next_by parent k within is)
 
-  pub has_sibling : (parent k c : ℕ) → k < length nodes → (node_at nodes k).parent ≡ Some parent → next_sibling nodes k ≡ Some c → Begins parent (k + 1) c
+  pub has_sibling : (parent k c : ℕ) → k < length nodes → (node_at nodes k).parent ≡ Some parent → next_sibling nodes k ≡ Some c → IsViablePrefix parent (k + 1) c
   unfolding BeginsBy
   has_sibling parent k c within is e = subst (BeginsBy parent (k + 1)) e (next_by parent k within is)
 

@@ -11,11 +11,11 @@ use Rattle.cq_position.specs.Games.{Node, Game, node_at, is_number, IsTree, Have
 use Rattle.cq_position.specs.Position.{IsPosition}
 use Rattle.cq_position.proofs.Following.{follows_of}
 use Rattle.cq_position.proofs.Preorder.{nodes_back}
-use Rattle.pgn_reader.specs.Games.{heading_text, root, MarksEnd, SpellsAny, Spells}
+use Rattle.pgn_reader.specs.Games.{heading_text, root, MarksEnd, SpellsOfAnyLength, Spells}
 use Rattle.pgn_reader.specs.Line.{text, beginning, LineTail, ParsesLine}
 use Rattle.pgn_reader.specs.declared.fault.GameFault.{GameFault}
 use Rattle.pgn_reader.specs.Tags.{tags_of, start_of}
-use Rattle.pgn_reader.specs.Verdict.{IsVerdict}
+use Rattle.pgn_reader.specs.Verdict.{IsReadOrNoMemory}
 use Rattle.pgn_reader.specs.Words.{Word, ends, remarks, sense, words_of}
 use Rattle.pgn_export.specs.Export.{export_text}
 use Rattle.pgn_export.specs.Lines.{lines}
@@ -107,7 +107,7 @@ at_first n most few = omega (arith, few)
 
 spelled_by : (tags : List (List ℕ × List ℕ)) (result : GameResult) (r : Node) (ns : List Node) → let g : Game = record { tags = tags; result = result; nodes = r ∷ ns } in
     IsTree (r ∷ ns) → HaveDistinctNames tags → IsPosition r.position → AllByRecursion IsAnnotated (r ∷ ns) → IsNormal g
-    → (first : Bool) → SpellsAny (told first (export_text g)) g
+    → (first : Bool) → SpellsOfAnyLength (told first (export_text g)) g
 spelled_by tags result r ns tree distinct position annotated normal first =
     let g : Game = record { tags = tags; result = result; nodes = r ∷ ns } in
     let c = continuations 0 1 ns in
@@ -151,7 +151,7 @@ spelled_by tags result r ns tree distinct position annotated normal first =
 
 spelled_of : (tags : List (List ℕ × List ℕ)) (result : GameResult) (nodes : List Node) → let g : Game = record { tags = tags; result = result; nodes = nodes } in
     IsTree nodes → HaveDistinctNames tags → IsPosition (node_at nodes 0).position → AllByRecursion IsAnnotated nodes → IsNormal g
-    → (first : Bool) → SpellsAny (told first (export_text g)) g
+    → (first : Bool) → SpellsOfAnyLength (told first (export_text g)) g
 spelled_of tags result [] tree distinct position annotated normal first = absurd (let some = tree.rooted in omega (arith, some))
 spelled_of tags result (r ∷ ns) tree distinct position annotated normal first = spelled_by tags result r ns tree distinct position annotated normal first
 
@@ -165,7 +165,7 @@ all_annotated (n ∷ ns) all = (annotated n all.0, all_annotated ns all.1)
 pub export_spells : (g : Game) → IsTree g.nodes → HaveNotes g.nodes → HaveDistinctNames g.tags → IsPosition (node_at g.nodes 0).position → IsNormal g
     → (start : ℕ) (first : Bool) → Spells (words_of start first (export_text g)) g
 export_spells g tree notes distinct position normal start first = record {
-  spells = subst (λ ws. SpellsAny ws g) (sym (words_told start first (export_text g)))
+  spells = subst (λ ws. SpellsOfAnyLength ws g) (sym (words_told start first (export_text g)))
       (spelled_of g.tags g.result g.nodes tree distinct position (all_annotated g.nodes (all_each HasNotes g.nodes notes)) normal first);
   few = tree.few;
 }
@@ -175,7 +175,7 @@ too_long : (limit n : ℕ) → limit < n → n ≤ limit → ⊥
 too_long limit n long short = omega (arith, long, short)
 
 read_back : (g : Game) (start : ℕ) (first : Bool) (text : List ℕ) (answer : Result Game (Refusal GameFault)) → Spells (words_of start first text) g → length text ≤ 2 ^ 24
-    → IsVerdict start first text answer → IsSameGame g answer
+    → IsReadOrNoMemory start first text answer → IsSameGame g answer
 read_back g start first text (Ok h) spells short verdict = sym (verdict.1.alone g spells)
 read_back g start first text (Err NoMemory) spells short verdict = tt
 read_back g start first text (Err (Fault fault)) spells short verdict =

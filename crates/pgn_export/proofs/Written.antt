@@ -17,7 +17,7 @@ use Rattle.cq_san.proofs.Means.{written_read}
 use Rattle.pgn_lexer.specs.declared.token.TokenKind.{TokenKind}
 use Rattle.pgn_lexer.specs.declared.token.TokenKind.TheVariants.{Symbol, Period, LeftParen, RightParen, Nag, Null}
 use Rattle.pgn_reader.specs.declared.fault.Reason.TheVariants.{NagRange}
-use Rattle.pgn_reader.specs.Line.{Line, nothing, word, variation, text, LinePlace, beginning, led_to, moved, LineTail, tail_with_glyph, tail_with_comment, tail_with_move, ParsesWord, ParsesLine}
+use Rattle.pgn_reader.specs.Line.{Line, nothing, word, variation, text, LinePlace, beginning, position_after, moved, LineTail, tail_with_glyph, tail_with_comment, tail_with_move, ParsesWord, ParsesLine}
 use Rattle.pgn_reader.specs.Words.{Word, plays, annotates, opens, closes, means_nothing, out_of_place, sense, sense_of_glyph, sense_of_symbol}
 use Rattle.pgn_reader.proofs.Moves.{led_by_null, led_by_other}
 use Rattle.pgn_export.specs.Movetext.{is_due}
@@ -162,7 +162,7 @@ null_of p m moves = by_null m.null (nat_lt m.to 64) (reaches p m.from m.to) (pro
     by_null true a b c e = absurd (true≢false (sym e))
     by_null false a b c e = refl
 
-pub led : (p : Board) (m : Move) (q : Board) → Leads p m q → led_to p m ≡ q
+pub led : (p : Board) (m : Move) (q : Board) → Leads p m q → position_after p m ≡ q
 led p m q (inl legal) = led_by_other p m (null_of p m legal.moves) ∙ sym legal.leads
 led p m q (inr pass) = led_by_null p m (ap (λ (x : Move). x.null) pass.null) ∙ sym pass.leads
 
@@ -189,7 +189,7 @@ move_tells depth a p due m line next others end at kept leads notes tells =
     (glyphs_tell depth b m.nags (onto (map remark_word m.comments) line) (record u { nags = [] }) notes.nags
     (subst (λ cs. ParsesLine depth b (onto (map remark_word m.comments) line) (record u { nags = []; comments = cs })) (append-nil m.comments)
     (comments_tell depth b m.comments line (lined others next end) notes.comments tells)))) in
-    let to : b.reached ≡ m.position = ap (λ x. led_to x m.move) at ∙ led p m.move m.position leads in
+    let to : b.reached ≡ m.position = ap (λ x. position_after x m.move) at ∙ led p m.move m.position leads in
     let read : san a.reached (san_text p m.move) ≡ Ok m.move = ap (λ x. san x (san_text p m.move)) at ∙ written_read p m.move m.position kept leads in
     let tells_move : lined none (played m next others) end ≡ tail_with_move m.move b.reached u = ap (λ q. tail_with_move m.move q u) (sym to) in
     let one : ParsesLine depth a (word (move_token p m.move) noted_line) (lined none (played m next others) end) = (
@@ -240,7 +240,7 @@ mutual
       let end = end_of b next in
       let below = levels_next m next others in
       let beside_ = levels_others m next others in
-      let to : b.reached ≡ m.position = ap (λ x. led_to x m.move) at ∙ led p m.move m.position follows.0 in
+      let to : b.reached ≡ m.position = ap (λ x. position_after x m.move) at ∙ led p m.move m.position follows.0 in
       move_tells depth a p due m (variations_of p others (line_of m.position (is_due m others) next)) next others end at kept follows.0 notes.0
       (variations_tell others p (line_of m.position (is_due m others) next) depth b next end (ap (λ x. Some x) at) kept follows.2 notes.2 (omega (arith, few, beside_))
       (line_tells next m.position (is_due m others) depth b to (stays_position p m.move m.position kept follows.0) follows.1 notes.1 (omega (arith, few, below))))

@@ -15,7 +15,7 @@ use Rattle.pgn_lexer.specs.declared.token.TokenKind.TheVariants.{Symbol}
 use Rattle.pgn_reader.specs.declared.fault.GameFault.{GameFault}
 use Rattle.pgn_reader.specs.Limits.{longest, most_levels}
 use Rattle.pgn_reader.specs.Tags.{start_of}
-use Rattle.pgn_reader.specs.Verdict.{IsVerdict}
+use Rattle.pgn_reader.specs.Verdict.{IsReadOrNoMemory}
 use Rattle.pgn_reader.specs.Words.{result_of_text}
 use Rattle.pgn_export.specs.Export.{export_text}
 use Rattle.pgn_export.specs.Movetext.{played_in}
@@ -71,4 +71,4 @@ IsSameGame g (Err NoMemory) = Unit {0}
 -- a text is read as a game, at any place in an archive
 abbrev pub IsReadAs : List ℕ → Game → Type 0
 IsReadAs text g =
-    (start : ℕ) (first : Bool) (answer : Result Game (Refusal GameFault)) → IsVerdict start first text answer → IsSameGame g answer
+    (start : ℕ) (first : Bool) (answer : Result Game (Refusal GameFault)) → IsReadOrNoMemory start first text answer → IsSameGame g answer

@@ -13,7 +13,8 @@ use Rattle.cq_outside.specs.Flow.{Grew}
 use Rattle.pgn_json.specs.Internal.PartTexts.{ArePlaced, IsPlaced}
 use Rattle.pgn_json.specs.Internal.Parts.{Part, part_at, size}
 use Rattle.pgn_json.specs.Internal.Texts.{AreTextsOf, HasTaken, HasWritten, HasWrittenFront, all_faults, all_faulty, all_lines}
-use Rattle.pgn_json.specs.Writing.{NoWriteFailed, SinkView, Sinks, Writes}
+use Rattle.cq_program.specs.Views.{SinkView}
+use Rattle.pgn_json.specs.Writing.{NoWriteFailed, Sinks, Writes}
 use Rattle.pgn_json.specs.declared.texts.Texts.{Texts}
 use Rattle.pgn_json.proofs.Entries.{few_faulty, few_texts, kept_count, no_texts, texts_on}
 use Rattle.pgn_json.proofs.Grown.{grew_none}

@@ -8,10 +8,10 @@ use Rattle.std.specs.Prelude.{chars, if◌then◌else◌}
 use Rattle.std.specs.Str.{is_utf8}
 use lib.Utf8.{encode, encodes}
 use Rattle.pgn_json.specs.Internal.Bytes.{byte_text}
-use Rattle.pgn_json.specs.Strings.{character_text, characters, escape, is_escaped}
+use Rattle.pgn_json.specs.Strings.{character_text, characters, escape, needs_escape}
 
 -- a character that is not ASCII needs no escape
-high_stays : (c : ℕ) → 128 ≤ c → is_escaped c ≡ false
+high_stays : (c : ℕ) → 128 ≤ c → needs_escape c ≡ false
 high_stays c high = rw (le-ltb c 32 (omega arith), ne_eqb c 34 (λ e. omega arith), ne_eqb c 92 (λ e. omega arith)) refl
 
 high_bytes : (bytes : List ℕ) → ((k : ℕ) → k < length bytes → 128 ≤ get_or bytes k 0) → flat_map byte_text bytes ≡ bytes
@@ -48,8 +48,8 @@ unfolding characters
 latin text not_so = ap (λ b. if b then chars text else text) (false_from_ne_true (is_utf8 text) (λ is. not_so (IsUtf8-from_is_utf8 text is)))
 
 -- a text without an escape is written as it is
-pub unescaped : (text : List ℕ) → list_any is_escaped text ≡ false → flat_map byte_text text ≡ text
+pub unescaped : (text : List ℕ) → list_any needs_escape text ≡ false → flat_map byte_text text ≡ text
 unescaped [] none = refl
 unescaped (b ∷ text) none =
-    let parts = or_parts (is_escaped b) (list_any is_escaped text) none in
+    let parts = or_parts (needs_escape b) (list_any needs_escape text) none in
     ap₂ (λ (x y : List ℕ). x ++ y) (ap (λ e. if e then escape b else b ∷ []) parts.0) (unescaped text parts.1)

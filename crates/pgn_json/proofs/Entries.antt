@@ -13,23 +13,23 @@ use Rattle.pgn_cut.specs.GameTokens.{game_bytes}
 use Rattle.pgn_cut.specs.declared.span.Span.{Span}
 use Rattle.cq_report.specs.Games.{fault_line}
 use Rattle.pgn_json.specs.Json.{json_text}
-use Rattle.pgn_json.specs.Lines.{AreEntries, Entry, fault_lines, fault_of, faulty, is_faulty, line_of, lines}
+use Rattle.pgn_json.specs.Lines.{AreEntries, ArchiveGame, fault_lines, fault_of, faulty, is_faulty, line_of, lines}
 use Rattle.pgn_json.specs.Internal.Texts.{AreKept, AreTextsOf}
 use Rattle.pgn_json.specs.declared.texts.Texts.{Texts}
 use Rattle.pgn_reader.specs.Limits.{longest}
-use Rattle.pgn_reader.specs.Verdict.{IsRead}
+use Rattle.pgn_reader.specs.Verdict.{IsReadResult}
 use Rattle.pgn_reader.specs.declared.fault.GameFault.{GameFault}
 
 -- ---- games
 
-pub kept_on : (number : ℕ) (gs hs : KeptGames) (es ds : List Entry) → AreKept number gs es → AreKept (number + length gs) hs ds → AreKept number (gs ++ hs) (es ++ ds)
+pub kept_on : (number : ℕ) (gs hs : KeptGames) (es ds : List ArchiveGame) → AreKept number gs es → AreKept (number + length gs) hs ds → AreKept number (gs ++ hs) (es ++ ds)
 kept_on number [] hs [] ds before after = subst (λ k. AreKept k hs ds) (omega arith) after
 kept_on number [] hs (e ∷ es) ds before after = absurd before
 kept_on number (g ∷ gs) hs [] ds before after = absurd before
 kept_on number (g ∷ gs) hs (e ∷ es) ds before after =
     (before.0, kept_on (number + 1) gs hs es ds before.1 (subst (λ k. AreKept k hs ds) (omega arith) after))
 
-pub kept_count : (number : ℕ) (gs : KeptGames) (es : List Entry) → AreKept number gs es → length es ≡ length gs
+pub kept_count : (number : ℕ) (gs : KeptGames) (es : List ArchiveGame) → AreKept number gs es → length es ≡ length gs
 kept_count number [] [] are = refl
 kept_count number [] (e ∷ es) are = absurd are
 kept_count number (g ∷ gs) [] are = absurd are
@@ -37,17 +37,17 @@ kept_count number (g ∷ gs) (e ∷ es) are = let r = kept_count (number + 1) gs
 
 -- ---- texts
 
-pub lines_on : (mark : List ℕ) (es ds : List Entry) → lines mark (es ++ ds) ≡ lines mark es ++ lines mark ds
-lines_on mark es ds = flat_map-append (λ (e : Entry). line_of mark e.number e.byte e.outcome) es ds
+pub lines_on : (mark : List ℕ) (es ds : List ArchiveGame) → lines mark (es ++ ds) ≡ lines mark es ++ lines mark ds
+lines_on mark es ds = flat_map-append (λ (e : ArchiveGame). line_of mark e.number e.byte e.outcome) es ds
 
-pub faults_on : (es ds : List Entry) → fault_lines (es ++ ds) ≡ fault_lines es ++ fault_lines ds
-faults_on es ds = flat_map-append (λ (e : Entry). fault_of e.number e.outcome) es ds
+pub faults_on : (es ds : List ArchiveGame) → fault_lines (es ++ ds) ≡ fault_lines es ++ fault_lines ds
+faults_on es ds = flat_map-append (λ (e : ArchiveGame). fault_of e.number e.outcome) es ds
 
-pub faulty_on : (es ds : List Entry) → faulty (es ++ ds) ≡ faulty es + faulty ds
-faulty_on es ds = sum_by-append (λ (e : Entry). cond (is_faulty e.outcome) 1 0) es ds
+pub faulty_on : (es ds : List ArchiveGame) → faulty (es ++ ds) ≡ faulty es + faulty ds
+faulty_on es ds = sum_by-append (λ (e : ArchiveGame). cond (is_faulty e.outcome) 1 0) es ds
 
-pub few_faulty : (es : List Entry) → faulty es ≤ length es
-few_faulty es = count_by-le-length (λ (e : Entry). is_faulty e.outcome) es
+pub few_faulty : (es : List ArchiveGame) → faulty es ≤ length es
+few_faulty es = count_by-le-length (λ (e : ArchiveGame). is_faulty e.outcome) es
 
 -- ---- the texts of one game more
 
@@ -82,7 +82,7 @@ few_texts mark number games t are =
     let is = are.faulty_ in omega (arith, few, count, is)
 
 -- a game that is read, and a faulty one
-pub text_read : (mark : List ℕ) (number : ℕ) (g : KeptGame) (game : Game) (t : Texts) → IsRead g.start g.first g.bytes (Ok game)
+pub text_read : (mark : List ℕ) (number : ℕ) (g : KeptGame) (game : Game) (t : Texts) → IsReadResult g.start g.first g.bytes (Ok game)
     → t.lines ≡ json_text mark number g.start game → t.faults ≡ [] → t.faulty ≡ 0 → AreTextsOf mark number (g ∷ []) t
 text_read mark number g game t read lines faults count = record {
   entries = record { number = number; byte = g.start; outcome = Ok game } ∷ [];
@@ -92,7 +92,7 @@ text_read mark number g game t read lines faults count = record {
   faulty_ = count;
 }
 
-pub text_faulty : (mark : List ℕ) (number : ℕ) (g : KeptGame) (fault : GameFault) (t : Texts) → IsRead g.start g.first g.bytes (Err fault)
+pub text_faulty : (mark : List ℕ) (number : ℕ) (g : KeptGame) (fault : GameFault) (t : Texts) → IsReadResult g.start g.first g.bytes (Err fault)
     → t.lines ≡ [] → t.faults ≡ fault_line number fault → t.faulty ≡ 1 → AreTextsOf mark number (g ∷ []) t
 text_faulty mark number g fault t read lines faults count = record {
   entries = record { number = number; byte = g.start; outcome = Err fault } ∷ [];
@@ -105,14 +105,14 @@ text_faulty mark number g fault t read lines faults count = record {
 -- ---- games of an archive as they are kept
 
 abbrev pub Decide : Type 0
-Decide = (start : ℕ) (first : Bool) (bytes : List ℕ) (outcome : Result Game GameFault) → IsRead start first (take (longest + 1) bytes) outcome
-    ↔ IsRead start first bytes outcome
+Decide = (start : ℕ) (first : Bool) (bytes : List ℕ) (outcome : Result Game GameFault) → IsReadResult start first (take (longest + 1) bytes) outcome
+    ↔ IsReadResult start first bytes outcome
 
-kept_read : Decide → (start : ℕ) (first : Bool) (bytes : List ℕ) (r : Result Game GameFault) → IsRead start first (take most_kept bytes) r → IsRead start first bytes r
+kept_read : Decide → (start : ℕ) (first : Bool) (bytes : List ℕ) (r : Result Game GameFault) → IsReadResult start first (take most_kept bytes) r → IsReadResult start first bytes r
 unfolding most_kept
 kept_read decide start first bytes r read = (decide start first bytes r).0 read
 
-pub archive_of : Decide → (number : ℕ) (archive : List ℕ) (ss : List Span) (es : List Entry) → AreKept number (map (kept archive) ss) es → AreEntries archive number ss es
+pub archive_of : Decide → (number : ℕ) (archive : List ℕ) (ss : List Span) (es : List ArchiveGame) → AreKept number (map (kept archive) ss) es → AreEntries archive number ss es
 archive_of decide number archive [] [] are = tt
 archive_of decide number archive [] (e ∷ es) are = absurd are
 archive_of decide number archive (s ∷ ss) [] are = absurd are

@@ -16,7 +16,7 @@ pub mod SameGame
 pub mod Entries
 pub mod Grown
 pub mod Numbers
-pub mod Opening
+pub mod Promised
 pub mod Pages
 pub mod BatchParts
 pub mod Placing

@@ -12,7 +12,7 @@ use Rattle.cq_common.specs.declared.faults.Refusal.{Refusal}
 use Rattle.cq_common.specs.declared.faults.Refusal.TheVariants.{Fault, NoMemory}
 use Rattle.pgn_json.specs.Internal.Pages.{Adds, FailsIn, WaitsOf, WritesText}
 use Rattle.pgn_json.specs.Internal.Texts.{all_lines}
-use Rattle.pgn_json.specs.Writing.{SinkView}
+use Rattle.cq_program.specs.Views.{SinkView}
 use Rattle.pgn_json.specs.declared.texts.Texts.{Texts}
 use Rattle.pgn_json.proofs.Grown.{grew_none, grew_on, rose_on}
 

@@ -6,7 +6,7 @@ use Rattle.std.proofs.lemmas.List.{get_or-set_other, get_or-set_same, length-set
 use Rattle.std.proofs.lemmas.List.Elements.{All-pop}
 use Rattle.std.proofs.lemmas.Option.{get_or_from_slice_get, slice_get-get_or, slice_get_within}
 use Rattle.pgn_batches.specs.declared.kept_game.KeptGame.{KeptGame}
-use Rattle.cq_workers.specs.NumberedOutputs.{IsNumbered, IsOfSome, made_at}
+use Rattle.cq_workers.specs.NumberedOutputs.{IsNumbered, IsOfSome, outputs_at}
 use Rattle.cq_workers.proofs.Counting.{made_more}
 use Rattle.pgn_json.specs.Internal.PartTexts.{AreGameTexts, ArePlaced, IsOfGame, IsPlaced, IsTextsAt, number_in}
 use Rattle.pgn_json.specs.Internal.Parts.{Part, size}
@@ -31,7 +31,7 @@ texts_at part number made texts one number_is same = record {
 pub record ArePlacing (part : Part) (made : List GameTexts) (places : List Texts) : Type 0 where
   pub each : All (IsOfSome (IsTextsAt part)) made
   pub count : length places ≡ size part
-  pub placed : (number : ℕ) → number < size part → (0 < made_at number_in 0 number made) ⊎ IsPlaced part number places
+  pub placed : (number : ℕ) → number < size part → (0 < outputs_at number_in 0 number made) ⊎ IsPlaced part number places
 
 pub starts : (part : Part) (made : List GameTexts) (places : List Texts) → AreGameTexts part made → length places ≡ size part
     → ArePlacing part made places
@@ -93,7 +93,7 @@ there part was now one old new p number other is = (
 )
 
 still : (was now : List GameTexts) (one : GameTexts) → was ≡ now ++ one ∷ [] → (number : ℕ) → (number_in one == 0 + number) ≡ false
-    → 0 < made_at number_in 0 number was → 0 < made_at number_in 0 number now
+    → 0 < outputs_at number_in 0 number was → 0 < outputs_at number_in 0 number now
 still was now one more number other some =
     let adds = made_more (λ (x : GameTexts). number_in x == 0 + number) now was one more in
     let count = rw other at adds in
@@ -101,7 +101,7 @@ still was now one more number other some =
 
 placed_more : (part : Part) (was now : List GameTexts) (one : GameTexts) (old new : List Texts) → Places part was now one old new
     → (number : ℕ) → (number_in one == 0 + number ≡ true) ⊎ (number_in one == 0 + number ≡ false)
-    → (0 < made_at number_in 0 number was) ⊎ IsPlaced part number old → (0 < made_at number_in 0 number now) ⊎ IsPlaced part number new
+    → (0 < outputs_at number_in 0 number was) ⊎ IsPlaced part number old → (0 < outputs_at number_in 0 number now) ⊎ IsPlaced part number new
 placed_more part was now one old new p number (inl same) before = inr (here part was now one old new p number (grind (arith, same)))
 placed_more part was now one old new p number (inr other) (inl some) = inl (still was now one p.more number other some)
 placed_more part was now one old new p number (inr other) (inr is) = inr (there part was now one old new p number (grind (arith, other)) is)
@@ -120,8 +120,8 @@ placed_one part was now one old new more set_ placing =
     }
 
 none_left : (part : Part) (made : List GameTexts) (places : List Texts) (number : ℕ) → made ≡ []
-    → (0 < made_at number_in 0 number made) ⊎ IsPlaced part number places → IsPlaced part number places
-none_left part made places number none (inl some) = let nothing = ap (made_at number_in 0 number) none in absurd (omega (arith, some, nothing))
+    → (0 < outputs_at number_in 0 number made) ⊎ IsPlaced part number places → IsPlaced part number places
+none_left part made places number none (inl some) = let nothing = ap (outputs_at number_in 0 number) none in absurd (omega (arith, some, nothing))
 none_left part made places number none (inr is) = is
 
 pub all_placed : (part : Part) (made : List GameTexts) (places : List Texts) → made ≡ [] → ArePlacing part made places → ArePlaced part places

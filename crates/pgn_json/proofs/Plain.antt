@@ -18,12 +18,12 @@ use Rattle.cq_position.specs.declared.men.Man.TheVariants.{K, Q, R, B, N, P, Bla
 use Rattle.cq_position.specs.declared.men.Side.{Side}
 use Rattle.cq_position.specs.declared.men.Side.TheVariants.{White, Black}
 use Rattle.cq_position.specs.declared.position.Rights.{Rights}
-use Rattle.pgn_json.specs.Strings.{character_text, escape, is_escaped, quoted}
+use Rattle.pgn_json.specs.Strings.{character_text, escape, needs_escape, quoted}
 use Rattle.pgn_json.specs.Values.{plain}
 
 -- ASCII that needs no escape
 abbrev pub is_plain : ℕ → Bool
-is_plain c = nat_lt c 128 && not (is_escaped c)
+is_plain c = nat_lt c 128 && not (needs_escape c)
 
 abbrev pub IsPlain : List ℕ → Type 0
 IsPlain text = list_all is_plain text ≡ true
@@ -34,7 +34,7 @@ not_true false e = refl
 
 one_written : (c : ℕ) → is_plain c ≡ true → character_text c ≡ c ∷ []
 one_written c is =
-    ap (λ b. if b then escape c else encode c) (not_true (is_escaped c) (right_true (nat_lt c 128) _ is))
+    ap (λ b. if b then escape c else encode c) (not_true (needs_escape c) (right_true (nat_lt c 128) _ is))
     ∙ encode_ascii c (ltb-true c 128 (left_true (nat_lt c 128) _ is))
 
 all_written : (text : List ℕ) → IsPlain text → flat_map character_text text ≡ text

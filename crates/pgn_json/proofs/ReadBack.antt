@@ -9,11 +9,11 @@ use Rattle.std.specs.Prelude.{if◌then◌else◌, encode_utf8}
 use Rattle.std.specs.Str.{encode_utf8_all}
 use lib.Utf8.{encode, encodes, low_scalar, scalar, scalars}
 use Rattle.pgn_json.specs.Grammar.{IsReadAs, IsString, Spells, unescaped, by_letter, by_code_unit, SpellsAll}
-use Rattle.pgn_json.specs.Strings.{character_text, characters, escape, is_escaped, quoted, short_letter, string_text}
+use Rattle.pgn_json.specs.Strings.{character_text, characters, escape, needs_escape, quoted, short_letter, string_text}
 use Rattle.pgn_json.proofs.OneReading.{one_string}
 
 abbrev spelling : ℕ → List ℕ
-spelling c = if is_escaped c then escape c else c ∷ []
+spelling c = if needs_escape c then escape c else c ∷ []
 
 low_digit : (d : ℕ) → d < 16 → digit_char d < 128
 low_digit d low = elim (cases_lt d 10) [
@@ -94,7 +94,7 @@ escaped c low = elim (cases_eq c 34) [
       ]
 ]
 
-few_escaped : (c : ℕ) → is_escaped c ≡ true → c < 256
+few_escaped : (c : ℕ) → needs_escape c ≡ true → c < 256
 few_escaped c is = elim (cases_lt c 256) [
   | inl less ↦ less
   | inr more ↦ absurd (let e : false ≡ true = sym (rw (le-ltb c 32 (omega arith), ne_eqb c 34 (λ e. omega arith), ne_eqb c 92 (λ e. omega arith)) refl) ∙ is in cc)
@@ -104,7 +104,7 @@ plain_by : (a b d : Bool) → a ≡ false → b ≡ false → d ≡ false → (n
 plain_by a b d p q r = rw (p, q, r) refl
 
 one_spelled : (c : ℕ) → Spells c (spelling c)
-one_spelled c = elim (is_escaped c) as (λ b. is_escaped c ≡ b → Spells c (if b then escape c else c ∷ [])) [
+one_spelled c = elim (needs_escape c) as (λ b. needs_escape c ≡ b → Spells c (if b then escape c else c ∷ [])) [
   | true ↦ λ is. (escaped c (few_escaped c is)).spells
   | false ↦ λ is.
       let p = or_parts (nat_lt c 32) ((c == 34) || (c == 92)) is in
@@ -113,7 +113,7 @@ one_spelled c = elim (is_escaped c) as (λ b. is_escaped c ≡ b → Spells c (i
 ] refl
 
 one_encoded : (c : ℕ) → encodes (spelling c) ≡ character_text c
-one_encoded c = elim (is_escaped c) as (λ b. is_escaped c ≡ b → encodes (if b then escape c else c ∷ []) ≡ (if b then escape c else encode c)) [
+one_encoded c = elim (needs_escape c) as (λ b. needs_escape c ≡ b → encodes (if b then escape c else c ∷ []) ≡ (if b then escape c else encode c)) [
   | true ↦ λ is. (escaped c (few_escaped c is)).encoded
   | false ↦ λ is. append-nil (encode c)
 ] refl
@@ -133,7 +133,7 @@ both_legal (x ∷ xs) ys a b =
     let parts = and_parts (scalar x) (scalars xs) a in rw (parts.0, both_legal xs ys parts.1 b) refl
 
 one_legal : (c : ℕ) → scalar c ≡ true → scalars (spelling c) ≡ true
-one_legal c legal = elim (is_escaped c) as (λ b. is_escaped c ≡ b → scalars (if b then escape c else c ∷ []) ≡ true) [
+one_legal c legal = elim (needs_escape c) as (λ b. needs_escape c ≡ b → scalars (if b then escape c else c ∷ []) ≡ true) [
   | true ↦ λ is. (escaped c (few_escaped c is)).legal
   | false ↦ λ is. rw legal refl
 ] refl

@@ -1,6 +1,6 @@
--- The words of which `clap` returns an error.
+-- The words of which `clap` returns matches, or an error.
 use Rattle.std.proofs.Common.{◌≡◌, List, [], ◌∷◌, true, sym, subst, ap, inl, inr}
-use Rattle.clap.specs.Words.{App, HasKind, HasMatchesOf, Kinds, Text, fault_of, found_of, is_simple, is_simple_and_free, kind_of, matches_of, rows_of}
+use Rattle.clap.specs.Words.{App, HasKind, HasMatchesOf, Kinds, Text, fault_of, found_of, is_simple, is_simple_and_free, kind_of, matches_of, rows_of, takes}
 use Rattle.clap.specs.declared.error.Error.{Error}
 use Rattle.clap.specs.declared.error.kind.ErrorKind.TheVariants.{OutOfMemory}
 use Rattle.clap.specs.declared.parser.matches.ArgMatches.{ArgMatches}
@@ -23,6 +23,11 @@ only_memory (k ∷ ks) e h empty = cc
 
 -- an error of another kind than memory
 pub refused_words : (a : App) (words : List Text) (e : Error) (refused : WordsRefused) → a ≡ line
-    → (is_simple_and_free a ≡ true → HasKind (fault_of a words) e) → (kind_of e ≡ OutOfMemory → ⊥) → IsRefused words (Fault refused)
-refused_words a words e refused is kinds other = λ empty. other (only_memory (fault_of a words) e (kinds (ap is_simple_and_free is))
-    (subst (λ (x : App). fault_of x words ≡ []) (sym is) empty))
+    → (is_simple_and_free a ≡ true → HasKind (fault_of a words) e)
+    → (takes a words ≡ true → kind_of e ≡ OutOfMemory)
+    → (kind_of e ≡ OutOfMemory → ⊥) → IsRefused words (Fault refused)
+refused_words a words e refused is kinds passes other = (
+  λ empty. other (only_memory (fault_of a words) e (kinds (ap is_simple_and_free is))
+      (subst (λ (x : App). fault_of x words ≡ []) (sym is) empty)),
+  λ taken. other (passes (subst (λ (x : App). takes x words ≡ true) (sym is) taken)),
+)

@@ -22,7 +22,7 @@ use Rattle.pgn_json.specs.GameValue.{fen_members, json_of, mark_members, node_va
 use Rattle.pgn_json.specs.Json.{game_text, is_marked, json_text, move_of, parent_of}
 use Rattle.pgn_tree.specs.Results.{result_text}
 use Rattle.pgn_json.specs.GameConditions.{HasValidNodes}
-use Rattle.pgn_json.specs.GameReading.{game_read, node_read, tag_read}
+use Rattle.pgn_json.specs.GameReading.{decoded_game, decoded_node, decoded_tag}
 use Rattle.pgn_json.proofs.GameJson.{game_written}
 use Rattle.pgn_json.proofs.Left.{others, others_many, other_at}
 use Rattle.pgn_json.proofs.OneValue.{one_spelled}
@@ -64,7 +64,7 @@ same_told mark mark' nodes nodes' k same =
 record SameValue (mark mark' : List ℕ) (ordinal ordinal' byte byte' : ℕ) (g h : Game) : Type 0 where
   counted : ordinal ≡ ordinal'
   begins : byte ≡ byte'
-  tags : map tag_read g.tags ≡ map tag_read h.tags
+  tags : map decoded_tag g.tags ≡ map decoded_tag h.tags
   start : fen_of (node_at g.nodes 0).position ≡ fen_of (node_at h.nodes 0).position
   result : g.result ≡ h.result
   notes : SameNotes (node_at g.nodes 0) (node_at h.nodes 0)
@@ -113,7 +113,7 @@ same_value mark mark' ordinal ordinal' byte byte' g h same =
     record {
       counted = ap (λ l. number_in (member_at l 0).1) all;
       begins = ap (λ l. number_in (member_at l 1).1) all;
-      tags = sym (map_back tag_value tag_in tag_read (λ t. refl) g.tags) ∙ ap (map tag_in) tags ∙ map_back tag_value tag_in tag_read (λ t. refl) h.tags;
+      tags = sym (map_back tag_value tag_in decoded_tag (λ t. refl) g.tags) ∙ ap (map tag_in) tags ∙ map_back tag_value tag_in decoded_tag (λ t. refl) h.tags;
       start = ap (λ l. characters_in (member_at l 3).1) all;
       result = sym (one_result g.result) ∙ ap (λ l. result_back (characters_in (member_at l 4).1)) all ∙ one_result h.result;
       notes = noted.0;
@@ -190,7 +190,7 @@ same_places (suc n) nodes nodes' kept kept' many start each k less low = elim (c
       }
 ]
 
-node_same : (a b : Node) → IsSamePlace a b → SameNotes a b → node_read a ≡ node_read b
+node_same : (a b : Node) → IsSamePlace a b → SameNotes a b → decoded_node a ≡ decoded_node b
 node_same a b place notes = λ i. record {
   parent = place.parent i;
   led_by = place.led_by i;
@@ -206,7 +206,7 @@ value_at value nodes k some_ low =
 
 same_nodes : (mark mark' : List ℕ) (nodes nodes' : List Node) → HasValidNodes nodes → HasValidNodes nodes'
     → fen_of (node_at nodes 0).position ≡ fen_of (node_at nodes' 0).position → SameNotes (node_at nodes 0) (node_at nodes' 0)
-    → map (node_value mark nodes) (others nodes) ≡ map (node_value mark' nodes') (others nodes') → map node_read nodes ≡ map node_read nodes'
+    → map (node_value mark nodes) (others nodes) ≡ map (node_value mark' nodes') (others nodes') → map decoded_node nodes ≡ map decoded_node nodes'
 same_nodes mark mark' nodes nodes' kept kept' fen notes same =
     let many : length nodes ≡ length nodes' = omega (
       arith,
@@ -229,13 +229,13 @@ same_nodes mark mark' nodes nodes' kept kept' fen notes same =
       | inl is ↦ subst (λ i. SameNotes (node_at nodes i) (node_at nodes' i)) (sym is) notes
       | inr not_so ↦ (told k (omega (arith, not_so)) low).notes
     ] in
-    ext_get_or (node_read no_node) (map node_read nodes) (map node_read nodes')
-    (length-map nodes node_read ∙ many ∙ sym (length-map nodes' node_read))
+    ext_get_or (decoded_node no_node) (map decoded_node nodes) (map decoded_node nodes')
+    (length-map nodes decoded_node ∙ many ∙ sym (length-map nodes' decoded_node))
     (λ k less.
-    let low : k < length nodes = omega (arith, less, length-map nodes node_read) in
-    get_or-map node_read nodes k no_node (node_read no_node) low
+    let low : k < length nodes = omega (arith, less, length-map nodes decoded_node) in
+    get_or-map decoded_node nodes k no_node (decoded_node no_node) low
     ∙ node_same (node_at nodes k) (node_at nodes' k) (same_places (length nodes) nodes nodes' kept kept' many start told k low low) (noted k low)
-    ∙ sym (get_or-map node_read nodes' k no_node (node_read no_node) (omega (arith, low, many))))
+    ∙ sym (get_or-map decoded_node nodes' k no_node (decoded_node no_node) (omega (arith, low, many))))
 
 -- a game of which a line is written, and its place in an archive
 pub record IsPlaced (ordinal byte : ℕ) (g : Game) : Type 0 where
@@ -245,7 +245,7 @@ pub record IsPlaced (ordinal byte : ℕ) (g : Game) : Type 0 where
 
 pub same_line : (mark mark' : List ℕ) (ordinal ordinal' byte byte' : ℕ) (g h : Game) → IsPlaced ordinal byte g → IsPlaced ordinal' byte' h
     → json_text mark ordinal byte g ≡ json_text mark' ordinal' byte' h
-    → (ordinal ≡ ordinal') × (byte ≡ byte') × (game_read g ≡ game_read h)
+    → (ordinal ≡ ordinal') × (byte ≡ byte') × (decoded_game g ≡ decoded_game h)
 same_line mark mark' ordinal ordinal' byte byte' g h first second same =
     let text = append_cancel_right (game_text mark ordinal byte g) (game_text mark' ordinal' byte' h) (codes "\n") same in
     let one = game_written mark ordinal byte g first.kept first.number first.begins in

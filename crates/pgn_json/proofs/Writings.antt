@@ -13,11 +13,12 @@ use Rattle.cq_outside.specs.Flow.{Grew}
 use Rattle.cq_report.specs.Games.{summary_line}
 use Rattle.pgn_cut.specs.Cut.{closed, cut}
 use Rattle.pgn_cut.specs.declared.span.Span.{Span}
-use Rattle.pgn_json.specs.Lines.{AreEntries, Entry, fault_lines, lines, summary}
+use Rattle.pgn_json.specs.Lines.{AreEntries, ArchiveGame, fault_lines, lines, summary}
 use Rattle.pgn_json.specs.Internal.Texts.{AnswersBatch, AnswersPart, AreKept, AreTextsOf, HasStopped, HasTaken, HasWritten, HasWrittenFront, IsCutShort, WritesSummary}
-use Rattle.pgn_json.specs.Writing.{AreFirstGames, NoWriteFailed, OneWriteFailed, Pipe, ReadsGames, Says, SinkView, Sinks, Writes, WritesSome, WritesWhole}
-use Rattle.pgn_json.specs.declared.status.Status.{Status}
-use Rattle.pgn_json.specs.declared.status.Status.TheVariants.{Done, DoneWithRefusals, WordsRefused, OpenFault, ReadFault, WriteFault, NoMemory, ArchiveTooLong}
+use Rattle.cq_program.specs.Views.{SinkView}
+use Rattle.pgn_json.specs.Writing.{AreFirstGames, NoWriteFailed, OneWriteFailed, Pipe, ReadsGames, Says, Sinks, Writes, WritesSome, WritesWhole}
+use Rattle.cq_program.specs.declared.status.Status.{Status}
+use Rattle.cq_program.specs.declared.status.Status.TheVariants.{Done, DoneWithRefusals, QueryRefused, WordsRefused, OpenFault, ReadFault, WriteFault, NoMemory, ArchiveTooLong}
 use Rattle.pgn_json.specs.declared.texts.Texts.{Texts}
 use Rattle.pgn_json.proofs.Entries.{Decide, archive_of, faults_on, first_spans, kept_count, kept_on, lines_on, faulty_on}
 use Rattle.pgn_json.proofs.BatchParts.{UpToPart, next_part}
@@ -156,6 +157,7 @@ batch_stops at now WriteFault (front, failed) = (cut_short at now front, one_fai
 batch_stops at now NoMemory (front, same) = (cut_short at now front, none_failed at.was at.mid now at.taken.unfailed same)
 batch_stops at now Done never = absurd never
 batch_stops at now DoneWithRefusals never = absurd never
+batch_stops at now QueryRefused never = absurd never
 batch_stops at now WordsRefused never = absurd never
 batch_stops at now OpenFault never = absurd never
 batch_stops at now ReadFault never = absurd never
@@ -163,7 +165,7 @@ batch_stops at now ArchiveTooLong never = absurd never
 
 -- ---- some first games of an archive
 
-entries_of : Decide → (archive : List ℕ) (ss : List Span) (gs rest : KeptGames) (es : List Entry) → map (kept archive) ss ≡ gs ++ rest → AreKept 1 gs es
+entries_of : Decide → (archive : List ℕ) (ss : List Span) (gs rest : KeptGames) (es : List ArchiveGame) → map (kept archive) ss ≡ gs ++ rest → AreKept 1 gs es
     → AreEntries archive 1 (take (length es) ss) es
 entries_of decide archive ss gs rest es split are =
     let count = kept_count 1 gs es are in
@@ -175,14 +177,14 @@ closed_are : Laws → (front : List ℕ) (gs rest : KeptGames) → whole front �
 closed_are laws front gs rest split =
     sym (laws.all (closed_games front)) ∙ ap (λ l. l ++ left_over (closed_games front)) split ∙ append_assoc gs rest (left_over (closed_games front))
 
-first_by : Decide → Laws → (limit : ℕ) (was now : Pipe) (front : List ℕ) (gs : KeptGames) (es : List Entry)
+first_by : Decide → Laws → (limit : ℕ) (was now : Pipe) (front : List ℕ) (gs : KeptGames) (es : List ArchiveGame)
     → AreLeadingGames gs (whole front) ⊎ (ReadsAll limit was.left now.left front × AreLeadingGames gs (cut_games front)) → AreKept 1 gs es → AreFirstGames limit now front es
 first_by decide laws limit was now front gs es (inl (rest, split)) are =
     inl (entries_of decide front (closed front) gs (rest ++ left_over (closed_games front)) es (closed_are laws front gs rest split) are)
 first_by decide laws limit was now front gs es (inr (all, (rest, split))) are = inr (all.within, all.at_end, entries_of decide front (cut front) gs rest es split are)
 
 -- so many games are in the whole batches of all bytes but those of the last read
-needed_by : Laws → (early : List ℕ) (games : KeptGames) (es : List Entry) → AreLeadingGames (whole early) games → AreKept 1 games es → length (whole_spans early) ≤ length es
+needed_by : Laws → (early : List ℕ) (games : KeptGames) (es : List ArchiveGame) → AreLeadingGames (whole early) games → AreKept 1 games es → length (whole_spans early) ≤ length es
 needed_by laws early games es (rest, split) are =
     let count = kept_count 1 games es are in
     let sizes : length games ≡ length (whole early ++ rest) = ap length split in
@@ -257,6 +259,7 @@ stopped decide laws NoMemory limit mark was now games batch gives (cut_, unfaile
     (inl (stopped_some decide laws limit mark was now games batch gives cut_), same, unfailed)
 stopped decide laws Done limit mark was now games batch gives never same = absurd never
 stopped decide laws DoneWithRefusals limit mark was now games batch gives never same = absurd never
+stopped decide laws QueryRefused limit mark was now games batch gives never same = absurd never
 stopped decide laws WordsRefused limit mark was now games batch gives never same = absurd never
 stopped decide laws OpenFault limit mark was now games batch gives never same = absurd never
 stopped decide laws ReadFault limit mark was now games batch gives never same = absurd never
@@ -371,6 +374,7 @@ ended decide NoMemory limit mark was mid now count games e same = (
   e.counts,
   unfailed_on was.sinks mid.sinks now.sinks e.taken.unfailed e.out_same (ap (λ (s : SinkView). s.faults) same),
 )
+ended decide QueryRefused limit mark was mid now count games e never = absurd never
 ended decide WordsRefused limit mark was mid now count games e never = absurd never
 ended decide OpenFault limit mark was mid now count games e never = absurd never
 ended decide ReadFault limit mark was mid now count games e never = absurd never

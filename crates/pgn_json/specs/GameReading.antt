@@ -5,11 +5,11 @@ use Rattle.pgn_json.specs.Strings.{characters}
 
 -- A game with the characters of each text in the place of its bytes. So a text that is not UTF-8 is taken as the same as the UTF-8 of the
 -- same letters of Latin-1.
-abbrev pub tag_read : List ℕ × List ℕ → List ℕ × List ℕ
-tag_read t = (characters t.0, characters t.1)
+abbrev pub decoded_tag : List ℕ × List ℕ → List ℕ × List ℕ
+decoded_tag t = (characters t.0, characters t.1)
 
-abbrev pub node_read : Node → Node
-node_read n = record n { comments = map characters n.comments }
+abbrev pub decoded_node : Node → Node
+decoded_node n = record n { comments = map characters n.comments }
 
-abbrev pub game_read : Game → Game
-game_read g = record { tags = map tag_read g.tags; result = g.result; nodes = map node_read g.nodes }
+abbrev pub decoded_game : Game → Game
+decoded_game g = record { tags = map decoded_tag g.tags; result = g.result; nodes = map decoded_node g.nodes }

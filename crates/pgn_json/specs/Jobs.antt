@@ -1,10 +1,11 @@
 -- The job that the command words name.
-use Rattle.std.specs.Prelude.{◌≡◌, ◌≤◌, ℕ, List, [], Option, Some, None, Result, Ok, Err, codes, if◌then◌else◌}
+use Rattle.std.specs.Prelude.{◌≡◌, ◌⊎◌, ◌≤◌, ℕ, true, List, [], Option, Some, None, Result, Ok, Err, codes, if◌then◌else◌}
 use Rattle.std.specs.Prelude.{option_map, option_and_then, unwrap_or}
 use Rattle.std.specs.Str.Parse.{digits_value, without_leading_plus}
 use Rattle.clap.specs.Walk.{Row, Text, first_of, is_empty, rows_of}
 use Rattle.clap.specs.ValueTests.{is_unsigned_in}
 use Rattle.clap.specs.Simple.{matches_of}
+use Rattle.clap.specs.Takes.{takes}
 use Rattle.clap.specs.Faults.{fault_of}
 use Rattle.clap.specs.Matches.{found_of}
 use Rattle.clap.specs.declared.parser.matches.ArgMatches.{ArgMatches}
@@ -51,11 +52,16 @@ Answers asked (Err NoMemory) = Unit {0}
 abbrev pub IsInRange : Job → Type 0
 IsInRange job = (1 ≤ job.workers) × (job.workers ≤ 64) × (1 ≤ job.limit) × (job.limit ≤ 1099511627776)
 
+-- The words name this job, or none: by the matches that `clap` promises if it promises to take them, or by the faults that it finds in
+-- them.
+abbrev pub Asks : List Text → Option Job → Type 0
+Asks words job = ((takes line words ≡ true) × (job_in (matches_of line words) ≡ job)) ⊎ (job_of_words words ≡ job)
+
 -- the words have no fault, and these are their matches
 abbrev pub HasMatches : List Text → ArgMatches → Type 0
 HasMatches words found = (fault_of line words ≡ []) × (rows_of (found_of found) ≡ matches_of line words)
 
--- unless out of memory, the words have a fault
+-- unless out of memory, the words have a fault, and `clap` does not promise to take them
 abbrev pub IsRefused : List Text → Refusal WordsRefused → Type 0
-IsRefused words (Fault refused) = fault_of line words ≡ [] → ⊥
+IsRefused words (Fault refused) = (fault_of line words ≡ [] → ⊥) × (takes line words ≡ true → ⊥)
 IsRefused words NoMemory = Unit {0}

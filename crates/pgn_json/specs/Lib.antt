@@ -9,7 +9,6 @@ pub mod GameConditions
 pub mod GameReading
 pub mod Line
 pub mod Jobs
-pub mod Status
 pub mod Lines
 pub mod Writing
 pub mod Promise

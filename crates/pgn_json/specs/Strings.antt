@@ -9,8 +9,8 @@ unfoldable pub characters : List ℕ → List ℕ
 characters text = if is_utf8 text then chars text else text
 
 -- a quote, a backslash and the control characters U+0000 to U+001F need an escape
-abbrev pub is_escaped : ℕ → Bool
-is_escaped c = nat_lt c 32 || (c == 34 || c == 92)
+abbrev pub needs_escape : ℕ → Bool
+needs_escape c = nat_lt c 32 || (c == 34 || c == 92)
 
 -- the letter after the backslash, if there is a short escape: a quote, a backslash, b, t, n, f or r; 0 if there is none
 abbrev pub short_letter : ℕ → ℕ
@@ -26,7 +26,7 @@ escape c =
 
 -- a character in a string, escaped if it has to be
 abbrev pub character_text : ℕ → List ℕ
-character_text c = if is_escaped c then escape c else encode_utf8 c
+character_text c = if needs_escape c then escape c else encode_utf8 c
 
 -- the characters between quotes
 abbrev pub quoted : List ℕ → List ℕ

@@ -6,26 +6,19 @@ use Rattle.pgn_batches.specs.Whole.{whole_spans}
 use Rattle.cq_outside.specs.Faults.{Rose}
 use Rattle.cq_outside.specs.Flow.{Grew}
 use Rattle.pgn_cut.specs.Cut.{closed, cut}
-use Rattle.pgn_json.specs.Lines.{AreEntries, Entry, HasEntries, fault_lines, faulty, lines, summary}
-use Rattle.pgn_json.specs.declared.status.Status.{Status}
-use Rattle.pgn_json.specs.declared.status.Status.TheVariants.{Done, DoneWithRefusals, ReadFault, WriteFault, NoMemory, ArchiveTooLong}
-
--- a sink at one moment: the bytes that it has taken, if it tells them, and the count of failed writes
-pub record SinkView : Type 0 where
-  pub taken : Option (List ℕ)
-  pub faults : ℕ
+use Rattle.pgn_json.specs.Lines.{AreEntries, ArchiveGame, HasEntries, fault_lines, faulty, lines, summary}
+use Rattle.cq_program.specs.Views.{SinkView, sink_view}
+use Rattle.cq_program.specs.declared.status.Status.{Status}
+use Rattle.cq_program.specs.declared.status.Status.TheVariants.{Done, DoneWithRefusals, ReadFault, WriteFault, NoMemory, ArchiveTooLong}
 
 -- the sinks for the lines and for the report at one moment
 pub record Sinks : Type 0 where
   pub out : SinkView
   pub err : SinkView
 
-abbrev pub view_of : {X : Type 0} → (X → Option (List ℕ)) → (X → ℕ) → X → SinkView
-view_of taken faults sink = record { taken = taken sink; faults = faults sink }
-
 abbrev pub sinks_of : {O E : Type 0} → (O → Option (List ℕ)) → (O → ℕ) → (E → Option (List ℕ)) → (E → ℕ) → O → E → Sinks
 sinks_of out_taken out_faults err_taken err_faults out err =
-    record { out = view_of out_taken out_faults out; err = view_of err_taken err_faults err }
+    record { out = sink_view out_taken out_faults out; err = sink_view err_taken err_faults err }
 
 -- these texts were written
 pub record Writes (was now : Sinks) (out err : List ℕ) : Type 0 where
@@ -62,7 +55,7 @@ abbrev pub NoReadFailed : Pipe → Pipe → Type 0
 NoReadFailed was now = now.read_faults ≡ was.read_faults
 
 -- The archive was read to its end, and these are its games.
-pub record ReadsGames (limit : ℕ) (was now : Pipe) (archive : List ℕ) (entries : List Entry) : Type 0 where
+pub record ReadsGames (limit : ℕ) (was now : Pipe) (archive : List ℕ) (entries : List ArchiveGame) : Type 0 where
   pub reads : Consumes was.left now.left archive
   pub within : length archive ≤ limit
   pub whole : IsAtEnd now.left
@@ -71,7 +64,7 @@ pub record ReadsGames (limit : ℕ) (was now : Pipe) (archive : List ℕ) (entri
 -- All games were written, and the report.
 pub record WritesAll (limit : ℕ) (mark : List ℕ) (AreFaulty : ℕ → Type 0) (was now : Pipe) : Type 0 where
   pub archive : List ℕ
-  pub entries : List Entry
+  pub entries : List ArchiveGame
   pub reads : ReadsGames limit was now archive entries
   pub faulty_ : AreFaulty (faulty entries)
   pub writes : Writes was.sinks now.sinks (lines mark entries) (fault_lines entries ++ summary entries)
@@ -79,7 +72,7 @@ pub record WritesAll (limit : ℕ) (mark : List ℕ) (AreFaulty : ℕ → Type 0
 -- All games were written, and a prefix of the last line of the report.
 pub record WritesGames (limit : ℕ) (mark : List ℕ) (was now : Pipe) : Type 0 where
   pub archive : List ℕ
-  pub entries : List Entry
+  pub entries : List ArchiveGame
   pub reads : ReadsGames limit was now archive entries
   pub count : ℕ
   pub writes : Writes was.sinks now.sinks (lines mark entries) (fault_lines entries ++ take count (summary entries))
@@ -87,7 +80,7 @@ pub record WritesGames (limit : ℕ) (mark : List ℕ) (was now : Pipe) : Type 0
 -- These first bytes were read, at most one more than the limit, and the games of their whole batches were written.
 pub record WritesWhole (limit : ℕ) (mark : List ℕ) (AreRead : ℕ → Type 0) (was now : Pipe) : Type 0 where
   pub front : List ℕ
-  pub entries : List Entry
+  pub entries : List ArchiveGame
   pub reads : Consumes was.left now.left front
   pub count : AreRead (length front)
   pub few : length front ≤ limit + 1
@@ -95,7 +88,7 @@ pub record WritesWhole (limit : ℕ) (mark : List ℕ) (AreRead : ℕ → Type 0
   pub writes : Writes was.sinks now.sinks (lines mark entries) (fault_lines entries)
 
 -- Some first games of an archive, of which these bytes were read: games that are closed by these, or any if they are all of it.
-abbrev pub AreFirstGames : ℕ → Pipe → List ℕ → List Entry → Type 0
+abbrev pub AreFirstGames : ℕ → Pipe → List ℕ → List ArchiveGame → Type 0
 AreFirstGames limit now front entries =
     AreEntries front 1 (take (length entries) (closed front)) entries
     ⊎ ((length front ≤ limit) × IsAtEnd now.left × AreEntries front 1 (take (length entries) (cut front)) entries)
@@ -104,8 +97,8 @@ AreFirstGames limit now front entries =
 -- read once that began. The games of the whole batches of all bytes, but for as many at their end as one read gives, were written before.
 pub record WritesSome (limit : ℕ) (mark : List ℕ) (was now : Pipe) : Type 0 where
   pub front : List ℕ
-  pub entries : List Entry
-  pub next : List Entry
+  pub entries : List ArchiveGame
+  pub next : List ArchiveGame
   pub reads : Consumes was.left now.left front
   pub few : length front ≤ limit + 1
   pub are : AreFirstGames limit now front (entries ++ next)

@@ -7,9 +7,9 @@ ghost use Rattle.pgn_json.specs.Internal.Texts.{AnswersBatch, HasStopped, HasTak
 ghost use Rattle.pgn_json.specs.Writing.{Sinks, sinks_of};
 
 use crate::part_texts::{GameTextTask, PART};
-use crate::status::Status;
 use crate::writing::write_part;
 use cq_outside::Sink;
+use cq_program::Status;
 use pgn_batches::{Batch, BatchVisitor};
 use std::alloc::Global;
 use std::thread::Threads;
@@ -29,15 +29,15 @@ impl<'a, R: Threads + Sync, O: Sink, E: Sink> BatchVisitor<O, E> for GameWriter<
     type Stop = Status;
 
     // The bound that threads may share the runtime is repeated here, since `take` does not know the bounds of its block.
-    ghost has_taken = { λ was now games. (IsSync R.row × (now.taker.mark ≡ was.taker.mark)) × HasTaken was.taker.mark.now
+    ghost has_taken = { λ was now games. (IsSync R.row × (now.visitor.mark ≡ was.visitor.mark)) × HasTaken was.visitor.mark.now
         (sinks_of O.taken O.faults E.taken E.faults was.out was.err) (sinks_of O.taken O.faults E.taken E.faults now.out now.err)
-        now.taker.faulty games };
+        now.visitor.faulty games };
 
-    ghost has_stopped = { λ was now games batch status. HasStopped was.taker.mark.now
+    ghost has_stopped = { λ was now games batch status. HasStopped was.visitor.mark.now
         (sinks_of O.taken O.faults E.taken E.faults was.out was.err) (sinks_of O.taken O.faults E.taken E.faults now.out now.err)
         games batch status };
 
-    fn take(&mut self, batch: &Batch, out: &mut O, err: &mut E) -> Option<Status> {
+    fn visit(&mut self, batch: &Batch, out: &mut O, err: &mut E) -> Option<Status> {
         write_batch(self, batch, out, err)
     }
 }

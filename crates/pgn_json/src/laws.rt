@@ -6,7 +6,7 @@ ghost use Rattle.pgn_json.specs.GameValue.{json_of};
 ghost use Rattle.pgn_json.specs.Grammar.{IsReadAs, IsReadAsValue};
 ghost use Rattle.pgn_json.specs.Json.{game_text, json_text};
 ghost use Rattle.pgn_json.specs.GameConditions.{AreBytes, HasByteTexts, HasValidNodes};
-ghost use Rattle.pgn_json.specs.GameReading.{game_read};
+ghost use Rattle.pgn_json.specs.GameReading.{decoded_game};
 ghost use Rattle.pgn_json.specs.Strings.{characters, string_text};
 
 use pgn_tree::{Game, Tags};
@@ -60,7 +60,7 @@ pub fn same_lines_have_the_same_game()
         HasValidNodes g.nodes → HasValidNodes h.nodes →
         number < 2 ^ 64 → other_number < 2 ^ 64 → byte < 2 ^ 64 → other_byte < 2 ^ 64 →
         json_text mark number byte g ≡ json_text other_mark other_number other_byte h →
-        (number ≡ other_number) × (byte ≡ other_byte) × (game_read g ≡ game_read h) }
+        (number ≡ other_number) × (byte ≡ other_byte) × (decoded_game g ≡ decoded_game h) }
 {}
 
 // The names and values of tags are of bytes.

@@ -15,7 +15,6 @@ mod node;
 mod notes;
 mod part_texts;
 mod plies;
-mod status;
 mod strings;
 mod texts;
 mod top_call;
@@ -29,6 +28,5 @@ pub use laws::{
     games_have_valid_nodes, lines_are_json, lines_are_utf8, same_lines_have_the_same_game,
     strings_are_read_back, texts_are_bytes,
 };
-pub use status::Status;
 pub use top_call::{answer_command, refuse_command, run};
 pub use words::read_words;

@@ -38,7 +38,7 @@ impl<'a> GameTask for GameTextTask<'a> {
 
     ghost games = { λ task. size (part_at task.mark.now task.batch.now task.first) };
 
-    ghost has_made = { λ task _ numbers made. HasMadeTexts (part_at task.mark.now task.batch.now task.first) numbers made };
+    ghost has_outputs = { λ task _ numbers made. HasMadeTexts (part_at task.mark.now task.batch.now task.first) numbers made };
 
     fn len(&self) -> u64 {
         u64::from(self.batch.len())

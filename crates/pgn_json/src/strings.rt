@@ -4,7 +4,7 @@ ghost use Rattle.std.specs.Char.{digit_char};
 ghost use Rattle.std.specs.List.{flat_map, list_any};
 ghost use Rattle.std.specs.Prelude.{IsUtf8};
 ghost use Rattle.pgn_json.specs.Internal.Bytes.{byte_text};
-ghost use Rattle.pgn_json.specs.Strings.{character_text, characters, escape, is_escaped, string_text};
+ghost use Rattle.pgn_json.specs.Strings.{character_text, characters, escape, needs_escape, string_text};
 
 use cq_common::{Bytes, NoMemory};
 use std::str;
@@ -43,9 +43,9 @@ fn push_utf8(line: &mut Bytes, text: &[u8]) -> Result<(), NoMemory>
 
 // Returns true if a byte of a text needs an escape.
 fn has_escaped(text: &[u8]) -> bool
-    ensures { result ≡ list_any is_escaped text.now }
+    ensures { result ≡ list_any needs_escape text.now }
 {
-    text.iter().any(|b| is_escaped(*b))
+    text.iter().any(|b| needs_escape(*b))
 }
 
 // Adds the bytes of UTF-8 one after the other.
@@ -62,7 +62,7 @@ fn push_bytes(line: &mut Bytes, text: &[u8]) -> Result<(), NoMemory>
 fn push_byte(line: &mut Bytes, b: u8) -> Result<(), NoMemory>
     ensures { OnOk result (line.new ≡ line.old ++ byte_text b) }
 {
-    if is_escaped(b) {
+    if needs_escape(b) {
         push_escape(line, b)
     } else {
         line.push_all(&[b])
@@ -84,7 +84,7 @@ fn push_latin(line: &mut Bytes, text: &[u8]) -> Result<(), NoMemory>
 fn push_letter(line: &mut Bytes, b: u8) -> Result<(), NoMemory>
     ensures { OnOk result (line.new ≡ line.old ++ character_text b) }
 {
-    if is_escaped(b) {
+    if needs_escape(b) {
         push_escape(line, b)
     } else if b < 0x80 {
         line.push_all(&[b])
@@ -94,8 +94,8 @@ fn push_letter(line: &mut Bytes, b: u8) -> Result<(), NoMemory>
 }
 
 // Returns true if a character needs an escape: a quote, a backslash, or a control character.
-fn is_escaped(b: u8) -> bool
-    ensures { result ≡ is_escaped b }
+fn needs_escape(b: u8) -> bool
+    ensures { result ≡ needs_escape b }
 {
     b < b' ' || b == b'"' || b == b'\\'
 }

@@ -1,15 +1,17 @@
 //! The top call.
 ghost use Rattle.std.specs.Prelude.{map, MatchResult};
 ghost use Rattle.std.specs.String.{string_bytes};
-ghost use Rattle.pgn_json.specs.Promise.{EndsRefused, EndsWithoutWords, EndsWords, Promise, RefusesAnyWords, lent};
-ghost use Rattle.pgn_json.specs.Writing.{pipe_of, view_of};
+ghost use Rattle.cq_program.specs.Call.{call_of};
+ghost use Rattle.cq_program.specs.Ends.{EndsRefused, EndsWithoutWords, EndsWords};
+ghost use Rattle.cq_program.specs.Views.{SinkView, desk_view, sink_view, sinks_of};
+ghost use Rattle.pgn_json.specs.Promise.{Promise, usage_line};
 
 use crate::game_writer::GameWriter;
-use crate::status::Status;
 use crate::words::read_words;
 use crate::write_archive::write_archive;
 use cq_common::{NoMemory, OpenFault, Refusal};
-use cq_outside::{Desk, Sink, write_all_of};
+use cq_outside::{Desk, Sink};
+use cq_program::{Status, refuse_words};
 use pgn_tree::single_spaced;
 use std::alloc::Global;
 use std::thread::Threads;
@@ -46,13 +48,14 @@ pub fn run<R: Threads + Sync, D: Desk, O: Sink, E: Sink>(
     out: &mut O,
     err: &mut E,
 ) -> Status
-    ensures { Promise (map string_bytes words.now) result
-        (lent D.told D.open_faults (pipe_of D.left D.faults O.taken O.faults E.taken E.faults desk.old out.old err.old) desk.old)
-        (lent D.told D.open_faults (pipe_of D.left D.faults O.taken O.faults E.taken E.faults desk.new out.new err.new) desk.new) }
+    ensures { Promise (map string_bytes words.now) result (call_of
+        (desk_view D.told D.left D.faults D.open_faults desk.old) (desk_view D.told D.left D.faults D.open_faults desk.new)
+        (sinks_of (sink_view O.taken O.faults out.old) (sink_view O.taken O.faults out.new)
+        (sink_view E.taken E.faults err.old) (sink_view E.taken E.faults err.new))) }
 {
     let job = match read_words(alloc, words) {
         Ok(job) => job,
-        Err(Refusal::Fault(_)) => return refuse_words(err),
+        Err(Refusal::Fault(_)) => return refuse_words(USAGE, err),
         Err(Refusal::NoMemory) => return Status::NoMemory,
     };
     let Ok(mark) = single_spaced(alloc, job.mark.as_slice()) else {
@@ -74,16 +77,6 @@ pub fn run<R: Threads + Sync, D: Desk, O: Sink, E: Sink>(
     }
 }
 
-// Writes the usage line.
-fn refuse_words<E: Sink>(err: &mut E) -> Status
-    ensures { RefusesAnyWords result (view_of E.taken E.faults err.old) (view_of E.taken E.faults err.new) }
-{
-    match write_all_of(err, USAGE) {
-        Ok(()) => Status::WordsRefused,
-        Err(_) => Status::WriteFault,
-    }
-}
-
 /// Ends the program: does the job of the words after its name as `run` does, and returns the exit status. Out of memory for the words, it
 /// is 7, and nothing is opened, read or written.
 pub fn answer_command<R: Threads + Sync, D: Desk, O: Sink, E: Sink>(
@@ -94,21 +87,23 @@ pub fn answer_command<R: Threads + Sync, D: Desk, O: Sink, E: Sink>(
     out: &mut O,
     err: &mut E,
 ) -> u8
-    ensures { let was = lent D.told D.open_faults
-        (pipe_of D.left D.faults O.taken O.faults E.taken E.faults desk.old out.old err.old) desk.old in
-        let now = lent D.told D.open_faults
-        (pipe_of D.left D.faults O.taken O.faults E.taken E.faults desk.new out.new err.new) desk.new in
-        MatchResult words (λ given. EndsWords (map string_bytes given.items) result was now) (λ _. EndsWithoutWords result was now) }
+    ensures { let call = call_of
+        (desk_view D.told D.left D.faults D.open_faults desk.old) (desk_view D.told D.left D.faults D.open_faults desk.new)
+        (sinks_of (sink_view O.taken O.faults out.old) (sink_view O.taken O.faults out.new)
+        (sink_view E.taken E.faults err.old) (sink_view E.taken E.faults err.new)) in
+        MatchResult words (λ given. EndsWords Promise (map string_bytes given.items) result call) (λ _. EndsWithoutWords result call) }
 {
-    match words {
-        Ok(words) => run(rt, alloc, words.as_slice(), desk, out, err).exit_code(),
-        Err(NoMemory) => Status::NoMemory.exit_code(),
-    }
+    let status = match words {
+        Ok(words) => run(rt, alloc, words.as_slice(), desk, out, err),
+        Err(NoMemory) => Status::NoMemory,
+    };
+    status.exit_code()
 }
 
 /// Ends the program for a word that is no text: writes the usage line to `err`, and returns the exit status, 3, or 6 if `err` failed.
 pub fn refuse_command<E: Sink>(err: &mut E) -> u8
-    ensures { EndsRefused result (view_of E.taken E.faults err.old) (view_of E.taken E.faults err.new) }
+    ensures { (out : SinkView) → EndsRefused usage_line result
+        (sinks_of out out (sink_view E.taken E.faults err.old) (sink_view E.taken E.faults err.new)) }
 {
-    refuse_words(err).exit_code()
+    refuse_words(USAGE, err).exit_code()
 }

@@ -1,11 +1,12 @@
 //! From the words to a job.
-ghost use Rattle.std.specs.Prelude.{◌≡◌, ◌≤◌, IfOk, IfSome, MatchResult, map, option_map};
+ghost use Rattle.std.specs.Prelude.{◌≡◌, ◌≤◌, IfOk, IfSome, MatchResult, map, option_map, true};
 ghost use Rattle.std.specs.String.{string_bytes};
-ghost use Rattle.clap.specs.Words.{first_of, found_of, rows_of};
+ghost use Rattle.clap.specs.Words.{first_of, found_of, matches_of, rows_of, takes};
+ghost use Rattle.pgn_json.specs.Line.{line};
 ghost use Rattle.pgn_json.specs.Jobs.{Answers, HasMatches, IsInRange, IsRefused, archive_in, job_of_words, job_in, mark_in, number_of, number_or};
 
 use crate::job::{BYTES_LIMIT, Job, WORKERS_LIMIT, WordsRefused};
-use crate::line::line;
+use crate::line;
 use clap::ArgMatches;
 use clap::error::ErrorKind;
 use cq_common::{Bytes, NoMemory, Refusal};
@@ -61,7 +62,7 @@ fn mark_in(alloc: Global, matches: &ArgMatches<'_>) -> Result<Bytes, NoMemory>
 fn matched<'a>(alloc: Global, words: &'a [String]) -> Result<ArgMatches<'a>, Refusal<WordsRefused>>
     ensures { MatchResult result (HasMatches (map string_bytes words.now)) (IsRefused (map string_bytes words.now)) }
 {
-    match line(alloc)?.try_get_matches_from(words) {
+    match line::line(alloc)?.try_get_matches_from(words) {
         Ok(matches) => Ok(matches),
         Err(error) if error.kind() == ErrorKind::OutOfMemory => Err(Refusal::NoMemory),
         Err(_) => Err(Refusal::Fault(WordsRefused)),
@@ -95,6 +96,8 @@ fn job_in(alloc: Global, matches: &ArgMatches<'_>) -> Result<Job, Refusal<WordsR
 /// - `NoMemory`: out of memory.
 pub fn read_words(alloc: Global, words: &[String]) -> Result<Job, Refusal<WordsRefused>>
     ensures value { Answers (job_of_words (map string_bytes words.now)) result }
+    ensures taken { takes line (map string_bytes words.now) ≡ true
+        → Answers (job_in (matches_of line (map string_bytes words.now))) result }
     ensures range { IfOk result IsInRange }
 {
     let matches = matched(alloc, words)?;

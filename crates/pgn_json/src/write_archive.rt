@@ -1,12 +1,13 @@
 //! Writing the games of the archive that a source has left.
 ghost use Rattle.std.specs.Prelude.{◌≡◌, ◌≤◌, ◌^◌};
 ghost use Rattle.pgn_json.specs.Internal.Texts.{WritesSummary};
-ghost use Rattle.pgn_json.specs.Writing.{Says, pipe_of, view_of};
+ghost use Rattle.cq_program.specs.Views.{sink_view};
+ghost use Rattle.pgn_json.specs.Writing.{Says, pipe_of};
 
 use crate::game_writer::GameWriter;
-use crate::status::Status;
 use cq_common::Refusal;
 use cq_outside::{Sink, Source, write_all_of};
+use cq_program::Status;
 use cq_report::summary_line;
 use pgn_batches::laws::archives_come_in_batches;
 use pgn_batches::{BatchFault, VisitEnd, visit_batches};
@@ -46,7 +47,7 @@ pub(crate) fn write_archive<R: Threads + Sync, S: Source, O: Sink, E: Sink>(
 // Writes the last line of the report.
 fn write_summary<E: Sink>(alloc: Global, games: u64, faulty: u64, err: &mut E) -> Status
     requires { faulty ≤ games }
-    ensures { WritesSummary games faulty (view_of E.taken E.faults err.old) (view_of E.taken E.faults err.new) result }
+    ensures { WritesSummary games faulty (sink_view E.taken E.faults err.old) (sink_view E.taken E.faults err.new) result }
 {
     let Ok(line) = summary_line(alloc, games, games - faulty, faulty) else {
         return Status::NoMemory;

@@ -4,13 +4,14 @@ ghost use Rattle.std.specs.Prelude.{◌≡◌, ◌++◌, ◌≤◌, ◌^◌, [],
 ghost use Rattle.pgn_json.specs.Internal.Pages.{Adds, WaitsOf, WritesText};
 ghost use Rattle.pgn_json.specs.Internal.Parts.{part_at};
 ghost use Rattle.pgn_json.specs.Internal.Texts.{AnswersPart, all_faults, all_faulty, all_lines};
-ghost use Rattle.pgn_json.specs.Writing.{SinkView, sinks_of, view_of};
+ghost use Rattle.cq_program.specs.Views.{SinkView, sink_view};
+ghost use Rattle.pgn_json.specs.Writing.{sinks_of};
 
 use crate::part_texts::{GameTextTask, part_texts};
-use crate::status::Status;
 use crate::texts::Texts;
 use cq_common::{Bytes, Failed, NoMemory, Refusal};
 use cq_outside::{Sink, write_all_of};
+use cq_program::Status;
 use std::alloc::Global;
 use std::thread::Threads;
 
@@ -69,7 +70,7 @@ fn joined_faults(alloc: Global, texts: &[Texts]) -> Result<(Bytes, u64), NoMemor
 
 // Writes the lines of the games that are read.
 fn write_lines<O: Sink>(alloc: Global, texts: &[Texts], out: &mut O) -> Result<(), Refusal<Failed>>
-    ensures { WritesText (all_lines texts.now) (view_of O.taken O.faults out.old) (view_of O.taken O.faults out.new) result }
+    ensures { WritesText (all_lines texts.now) (sink_view O.taken O.faults out.old) (sink_view O.taken O.faults out.new) result }
 {
     let mut page = Vec::new(alloc);
     for i in 0..texts.len() {
@@ -83,8 +84,8 @@ fn write_lines<O: Sink>(alloc: Global, texts: &[Texts], out: &mut O) -> Result<(
 
 // Adds a text to the waiting bytes, which are written once they fill a page. A text that fills a page alone is not copied.
 fn add_text<O: Sink>(page: &mut Vec<u8>, text: &[u8], out: &mut O) -> Result<(), Refusal<Failed>>
-    ensures { (was : SinkView) (before : List ℕ) → WaitsOf before was (view_of O.taken O.faults out.old) page.old.items
-        → Adds (before ++ text.now) was (view_of O.taken O.faults out.new) page.new.items result }
+    ensures { (was : SinkView) (before : List ℕ) → WaitsOf before was (sink_view O.taken O.faults out.old) page.old.items
+        → Adds (before ++ text.now) was (sink_view O.taken O.faults out.new) page.new.items result }
 {
     if text.len() >= PAGE {
         return write_long(page, text, out);
@@ -101,8 +102,8 @@ fn add_text<O: Sink>(page: &mut Vec<u8>, text: &[u8], out: &mut O) -> Result<(),
 
 // Writes the waiting bytes, and then a text.
 fn write_long<O: Sink>(page: &mut Vec<u8>, text: &[u8], out: &mut O) -> Result<(), Refusal<Failed>>
-    ensures { (was : SinkView) (before : List ℕ) → WaitsOf before was (view_of O.taken O.faults out.old) page.old.items
-        → Adds (before ++ text.now) was (view_of O.taken O.faults out.new) page.new.items result }
+    ensures { (was : SinkView) (before : List ℕ) → WaitsOf before was (sink_view O.taken O.faults out.old) page.old.items
+        → Adds (before ++ text.now) was (sink_view O.taken O.faults out.new) page.new.items result }
 {
     match write_page(page, out) {
         Ok(()) => {}
@@ -116,8 +117,8 @@ fn write_long<O: Sink>(page: &mut Vec<u8>, text: &[u8], out: &mut O) -> Result<(
 
 // Writes the waiting bytes.
 fn write_page<O: Sink>(page: &mut Vec<u8>, out: &mut O) -> Result<(), Refusal<Failed>>
-    ensures adds { (was : SinkView) (before : List ℕ) → WaitsOf before was (view_of O.taken O.faults out.old) page.old.items
-        → Adds before was (view_of O.taken O.faults out.new) page.new.items result }
+    ensures adds { (was : SinkView) (before : List ℕ) → WaitsOf before was (sink_view O.taken O.faults out.old) page.old.items
+        → Adds before was (sink_view O.taken O.faults out.new) page.new.items result }
     ensures nothing { OnOk result (page.new.items ≡ []) }
 {
     match write_all_of(out, page.as_slice()) {

@@ -12,7 +12,7 @@ use Rattle.pgn_pieces.specs.Table.{line, table}
 use Rattle.pgn_pieces.specs.declared.piece.Piece.{Piece}
 use Rattle.pgn_pieces.specs.declared.state.Pieces.{Pieces}
 use Rattle.pgn_pieces.specs.Cutting.{Pipe, HasCut, WritesFirst, Says}
-use Rattle.pgn_pieces.specs.declared.status.Status.TheVariants.{Done, ReadFault, WriteFault, NoMemory, ArchiveTooLong}
+use Rattle.cq_program.specs.declared.status.Status.TheVariants.{Done, ReadFault, WriteFault, NoMemory, ArchiveTooLong}
 
 -- ---- reads and writes one after another
 

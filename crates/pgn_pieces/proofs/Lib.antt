@@ -4,5 +4,5 @@ pub mod Covers
 pub mod Apart
 pub mod Cuts
 pub mod Numbers
-pub mod Opening
+pub mod Promised
 pub mod Refusals

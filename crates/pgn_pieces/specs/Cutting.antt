@@ -8,8 +8,8 @@ use Rattle.pgn_pieces.specs.State.{Stands}
 use Rattle.pgn_pieces.specs.Table.{table}
 use Rattle.pgn_pieces.specs.declared.piece.Piece.{Piece}
 use Rattle.pgn_pieces.specs.declared.state.Pieces.{Pieces}
-use Rattle.pgn_pieces.specs.declared.status.Status.{Status}
-use Rattle.pgn_pieces.specs.declared.status.Status.TheVariants.{Done, ReadFault, WriteFault, NoMemory, ArchiveTooLong}
+use Rattle.cq_program.specs.declared.status.Status.{Status}
+use Rattle.cq_program.specs.declared.status.Status.TheVariants.{Done, ReadFault, WriteFault, NoMemory, ArchiveTooLong}
 
 -- A source and a sink at one moment: the bytes that are left and those that are taken, if these are told, and the counts of failed reads
 -- and writes.

@@ -7,9 +7,9 @@ ghost use Rattle.pgn_pieces.specs.Cutting.{HasCut, Pipe, Says, pipe};
 
 use crate::job::BYTES_LIMIT;
 use crate::state::Pieces;
-use crate::status::Status;
 use cq_common::Bytes;
 use cq_outside::{Sink, Source, read_piece, write_all_of};
+use cq_program::Status;
 use std::alloc::Global;
 
 /// The bytes of a buffer for one read.

@@ -1,15 +1,16 @@
 //! The top call.
-ghost use Rattle.std.specs.Prelude.{ℕ, Option, map, MatchResult};
+ghost use Rattle.std.specs.Prelude.{map, MatchResult};
 ghost use Rattle.std.specs.String.{string_bytes};
-ghost use Rattle.cq_outside.specs.DeskFiles.{DeskFiles};
-ghost use Rattle.pgn_pieces.specs.Cutting.{Pipe, pipe};
-ghost use Rattle.pgn_pieces.specs.Promise.{EndsWithoutWords, EndsWords, Promise, RefusesWords, lent};
+ghost use Rattle.cq_program.specs.Call.{call_of};
+ghost use Rattle.cq_program.specs.Ends.{EndsWithoutWords, EndsWords};
+ghost use Rattle.cq_program.specs.Views.{desk_view, sink_view, sinks_of};
+ghost use Rattle.pgn_pieces.specs.Promise.{Promise};
 
 use crate::cutting::cut;
-use crate::status::Status;
 use crate::words::read_words;
 use cq_common::{NoMemory, OpenFault, Refusal};
-use cq_outside::{Desk, Sink, write_all_of};
+use cq_outside::{Desk, Sink};
+use cq_program::{Status, refuse_words};
 use std::alloc::Global;
 
 /// The line for words that are no command.
@@ -41,31 +42,20 @@ pub fn run<D: Desk, O: Sink, E: Sink>(
     out: &mut O,
     err: &mut E,
 ) -> Status
-    ensures { Promise (map string_bytes words.now) result
-        (lent D.told D.open_faults (pipe D.left D.faults O.taken O.faults desk.old out.old) E.taken E.faults desk.old err.old)
-        (lent D.told D.open_faults (pipe D.left D.faults O.taken O.faults desk.new out.new) E.taken E.faults desk.new err.new) }
+    ensures { Promise (map string_bytes words.now) result (call_of
+        (desk_view D.told D.left D.faults D.open_faults desk.old) (desk_view D.told D.left D.faults D.open_faults desk.new)
+        (sinks_of (sink_view O.taken O.faults out.old) (sink_view O.taken O.faults out.new)
+        (sink_view E.taken E.faults err.old) (sink_view E.taken E.faults err.new))) }
 {
     let job = match read_words(alloc, words) {
         Ok(job) => job,
-        Err(Refusal::Fault(_)) => return refuse_words(err),
+        Err(Refusal::Fault(_)) => return refuse_words(USAGE, err),
         Err(Refusal::NoMemory) => return Status::NoMemory,
     };
     match desk.open(alloc, job.archive.as_slice()) {
         Ok(()) => cut(alloc, desk, out, job.least),
         Err(OpenFault::Failed) => Status::OpenFault,
         Err(OpenFault::NoMemory) => Status::NoMemory,
-    }
-}
-
-// Writes the usage line.
-fn refuse_words<E: Sink>(err: &mut E) -> Status
-    ensures { (told : Option DeskFiles) (open_faults : ℕ) (p : Pipe) → RefusesWords result
-        (record { told = told; open_faults = open_faults; pipe_ = p; err_taken = E.taken err.old; err_faults = E.faults err.old })
-        (record { told = told; open_faults = open_faults; pipe_ = p; err_taken = E.taken err.new; err_faults = E.faults err.new }) }
-{
-    match write_all_of(err, USAGE) {
-        Ok(()) => Status::WordsRefused,
-        Err(_) => Status::WriteFault,
     }
 }
 
@@ -78,14 +68,15 @@ pub fn answer_command<D: Desk, O: Sink, E: Sink>(
     out: &mut O,
     err: &mut E,
 ) -> u8
-    ensures { let before = pipe D.left D.faults O.taken O.faults desk.old out.old in
-        let after = pipe D.left D.faults O.taken O.faults desk.new out.new in
-        let was = lent D.told D.open_faults before E.taken E.faults desk.old err.old in
-        let now = lent D.told D.open_faults after E.taken E.faults desk.new err.new in
-        MatchResult words (λ given. EndsWords (map string_bytes given.items) result was now) (λ _. EndsWithoutWords result was now) }
+    ensures { let call = call_of
+        (desk_view D.told D.left D.faults D.open_faults desk.old) (desk_view D.told D.left D.faults D.open_faults desk.new)
+        (sinks_of (sink_view O.taken O.faults out.old) (sink_view O.taken O.faults out.new)
+        (sink_view E.taken E.faults err.old) (sink_view E.taken E.faults err.new)) in
+        MatchResult words (λ given. EndsWords Promise (map string_bytes given.items) result call) (λ _. EndsWithoutWords result call) }
 {
-    match words {
-        Ok(words) => run(alloc, words.as_slice(), desk, out, err).exit_code(),
-        Err(NoMemory) => Status::NoMemory.exit_code(),
-    }
+    let status = match words {
+        Ok(words) => run(alloc, words.as_slice(), desk, out, err),
+        Err(NoMemory) => Status::NoMemory,
+    };
+    status.exit_code()
 }

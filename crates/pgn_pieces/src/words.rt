@@ -1,13 +1,14 @@
 //! From the words to a job.
-ghost use Rattle.std.specs.Prelude.{◌≡◌, ◌≤◌, ◌↔◌, IfOk, IfSome, MatchResult, map, option_map};
+ghost use Rattle.std.specs.Prelude.{◌≡◌, ◌≤◌, IfOk, IfSome, MatchResult, map, option_map, true};
 ghost use Rattle.std.specs.String.{string_bytes};
-ghost use Rattle.clap.specs.Words.{first_of, found_of, kind_of, rows_of};
+ghost use Rattle.clap.specs.Words.{first_of, found_of, matches_of, rows_of, takes};
+ghost use Rattle.pgn_pieces.specs.Line.{line};
 ghost use Rattle.pgn_pieces.specs.Jobs.{Answers, HasMatches, IsRefused, job_of_words, job_in, number_of};
 
 use crate::job::{BYTES_LIMIT, Job, WordsRefused};
-use crate::line::line;
+use crate::line;
 use clap::ArgMatches;
-use clap::error::{Error, ErrorKind};
+use clap::error::ErrorKind;
 use cq_common::{Bytes, Refusal};
 use std::alloc::Global;
 
@@ -29,23 +30,14 @@ fn number_of(text: &str) -> Option<u64>
     }
 }
 
-// Returns the cause of an error of `clap`: the words, unless out of memory.
-fn refusal_of(error: &Error) -> Refusal<WordsRefused>
-    ensures { (result ≡ Refusal.NoMemory) ↔ (kind_of error.now ≡ ErrorKind.OutOfMemory) }
-{
-    match error.kind() {
-        ErrorKind::OutOfMemory => Refusal::NoMemory,
-        _ => Refusal::Fault(WordsRefused),
-    }
-}
-
 // Returns the matches that `clap` finds in the words.
 fn matched<'a>(alloc: Global, words: &'a [String]) -> Result<ArgMatches<'a>, Refusal<WordsRefused>>
     ensures { MatchResult result (HasMatches (map string_bytes words.now)) (IsRefused (map string_bytes words.now)) }
 {
-    match line(alloc)?.try_get_matches_from(words) {
+    match line::line(alloc)?.try_get_matches_from(words) {
         Ok(matches) => Ok(matches),
-        Err(error) => Err(refusal_of(&error)),
+        Err(error) if error.kind() == ErrorKind::OutOfMemory => Err(Refusal::NoMemory),
+        Err(_) => Err(Refusal::Fault(WordsRefused)),
     }
 }
 
@@ -73,6 +65,8 @@ fn job_in(alloc: Global, matches: &ArgMatches<'_>) -> Result<Job, Refusal<WordsR
 /// - `NoMemory`: out of memory.
 pub fn read_words(alloc: Global, words: &[String]) -> Result<Job, Refusal<WordsRefused>>
     ensures value { Answers (job_of_words (map string_bytes words.now)) result }
+    ensures taken { takes line (map string_bytes words.now) ≡ true
+        → Answers (job_in (matches_of line (map string_bytes words.now))) result }
     ensures range { IfOk result (λ job. (1 ≤ job.least) × (job.least ≤ 1099511627776)) }
 {
     let matches = matched(alloc, words)?;

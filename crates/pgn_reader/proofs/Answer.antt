@@ -9,9 +9,9 @@ use Rattle.pgn_reader.specs.declared.fault.Reason.TheVariants.{TooManyPositions}
 use Rattle.pgn_reader.specs.Words.{Word}
 use Rattle.pgn_reader.specs.Tags.{result_of_tags}
 use Rattle.pgn_reader.specs.Line.{beginning, ParsesLine}
-use Rattle.pgn_reader.specs.Games.{SpellsAny, Spells}
+use Rattle.pgn_reader.specs.Games.{SpellsOfAnyLength, Spells}
 use Rattle.pgn_reader.specs.ReadingPlace.{OpenLines, outermost, within, depth_of, Reaches, IsReadingPlace, fault_at, fault_at_end, moves_before}
-use Rattle.pgn_reader.specs.Faults.{Begins, IsFault}
+use Rattle.pgn_reader.specs.Faults.{IsViablePrefix, IsFault}
 use Rattle.pgn_reader.specs.Internal.Frame.{NodeRow, Frame, place, whole}
 use Rattle.pgn_reader.specs.Internal.Machine.{Head, State, opened, named, valued, at, ended, stuck, feed, run, first}
 use Rattle.pgn_reader.specs.Internal.ReaderView.{moves_in}
@@ -19,7 +19,7 @@ use Rattle.pgn_reader.specs.Internal.GameAssembly.{path_down, nodes_by, nodes_of
 use Rattle.pgn_reader.proofs.Read.{run_append}
 use Rattle.pgn_reader.proofs.LineTail.{Stack}
 use Rattle.pgn_reader.proofs.Stands.{Stands, all_stands}
-use Rattle.pgn_reader.proofs.Whole.{IsEnd, IsRead, spelled_is_read, Spelled, read_at, read_ended, begins, stuck_is_dead}
+use Rattle.pgn_reader.proofs.Whole.{IsEnd, IsReadResult, spelled_is_read, Spelled, read_at, read_ended, begins, stuck_is_dead}
 use Rattle.pgn_reader.proofs.Count.{run_counts, first_counts, Counts}
 
 -- the place that what has begun reaches, and how many variations are open
@@ -59,11 +59,11 @@ spelled_end : (ts : List Word) (h : Head) (f : Frame) (result : GameResult) → 
 spelled_end ts h f result (inl there) = read_at ts h f there.0
 spelled_end ts h f result (inr there) = read_ended ts h f result there
 
-pub spells_shown : (ts : List Word) (h : Head) (f : Frame) (result : GameResult) → IsEnd (run first ts) h f result → SpellsAny ts (game_of_frame h f result)
+pub spells_shown : (ts : List Word) (h : Head) (f : Frame) (result : GameResult) → IsEnd (run first ts) h f result → SpellsOfAnyLength ts (game_of_frame h f result)
 spells_shown ts h f result is_end =
     let spelled : Spelled ts = spelled_end ts h f result is_end in
-    let r : IsRead ts spelled.game = spelled_is_read ts spelled.game spelled.spells in
-    subst (SpellsAny ts) (r.game ∙ same_end (run first ts) h r.head f r.frame result r.result is_end r.is_end) spelled.spells
+    let r : IsReadResult ts spelled.game = spelled_is_read ts spelled.game spelled.spells in
+    subst (SpellsOfAnyLength ts) (r.game ∙ same_end (run first ts) h r.head f r.frame result r.result is_end r.is_end) spelled.spells
 
 nodes_length : (rows : List NodeRow) (way : List ℕ) (k : ℕ) → length (nodes_by way k rows) ≡ length rows
 unfolding nodes_by
@@ -83,7 +83,7 @@ whole_counts ts h f result is_end = counts_end (run first ts) h f result is_end 
 
 pub read_iff : (ts : List Word) (h : Head) (f : Frame) (result : GameResult) → IsEnd (run first ts) h f result → h.moves ≤ 65535 → (g : Game) → Spells ts g ↔ (g ≡ game_of_frame h f result)
 read_iff ts h f result is_end few g = (
-  λ spells. let r : IsRead ts g = spelled_is_read ts g spells.spells in r.game ∙ same_end (run first ts) h r.head f r.frame result r.result is_end r.is_end,
+  λ spells. let r : IsReadResult ts g = spelled_is_read ts g spells.spells in r.game ∙ same_end (run first ts) h r.head f r.frame result r.result is_end r.is_end,
   λ is. subst (Spells ts) (sym is) (record {
     spells = spells_shown ts h f result is_end;
     few = let a = all_nodes_length (whole f) in let b = whole_counts ts h f result is_end in omega (arith, a, b, few);
@@ -156,7 +156,7 @@ pub fault_of_end : (ts : List Word) (s : State) (reason : Reason) → run first 
 fault_of_end ts s reason is live why few =
     let all : take (length ts) ts ≡ ts = take_all (length ts) ts (let e : length ts ≤ length ts = omega arith in e) in
     record {
-      alive = subst Begins (sym all) (begins ts s is live);
+      alive = subst IsViablePrefix (sym all) (begins ts s is live);
       standing = reading_place_of s;
       stands = subst (λ x. IsReadingPlace x (reading_place_of s)) (sym all) (stands_at ts s is few live);
       few = few_before s few;
@@ -164,7 +164,7 @@ fault_of_end ts s reason is live why few =
         refl,
         record {
           why = why;
-          dead = λ g spells. let r : IsRead ts g = spelled_is_read ts g spells in
+          dead = λ g spells. let r : IsReadResult ts g = spelled_is_read ts g spells in
               no_end_fault s r.head r.frame r.result reason (subst (λ x. IsEnd x r.head r.frame r.result) is r.is_end) why;
         },
       );

@@ -12,7 +12,7 @@ use Rattle.pgn_lexer.specs.declared.token.TokenKind.TheVariants.{Open, Close, Te
 use Rattle.pgn_reader.specs.Words.{Word, Sense, plays, annotates, remarks, ends, opens, closes, means_nothing, out_of_place, sense}
 use Rattle.cq_position.specs.Games.{with_tag}
 use Rattle.pgn_reader.specs.Tags.{Tags, start_of, value_of}
-use Rattle.pgn_reader.specs.Line.{led_to}
+use Rattle.pgn_reader.specs.Line.{position_after}
 use Rattle.pgn_reader.specs.Internal.Frame.{Frame, last_row_by, last_row, whole, advance, with_glyph, with_remark, with_variation}
 use Rattle.pgn_reader.specs.Internal.Machine.{Head, State, opened, named, valued, at, ended, stuck, on_name, on_start, on_value, on_closing, on_move, on_marker, on_opening, on_end, on_bracket, on_sense, feed, run, first}
 
@@ -63,7 +63,7 @@ noted_length f g moves last here earlier =
 
 move_counts : (h : Head) (f : Frame) (k : List Frame) → Counts (at h f k) → (r : Result Move SanFault) → Counts (on_move h f k r)
 move_counts h f k counts (Err fault) = tt
-move_counts h f k counts (Ok m) = let a = advance_length f m (led_to f.reached m) in omega (arith, a, counts)
+move_counts h f k counts (Ok m) = let a = advance_length f m (position_after f.reached m) in omega (arith, a, counts)
 
 marker_counts : (h : Head) (f : Frame) (k : List Frame) (r : GameResult) → Counts (at h f k) → Counts (on_marker h f k r)
 marker_counts h f [] r counts = omega (arith, counts)

@@ -15,8 +15,8 @@ use Rattle.cq_san.specs.San.{san}
 use Rattle.cq_san.proofs.Means.{exact}
 use Rattle.pgn_reader.specs.Words.{Word, Sense, plays, annotates, remarks, ends, opens, closes, means_nothing, out_of_place, sense}
 use Rattle.pgn_reader.specs.Tags.{tags_of, start_of}
-use Rattle.pgn_reader.specs.Line.{Line, nothing, word, variation, LinePlace, beginning, led_to, moved, LineTail, ParsesWord, ParsesLine, beside, with_leading_notes}
-use Rattle.pgn_reader.specs.Games.{root, nodes_of_tail, SpellsAny}
+use Rattle.pgn_reader.specs.Line.{Line, nothing, word, variation, LinePlace, beginning, position_after, moved, LineTail, ParsesWord, ParsesLine, beside, with_leading_notes}
+use Rattle.pgn_reader.specs.Games.{root, nodes_of_tail, SpellsOfAnyLength}
 use Rattle.pgn_reader.specs.Words.{Word}
 use Rattle.pgn_reader.specs.Internal.Frame.{Frame, whole}
 use Rattle.pgn_reader.specs.Internal.Machine.{Head, State, run, first}
@@ -26,8 +26,8 @@ use Rattle.pgn_reader.proofs.Stands.{Stands, all_stands}
 use Rattle.pgn_reader.proofs.Whole.{IsEnd}
 use Rattle.pgn_reader.proofs.Answer.{spells_shown, all_nodes_length, whole_counts}
 
--- if a move leads from a position, `led_to` is the position after it
-to_led : (p q : Board) (m : Move) → Leads p m q → q ≡ led_to p m
+-- if a move leads from a position, `position_after` is the position after it
+to_led : (p q : Board) (m : Move) → Leads p m q → q ≡ position_after p m
 to_led p q m (inl legal) = legal.leads ∙ sym (led_by_other p m (legal_not_null p q m legal))
 to_led p q m (inr passes) = passes.leads ∙ sym (led_by_null p m (ap (λ x. x.null) passes.null))
 
@@ -37,14 +37,14 @@ leads_to_position p q m is (inr passes) = subst IsPosition (sym passes.leads) (a
 
 -- the meaning of a text leads to a position
 pub record Led (p : Board) (m : Move) : Type 0 where
-  pub leads : Leads p m (led_to p m)
-  pub position : IsPosition (led_to p m)
+  pub leads : Leads p m (position_after p m)
+  pub position : IsPosition (position_after p m)
 
 meant_leads : (p : Board) (text : List ℕ) (m : Move) → IsPosition p → san p text ≡ Ok m → Led p m
 meant_leads p text m is means =
     let meant = ((exact p text is.whole).meant m).0 means in
     let fits = meant.2.fits in
-    let same : fits.next ≡ led_to p m = to_led p fits.next m fits.leads in
+    let same : fits.next ≡ position_after p m = to_led p fits.next m fits.leads in
     record {
       leads = subst (λ q. Leads p m q) same fits.leads;
       position = subst IsPosition same (leads_to_position p fits.next m is fits.leads);
@@ -83,7 +83,7 @@ sound_moved a m sound led = record {
 }
 
 told_move : (a : LinePlace) (m : Move) (u : LineTail) → Led a.reached m → Followed (moved a m) u
-    → Follows a.reached (played (record { move = m; position = led_to a.reached m; nags = u.nags; comments = u.comments }) u.rest u.variations)
+    → Follows a.reached (played (record { move = m; position = position_after a.reached m; nags = u.nags; comments = u.comments }) u.rest u.variations)
 unfolding Follows
 told_move a m u led f = (led.leads, f.rest, f.variations a.reached refl)
 
@@ -148,7 +148,7 @@ ok_same p q e = cc
 
 pub tree_shown : (ts : List Word) (h : Head) (f : Frame) (result : GameResult) → IsEnd (run first ts) h f result → h.moves ≤ 65535 → IsPosition h.start → IsTree (nodes_of_rows (whole f))
 tree_shown ts h f result is_end few is =
-    let s : SpellsAny ts (game_of_frame h f result) = spells_shown ts h f result is_end in
+    let s : SpellsOfAnyLength ts (game_of_frame h f result) = spells_shown ts h f result is_end in
     let tags : h.tags ≡ tags_of s.pairs = ap (λ g. g.tags) s.game in
     let start : h.start ≡ s.start = ok_same h.start s.start (sym (starts_at ts (run first ts) h f result (all_stands ts) is_end) ∙ ap start_of tags ∙ s.starts) in
     let nodes : nodes_of_rows (whole f) ≡ nodes_of_tail s.start s.told = ap (λ g. g.nodes) s.game in

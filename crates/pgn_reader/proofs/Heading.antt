@@ -66,21 +66,21 @@ value_kept name other value ts v false is = value_stays name ts ((other, value) 
 value_kept name other value ts v true is = is
 
 -- the position in which the game begins can be read
-pub record IsRead (r : Result Board FenFault) : Type 0 where
+pub record IsReadResult (r : Result Board FenFault) : Type 0 where
   pub start : Board
   pub is : r ≡ Ok start
 
-start_before_by : (name value : List ℕ) (ts : Tags) (o : Option (List ℕ)) → tag_value (codes "FEN") ts ≡ o → IsRead (start_of (with_tag ts name value)) → IsRead (start_of ts)
+start_before_by : (name value : List ℕ) (ts : Tags) (o : Option (List ℕ)) → tag_value (codes "FEN") ts ≡ o → IsReadResult (start_of (with_tag ts name value)) → IsReadResult (start_of ts)
 unfolding start_of
 start_before_by name value ts None is later = record { start = _; is = ap start_by is }
 start_before_by name value ts (Some v) is later =
     let kept : tag_value (codes "FEN") (with_tag ts name value) ≡ Some v = value_kept (codes "FEN") name value ts v (is_some (tag_value name ts)) is in
     record { start = later.start; is = ap start_by is ∙ sym (ap start_by kept) ∙ later.is }
 
-pub start_before : (name value : List ℕ) (ts : Tags) → IsRead (start_of (with_tag ts name value)) → IsRead (start_of ts)
+pub start_before : (name value : List ℕ) (ts : Tags) → IsReadResult (start_of (with_tag ts name value)) → IsReadResult (start_of ts)
 start_before name value ts later = start_before_by name value ts (tag_value (codes "FEN") ts) refl later
 
-pub start_first : (pairs : List Pair) (ts : Tags) → IsRead (start_of (fold with_pair ts pairs)) → IsRead (start_of ts)
+pub start_first : (pairs : List Pair) (ts : Tags) → IsReadResult (start_of (fold with_pair ts pairs)) → IsReadResult (start_of ts)
 start_first [] ts later = later
 start_first (p ∷ pairs) ts later = start_before p.name.text (value_of p.value.text) ts (start_first pairs (with_pair ts p) later)
 
@@ -125,7 +125,7 @@ pub pairs_read : (pairs : List Pair) (ts : Tags) (was start : Board) → AreHead
     → run (after_pairs ts was) (heading_text pairs) ≡ after_pairs (fold with_pair ts pairs) start
 pairs_read [] ts was start all before starts = ap (after_pairs ts) (let e : Ok was ≡ Ok start = sym before ∙ starts in cc)
 pairs_read (p ∷ pairs) ts was start all before starts =
-    let next : IsRead (start_of (with_pair ts p)) = start_first pairs (with_pair ts p) (record { start = start; is = starts }) in
+    let next : IsReadResult (start_of (with_pair ts p)) = start_first pairs (with_pair ts p) (record { start = start; is = starts }) in
     ap (run (after_pairs ts was)) (flat_map-cons pair_text p pairs)
     ∙ run_append (after_pairs ts was) (pair_text p) (heading_text pairs)
     ∙ ap (λ x. run x (heading_text pairs)) (pair_read ts p was next.start all.0 next.is)

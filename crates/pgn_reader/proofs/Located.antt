@@ -13,7 +13,7 @@ use Rattle.pgn_lexer.specs.declared.token.TokenKind.{TokenKind}
 use Rattle.pgn_lexer.specs.declared.token.TokenKind.TheVariants.{Open, Close, Text, Symbol}
 use Rattle.pgn_reader.specs.declared.fault.Reason.TheVariants.{BadTag}
 use Rattle.pgn_reader.specs.Internal.GameAssembly.{reading_place_of}
-use Rattle.pgn_reader.specs.Faults.{Begins}
+use Rattle.pgn_reader.specs.Faults.{IsViablePrefix}
 use Rattle.pgn_reader.specs.Internal.Frame.{Frame, begin, begin_game, place, whole}
 use Rattle.pgn_reader.specs.Games.{heading_text, Spells}
 use Rattle.pgn_reader.specs.Line.{text, LinePlace}
@@ -25,7 +25,7 @@ use Rattle.pgn_reader.specs.Words.{Word, ends, out_of_place, sense, sense_of, is
 use Rattle.pgn_reader.proofs.Answer.{all_nodes_length, whole_counts}
 use Rattle.pgn_reader.proofs.Heading.{comments_read, pairs_read, bracket_fed, name_fed}
 use Rattle.pgn_reader.proofs.Read.{run_append, opening_read, counted_word, told_is_read}
-use Rattle.pgn_reader.proofs.Whole.{IsEnd, IsRead, spelled_is_read, stuck_is_dead, start_none}
+use Rattle.pgn_reader.proofs.Whole.{IsEnd, IsReadResult, spelled_is_read, stuck_is_dead, start_none}
 
 -- the beginning of a movetext is read up to its place
 record IsReadUpTo (start : Board) (h : Head) (ts : List Word) (depth : ℕ) (a : LinePlace) : Type 0 where
@@ -186,7 +186,7 @@ after_a_marker (ended i g x) w r marks h f e = cc
 after_a_marker stuck w r marks h f e = cc
 
 -- the moves of a game within the limit
-pub few_moves : (ts : List Word) (g : Game) → Spells ts g → (r : IsRead ts g) → r.head.moves ≤ 65535
+pub few_moves : (ts : List Word) (g : Game) → Spells ts g → (r : IsReadResult ts g) → r.head.moves ≤ 65535
 few_moves ts g spells r =
     let nodes = ap (λ (x : Game). length x.nodes) r.game in
     let rows = all_nodes_length (whole r.frame) in
@@ -194,14 +194,14 @@ few_moves ts g spells r =
     let few = spells.few in
     omega (arith, nodes, rows, counts, few)
 
-located_end : (ts : List Word) (m : AfterMarker ts) (r : IsRead ts m.game) → IsEnd (run first ts) r.head r.frame r.result → Located ts after_marker
+located_end : (ts : List Word) (m : AfterMarker ts) (r : IsReadResult ts m.game) → IsEnd (run first ts) r.head r.frame r.result → Located ts after_marker
 located_end ts m r (inl there) =
     let (before, marker, result, joined, marks) = m.marked in
     absurd (after_a_marker (run first before) marker result marks r.head r.frame (sym (run_append first before (marker ∷ [])) ∙ ap (run first) (sym joined) ∙ there.0))
 located_end ts m r (inr there) = record { state = ended r.head r.frame r.result; is_run = there; stands = refl; few = few_moves ts m.game m.spells r }
 
 -- so it is for all tokens with which some game begins
-pub located : (ts : List Word) (s : ReadingPlace) → Begins ts → IsReadingPlace ts s → moves_before s ≤ 65535 → Located ts s
+pub located : (ts : List Word) (s : ReadingPlace) → IsViablePrefix ts → IsReadingPlace ts s → moves_before s ≤ 65535 → Located ts s
 located ts (after_opening tags) begins (opening, is_open, in_pair) few =
     record { state = opened tags; is_run = opened_run ts tags opening [] is_open in_pair; stands = refl; few = omega arith }
 located ts (after_name tags name_text) begins (opening, name, is_open, is_symbol, named_is, in_pair) few = record {

@@ -11,7 +11,7 @@ use Rattle.pgn_reader.specs.declared.fault.GameFault.{GameFault}
 use Rattle.pgn_reader.specs.declared.fault.Reason.TheVariants.{GameTooLong}
 use Rattle.pgn_reader.specs.MovedTokens.{moved, AreSameTokens}
 use Rattle.pgn_reader.specs.Faults.{IsFault}
-use Rattle.pgn_reader.specs.Verdict.{IsOnlyGame, IsGameFault, IsRead, place_or}
+use Rattle.pgn_reader.specs.Verdict.{IsOnlyGame, IsGameFault, IsReadResult, place_or}
 use Rattle.pgn_reader.specs.Limits.{longest}
 use Rattle.pgn_reader.proofs.OneOutcome.{one_outcome}
 use Rattle.pgn_reader.proofs.Verdicts.{verdict, long_or_short}
@@ -54,7 +54,7 @@ module _ (n start : ℕ) (first : Bool) (bytes : List ℕ) (other_first : Bool) 
             ∙ ap (λ e. place_or e (slice_get (tokens_of (start + n) other_first other) fault.index)) ends;
       })
 
-  outcome_moved : (r : Result Game GameFault) → IsRead start first bytes r → IsRead (start + n) other_first other (moved n r)
+  outcome_moved : (r : Result Game GameFault) → IsReadResult start first bytes r → IsReadResult (start + n) other_first other (moved n r)
   outcome_moved (Ok game) (short, only) = (fewer short, subst (λ ws. IsOnlyGame ws game) (sym same.words) only)
   outcome_moved (Err f) fault = fault_moved f fault
 
@@ -74,30 +74,30 @@ moved_once n (Err f) (Err g) e =
     ap (λ x. Err x) (same_fault_by n f g (ap (λ x. x.byte) same) (ap (λ x. x.reason) same))
 
 pub decided : (n start : ℕ) (first other_first : Bool) (bytes other : List ℕ) → AreSameTokens n start first bytes other_first other
-    → (r : Result Game GameFault) → IsRead start first bytes r ↔ IsRead (start + n) other_first other (moved n r)
+    → (r : Result Game GameFault) → IsReadResult start first bytes r ↔ IsReadResult (start + n) other_first other (moved n r)
 decided n start first other_first bytes other same r = (
   outcome_moved n start first bytes other_first other same r,
   λ there.
       let found = verdict start first bytes in
       let one = one_outcome (start + n) other_first other (moved n found.0) (moved n r) (outcome_moved n start first bytes other_first other same found.0 found.1) there in
-      subst (IsRead start first bytes) (moved_once n found.0 r one) found.1,
+      subst (IsReadResult start first bytes) (moved_once n found.0 r one) found.1,
 )
 
 -- the first bytes of a game that is too long are too long
-too_long : (start : ℕ) (first : Bool) (a b : List ℕ) → longest < length a → longest < length b → (r : Result Game GameFault) → IsRead start first a r → IsRead start first b r
+too_long : (start : ℕ) (first : Bool) (a b : List ℕ) → longest < length a → longest < length b → (r : Result Game GameFault) → IsReadResult start first a r → IsReadResult start first b r
 too_long start first a b long longer (Ok game) (short, only) = absurd (let e : length a ≤ longest = short in omega (arith, long, e))
 too_long start first a b long longer (Err f) (inl fault) = inl (record { long = longer; fault = fault.fault })
 too_long start first a b long longer (Err f) (inr fault) = absurd (let e : length a ≤ longest = fault.short in omega (arith, long, e))
 
 some_bytes : (start : ℕ) (first : Bool) (bytes : List ℕ) (r : Result Game GameFault) → (longest < length bytes) ⊎ (length bytes ≤ longest)
-    → IsRead start first (take (longest + 1) bytes) r ↔ IsRead start first bytes r
+    → IsReadResult start first (take (longest + 1) bytes) r ↔ IsReadResult start first bytes r
 some_bytes start first bytes r (inl long) =
     let taken : length (take (longest + 1) bytes) ≡ longest + 1 = length-take-le (longest + 1) bytes (omega (arith, long)) in
     let more : longest < length (take (longest + 1) bytes) = omega (arith, taken) in
     (too_long start first (take (longest + 1) bytes) bytes more long r, too_long start first bytes (take (longest + 1) bytes) long more r)
 some_bytes start first bytes r (inr short) =
     let all : take (longest + 1) bytes ≡ bytes = take_all (longest + 1) bytes (omega (arith, short)) in
-    (subst (λ l. IsRead start first l r) all, subst (λ l. IsRead start first l r) (sym all))
+    (subst (λ l. IsReadResult start first l r) all, subst (λ l. IsReadResult start first l r) (sym all))
 
-pub first_bytes : (start : ℕ) (first : Bool) (bytes : List ℕ) (r : Result Game GameFault) → IsRead start first (take (longest + 1) bytes) r ↔ IsRead start first bytes r
+pub first_bytes : (start : ℕ) (first : Bool) (bytes : List ℕ) (r : Result Game GameFault) → IsReadResult start first (take (longest + 1) bytes) r ↔ IsReadResult start first bytes r
 first_bytes start first bytes r = some_bytes start first bytes r (long_or_short longest (length bytes))

@@ -6,7 +6,7 @@ use Rattle.cq_position.specs.Board.{Board}
 use Rattle.cq_position.specs.Attacks.{in_check}
 use Rattle.cq_position.specs.Moves.{null_move}
 use Rattle.cq_position.specs.Legal.{Legal, Passes, Leads, is_pseudo_legal, reaches, promotion_is_right, after, after_pass}
-use Rattle.pgn_reader.specs.Line.{led_to}
+use Rattle.pgn_reader.specs.Line.{position_after}
 use Rattle.pgn_reader.proofs.Heading.{and_left}
 
 not_true : (b : Bool) → not b ≡ true → b ≡ false
@@ -31,14 +31,14 @@ pub other_is_legal : (p q : Board) (m : Move) → m.null ≡ false → Leads p m
 other_is_legal p q m is (inl legal) = legal
 other_is_legal p q m is (inr passes) = absurd (let e : true ≡ false = sym (ap (λ x. x.null) passes.null) ∙ is in cc)
 
-pub led_by_null : (p : Board) (m : Move) → m.null ≡ true → led_to p m ≡ after_pass p
+pub led_by_null : (p : Board) (m : Move) → m.null ≡ true → position_after p m ≡ after_pass p
 led_by_null p m is = ap (λ b. cond b (after_pass p) (after p m)) is
 
-pub led_by_other : (p : Board) (m : Move) → m.null ≡ false → led_to p m ≡ after p m
+pub led_by_other : (p : Board) (m : Move) → m.null ≡ false → position_after p m ≡ after p m
 led_by_other p m is = ap (λ b. cond b (after_pass p) (after p m)) is
 
 -- the position after a pass, if the side may pass
 pub passed_to : (p q : Board) (m : Move) (r : Option Board) → m.null ≡ true → Leads p m q → (IsNone r ↔ (in_check p.men p.side ≡ true)) → IfSome r (λ b. Passes p null_move b)
-    → (b : Board) → ((x : Board) → r ≡ Some x → b ≡ x) → b ≡ led_to p m
+    → (b : Board) → ((x : Board) → r ≡ Some x → b ≡ x) → b ≡ position_after p m
 passed_to p q m None is leads none some b gives = absurd (let e : true ≡ false = sym (none.0 refl) ∙ null_passes p q m is leads in cc)
 passed_to p q m (Some x) is leads none some b gives = gives x refl ∙ some.leads ∙ sym (led_by_null p m is)

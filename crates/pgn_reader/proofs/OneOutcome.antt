@@ -12,7 +12,7 @@ use Rattle.pgn_reader.specs.Games.{Spells}
 use Rattle.pgn_reader.specs.Internal.Machine.{State, stuck, feed, run, first}
 use Rattle.pgn_reader.specs.Internal.ReaderView.{moves_in}
 use Rattle.pgn_reader.specs.ReadingPlace.{fault_at, fault_at_end}
-use Rattle.pgn_reader.specs.Verdict.{IsGameFault, IsRead, place_or}
+use Rattle.pgn_reader.specs.Verdict.{IsGameFault, IsReadResult, place_or}
 use Rattle.pgn_reader.specs.Words.{Word, words_of}
 use Rattle.pgn_reader.proofs.Answer.{no_end_fault}
 use Rattle.pgn_reader.proofs.Limit.{AtLeast, run_keeps, end_least, live_least, fault_fed}
@@ -144,11 +144,11 @@ one_game_fault start first_ bytes a b (inr f) (inr g) =
     let one = one_fault (words_of start first_ bytes) f.index g.index a.reason b.reason f.fault g.fault in
     same_fault a b (f.byte ∙ ap (λ i. place_or (start + length bytes) (slice_get (tokens_of start first_ bytes) i)) one.index ∙ sym g.byte) one.reason
 
-no_game_fault : (start : ℕ) (first_ : Bool) (bytes : List ℕ) (g : Game) (f : GameFault) → IsRead start first_ bytes (Ok g) → IsGameFault start first_ bytes f → ⊥
+no_game_fault : (start : ℕ) (first_ : Bool) (bytes : List ℕ) (g : Game) (f : GameFault) → IsReadResult start first_ bytes (Ok g) → IsGameFault start first_ bytes f → ⊥
 no_game_fault start first_ bytes g f (short, only) (inl long) = long_is_not_short (2 ^ 24) (length bytes) long.long short
 no_game_fault start first_ bytes g f (short, only) (inr fault) = no_fault (words_of start first_ bytes) g only.spells fault.index f.reason fault.fault
 
-pub one_outcome : (start : ℕ) (first_ : Bool) (bytes : List ℕ) (a b : Result Game GameFault) → IsRead start first_ bytes a → IsRead start first_ bytes b → a ≡ b
+pub one_outcome : (start : ℕ) (first_ : Bool) (bytes : List ℕ) (a b : Result Game GameFault) → IsReadResult start first_ bytes a → IsReadResult start first_ bytes b → a ≡ b
 one_outcome start first_ bytes (Ok g) (Ok h) (short, only) (short', other) = ap (λ x. Ok x) (other.alone g only.spells)
 one_outcome start first_ bytes (Ok g) (Err f) x y = absurd (no_game_fault start first_ bytes g f x y)
 one_outcome start first_ bytes (Err f) (Ok g) x y = absurd (no_game_fault start first_ bytes g f y x)

@@ -12,7 +12,7 @@ use Rattle.pgn_lexer.specs.declared.token.TokenKind.TheVariants.{Open, Close, Te
 use Rattle.pgn_reader.specs.Words.{Word, Sense, plays, annotates, remarks, ends, opens, closes, means_nothing, out_of_place, sense}
 use Rattle.cq_position.specs.Games.{with_tag}
 use Rattle.pgn_reader.specs.Tags.{Tags, start_of, value_of}
-use Rattle.pgn_reader.specs.Line.{led_to}
+use Rattle.pgn_reader.specs.Line.{position_after}
 use Rattle.pgn_reader.specs.Internal.Frame.{Frame, advance, with_variation}
 use Rattle.pgn_reader.specs.Internal.Machine.{Head, State, opened, named, valued, at, ended, stuck, in_body, one_more, on_name, on_start, on_value, on_closing, on_move, on_marker, on_opening, on_end, on_bracket, on_sense, feed, run, first}
 use Rattle.pgn_reader.proofs.Read.{feed_is, end_read}
@@ -22,7 +22,7 @@ pub record Led (p q : Board) : Type 0 where
   pub text : List ℕ
   pub move : Move
   pub means : san p text ≡ Ok move
-  pub to : q ≡ led_to p move
+  pub to : q ≡ position_after p move
 
 -- a line that is open around another has a move
 pub record Opened (g : Frame) : Type 0 where
@@ -150,7 +150,7 @@ closed h f g k p is finish = record {
 }
 
 -- a line without a move gets the move from the position before it
-filled : (h : Head) (f : Frame) (k : List Frame) (m : List ℕ) (move : Move) → san f.reached m ≡ Ok move → Finish (at (one_more h) (advance f move (led_to f.reached move)) k) → Finish (at h f k)
+filled : (h : Head) (f : Frame) (k : List Frame) (m : List ℕ) (move : Move) → san f.reached m ≡ Ok move → Finish (at (one_more h) (advance f move (position_after f.reached move)) k) → Finish (at h f k)
 filled h f k m move means finish = record {
   more = move_word m ∷ finish.more;
   head = finish.head;
@@ -166,7 +166,7 @@ finishes_by g k outer h f keeps None is =
     let stood : g.before ≡ Some f.reached = subst (λ o. IsLed o f.reached (g ∷ k)) is keeps.here in
     let same : opened.back ≡ f.reached = let e : Some opened.back ≡ Some f.reached = sym opened.before ∙ stood in cc in
     let means : san f.reached opened.led.text ≡ Ok opened.led.move = ap (λ b. san b opened.led.text) (sym same) ∙ opened.led.means in
-    let next : Frame = advance f opened.led.move (led_to f.reached opened.led.move) in
+    let next : Frame = advance f opened.led.move (position_after f.reached opened.led.move) in
     let next_keeps : Keeps next (g ∷ k) = move_keeps h f (g ∷ k) opened.led.text keeps (Ok opened.led.move) means in
     filled h f (g ∷ k) opened.led.text opened.led.move means
     (closed (one_more h) next g k f.reached refl (outer (in_body (one_more h)) (with_variation g next) (end_keeps (one_more h) next (g ∷ k) next_keeps (Some f.reached))))

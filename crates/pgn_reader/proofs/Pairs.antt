@@ -16,7 +16,7 @@ use Rattle.cq_position.specs.Games.{tag_value, with_tag}
 use Rattle.pgn_reader.specs.Tags.{Tags, start_by, start_of, unescaped, value_of}
 use Rattle.pgn_reader.specs.Internal.Frame.{begin_game}
 use Rattle.pgn_reader.specs.Internal.Machine.{opened, named, valued, on_start, feed, run}
-use Rattle.pgn_reader.proofs.Heading.{IsRead, value_stays}
+use Rattle.pgn_reader.proofs.Heading.{IsReadResult, value_stays}
 use Rattle.pgn_reader.proofs.OpenLines.{Finish}
 
 -- the tokens that are added: a name, the position of the initial array as a string, and the bracket
@@ -51,25 +51,25 @@ value_after name other value ts is =
     by_first None is false = refl
     by_first (Some t) is b = absurd (let e : Some t.1 ≡ None = is in cc)
 
-read_by_test : (b : Bool) (text : List ℕ) → fen_meaning text ≡ Ok start_board → IsRead (start_by (cond b (Some text) None))
+read_by_test : (b : Bool) (text : List ℕ) → fen_meaning text ≡ Ok start_board → IsReadResult (start_by (cond b (Some text) None))
 read_by_test true text is = record { start = start_board; is = is }
 read_by_test false text is = record { start = start_board; is = refl }
 
-read_added : (ts : Tags) (name text : List ℕ) → fen_meaning text ≡ Ok start_board → (o : Option (List ℕ)) → tag_value (codes "FEN") ts ≡ o → IsRead (start_of ts)
-    → IsRead (start_of (ts ++ (name, text) ∷ []))
+read_added : (ts : Tags) (name text : List ℕ) → fen_meaning text ≡ Ok start_board → (o : Option (List ℕ)) → tag_value (codes "FEN") ts ≡ o → IsReadResult (start_of ts)
+    → IsReadResult (start_of (ts ++ (name, text) ∷ []))
 unfolding start_of
 read_added ts name text is None none before =
-    subst (λ x. IsRead (start_by x)) (sym (value_after (codes "FEN") name text ts none)) (read_by_test (bytes_eq (codes "FEN") name) text is)
+    subst (λ x. IsReadResult (start_by x)) (sym (value_after (codes "FEN") name text ts none)) (read_by_test (bytes_eq (codes "FEN") name) text is)
 read_added ts name text is (Some v) there before =
-    subst (λ x. IsRead (start_by x)) (there ∙ sym (value_stays (codes "FEN") ts ((name, text) ∷ []) v there)) before
+    subst (λ x. IsReadResult (start_by x)) (there ∙ sym (value_stays (codes "FEN") ts ((name, text) ∷ []) v there)) before
 
-read_with : (ts : Tags) (name text : List ℕ) → fen_meaning text ≡ Ok start_board → (b : Bool) → IsRead (start_of ts) → IsRead (start_of (cond b ts (ts ++ (name, text) ∷ [])))
+read_with : (ts : Tags) (name text : List ℕ) → fen_meaning text ≡ Ok start_board → (b : Bool) → IsReadResult (start_of ts) → IsReadResult (start_of (cond b ts (ts ++ (name, text) ∷ [])))
 read_with ts name text is false before = read_added ts name text is (tag_value (codes "FEN") ts) refl before
 read_with ts name text is true before = before
 
-value_can_come : (ts : Tags) (name : List ℕ) → IsRead (start_of ts) → IsRead (start_of (with_tag ts name (value_of value_word.text)))
+value_can_come : (ts : Tags) (name : List ℕ) → IsReadResult (start_of ts) → IsReadResult (start_of (with_tag ts name (value_of value_word.text)))
 value_can_come ts name before =
-    subst (λ x. IsRead (start_of (with_tag ts name x))) (sym value_is) (read_with ts name start_text start_is_read (is_some (tag_value name ts)) before)
+    subst (λ x. IsReadResult (start_of (with_tag ts name x))) (sym value_is) (read_with ts name start_text start_is_read (is_some (tag_value name ts)) before)
 
 pub finishes_valued : (ts : Tags) (start : Board) → Finish (valued ts start)
 unfolding feed
@@ -85,9 +85,9 @@ value_read : (ts : Tags) (name : List ℕ) (start : Board) → start_of (with_ta
 unfolding feed
 value_read ts name start is = ap (on_start (with_tag ts name (value_of value_word.text))) is
 
-pub finishes_named : (ts : Tags) (name : List ℕ) → IsRead (start_of ts) → Finish (named ts name)
+pub finishes_named : (ts : Tags) (name : List ℕ) → IsReadResult (start_of ts) → Finish (named ts name)
 finishes_named ts name before =
-    let next : IsRead (start_of (with_tag ts name (value_of value_word.text))) = value_can_come ts name before in
+    let next : IsReadResult (start_of (with_tag ts name (value_of value_word.text))) = value_can_come ts name before in
     let finish : Finish (valued (with_tag ts name (value_of value_word.text)) next.start) = finishes_valued (with_tag ts name (value_of value_word.text)) next.start in
     record {
       more = value_word ∷ finish.more;
@@ -100,7 +100,7 @@ name_read : (ts : Tags) → feed (opened ts) name_word ≡ named ts (codes "A")
 unfolding feed
 name_read ts = refl
 
-pub finishes_opened : (ts : Tags) → IsRead (start_of ts) → Finish (opened ts)
+pub finishes_opened : (ts : Tags) → IsReadResult (start_of ts) → Finish (opened ts)
 finishes_opened ts before =
     let finish : Finish (named ts (codes "A")) = finishes_named ts (codes "A") before in
     record {

@@ -11,7 +11,7 @@ use Rattle.cq_position.specs.Board.{Board}
 use Rattle.cq_position.specs.Continuations.{none}
 use Rattle.pgn_reader.specs.Words.{Word, Sense, plays, annotates, remarks, ends, opens, closes, means_nothing, out_of_place, sense, is_comment, is_remark, is_move, is_move_sense}
 use Rattle.cq_position.specs.Comments.{words, comment_of}
-use Rattle.pgn_reader.specs.Line.{Line, nothing, word, variation, text, LinePlace, beginning, led_to, LineTail, empty_tail, tail_with_glyph, tail_with_comment, tail_with_move, tail_with_variation, beside, with_leading_notes, ParsesWord, ParsesLine}
+use Rattle.pgn_reader.specs.Line.{Line, nothing, word, variation, text, LinePlace, beginning, position_after, LineTail, empty_tail, tail_with_glyph, tail_with_comment, tail_with_move, tail_with_variation, beside, with_leading_notes, ParsesWord, ParsesLine}
 use Rattle.pgn_reader.specs.Internal.Frame.{NodeRow, rows, Frame, place, last_row_by, whole, begin, carried_notes, advance, with_glyph, with_remark, with_variation}
 use Rattle.pgn_reader.specs.Internal.Machine.{Head, State, at, in_body, one_more, on_move, on_marker, on_opening, on_end, on_sense, feed, run}
 use Rattle.pgn_reader.proofs.Rows.{rows_beside}
@@ -204,11 +204,11 @@ marker_skipped h f (g ∷ k) r deep = refl
 word_reads : (h : Head) (f : Frame) (k : List Frame) (w : Word) (b : LinePlace) (u t : LineTail) (s : Sense) → sense w ≡ s → ParsesWord (length k) (place f) s b u t → WordReads h f k w s b u t
 word_reads h f k w b u t (plays m) is (move, means, to, told) = record {
   head = one_more h;
-  frame = advance f move (led_to f.reached move);
+  frame = advance f move (position_after f.reached move);
   is_fed = feed_is h f k w (plays m) is ∙ ap (on_move h f k) means;
   grown = record { tags = refl; start = refl; moves = refl; heading = sym (and-false h.heading) };
   place = sym to;
-  whole = move_told_is f move (led_to f.reached move) u ∙ ap (λ x. wholly f (tail_with_move move x.reached u)) (sym to) ∙ ap (wholly f) (sym told);
+  whole = move_told_is f move (position_after f.reached move) u ∙ ap (λ x. wholly f (tail_with_move move x.reached u)) (sym to) ∙ ap (wholly f) (sym told);
   end = ap (λ x. x.end) (sym told);
 }
 word_reads h f k w b u t (annotates n) is (to, told) = record {

@@ -14,7 +14,7 @@ use Rattle.pgn_lexer.specs.declared.token.TokenKind.TheVariants.{Open, Close, Te
 use Rattle.pgn_reader.specs.Words.{Word, Sense, plays, annotates, remarks, ends, opens, closes, means_nothing, out_of_place, sense, is_remark, is_move_sense}
 use Rattle.cq_position.specs.Games.{with_tag}
 use Rattle.pgn_reader.specs.Tags.{Pair, IsPair, pair_text, Tags, with_pair, start_of, value_of}
-use Rattle.pgn_reader.specs.Line.{Line, nothing, variation, text, beginning, led_to, empty_tail, tail_with_glyph, tail_with_comment, tail_with_move, tail_with_variation, ParsesLine}
+use Rattle.pgn_reader.specs.Line.{Line, nothing, variation, text, beginning, position_after, empty_tail, tail_with_glyph, tail_with_comment, tail_with_move, tail_with_variation, ParsesLine}
 use Rattle.pgn_reader.specs.Games.{AreHeading, heading_text}
 use Rattle.pgn_reader.specs.ReadingPlace.{OpenLines, outermost, within, open_lines_text, InPair, IsReadingPlace, after_opening, after_name}
 use Rattle.pgn_reader.specs.Internal.Frame.{Frame, place, begin, begin_game, advance, with_glyph, with_remark, with_variation}
@@ -131,7 +131,7 @@ move_stands : (ts : List Word) (h : Head) (f : Frame) (k : List Frame) (w : Word
     → Stands (ts ++ w ∷ []) (on_move h f k r)
 move_stands ts h f k w m is state_of (Err fault) means = tt
 move_stands ts h f k w m is state_of (Ok move) means =
-    let g : Frame = advance f move (led_to f.reached move) in
+    let g : Frame = advance f move (position_after f.reached move) in
     word_stands ts h (one_more h) f g k w (plays m) (tail_with_move move g.reached (empty_tail (place g))) is state_of (λ d e. (move, means, refl, refl))
     (record { tags = refl; start = refl; moves = refl; heading = and_false h.heading })
 

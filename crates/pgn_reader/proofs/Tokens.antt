@@ -8,7 +8,7 @@ use Rattle.pgn_reader.specs.declared.fault.Reason.{Reason}
 use Rattle.pgn_reader.specs.declared.fault.Reason.TheVariants.{TooManyPositions}
 use Rattle.pgn_reader.specs.declared.token_machine.Reader.{Reader}
 use Rattle.pgn_reader.specs.declared.token_machine.Phase.{Phase}
-use Rattle.pgn_reader.specs.declared.token_machine.Phase.TheVariants.{Movetext, Opened, Named, Valued, Ended}
+use Rattle.pgn_reader.specs.declared.token_machine.Phase.TheVariants.{Movetext, AfterBracket, AfterName, AfterValue, AfterResult}
 use Rattle.pgn_reader.specs.Words.{Word}
 use Rattle.pgn_reader.specs.Games.{Spells}
 use Rattle.pgn_reader.specs.ReadingPlace.{fault_at, fault_at_end, variations_fault}
@@ -28,10 +28,10 @@ use Rattle.pgn_reader.proofs.Follows.{tree_shown}
 -- the state of a reader is never stuck
 shown_lives_by : (p : Phase) (r : Reader) → state_by_phase p r ≡ stuck → ⊥
 shown_lives_by Movetext r is = cc
-shown_lives_by Opened r is = cc
-shown_lives_by Named r is = cc
-shown_lives_by Valued r is = cc
-shown_lives_by (Ended result) r is = cc
+shown_lives_by AfterBracket r is = cc
+shown_lives_by AfterName r is = cc
+shown_lives_by AfterValue r is = cc
+shown_lives_by (AfterResult result) r is = cc
 
 pub shown_lives : (r : Reader) → state_of r ≡ stuck → ⊥
 shown_lives r is = shown_lives_by r.phase r is
@@ -73,7 +73,7 @@ whole_in_loop word tokens i r all is few ends = record { is_run = all_run word t
 
 -- the end of all tokens
 pub record IsEndOf (ts : List Word) (r : Reader) : Type 0 where
-  pub is_end : IsEnd (run first ts) (head_of r) r.line (ending_by r.phase r.preface.tags)
+  pub is_end : IsEnd (run first ts) (head_of r) r.line (ending_by r.phase r.tag_section.tags)
   pub few : r.moves ≤ 65535
 
 none_open : (k : List Frame) → variations_fault (length k) ≡ None → k ≡ []
@@ -82,13 +82,13 @@ none_open (f ∷ k) is = absurd cc
 
 end_by_phase : (ts : List Word) (r : Reader) (p : Phase) → r.phase ≡ p → run first ts ≡ state_by_phase p r → moves_in (state_by_phase p r) ≤ 65535 → fault_at_end (reading_place_of (state_by_phase p r)) ≡ None → IsEndOf ts r
 end_by_phase ts r Movetext phase is few ends = record {
-  is_end = inl (is ∙ ap (at (head_of r) r.line) (none_open (reverse r.around.items) ends), ap (λ p. ending_by p r.preface.tags) phase);
+  is_end = inl (is ∙ ap (at (head_of r) r.line) (none_open (reverse r.around.items) ends), ap (λ p. ending_by p r.tag_section.tags) phase);
   few = few;
 }
-end_by_phase ts r Opened phase is few ends = absurd (cc)
-end_by_phase ts r Named phase is few ends = absurd (cc)
-end_by_phase ts r Valued phase is few ends = absurd (cc)
-end_by_phase ts r (Ended result) phase is few ends = record { is_end = inr (is ∙ ap (ended (head_of r) r.line) (ap (λ p. ending_by p r.preface.tags) (sym phase))); few = few }
+end_by_phase ts r AfterBracket phase is few ends = absurd (cc)
+end_by_phase ts r AfterName phase is few ends = absurd (cc)
+end_by_phase ts r AfterValue phase is few ends = absurd (cc)
+end_by_phase ts r (AfterResult result) phase is few ends = record { is_end = inr (is ∙ ap (ended (head_of r) r.line) (ap (λ p. ending_by p r.tag_section.tags) (sym phase))); few = few }
 
 pub end_of : (ts : List Word) (r : Reader) → IsWhole ts r → IsEndOf ts r
 end_of ts r whole = end_by_phase ts r r.phase refl whole.is_run whole.few whole.ends
@@ -97,14 +97,14 @@ end_of ts r whole = end_by_phase ts r r.phase refl whole.is_run whole.few whole.
 pub only_game : (ts : List Word) (r : Reader) → IsWhole ts r → IsOnlyGame ts (game_of r)
 only_game ts r whole =
     let e : IsEndOf ts r = end_of ts r whole in
-    let iff : (g : Game) → Spells ts g ↔ (g ≡ game_of r) = read_iff ts (head_of r) r.line (ending_by r.phase r.preface.tags) e.is_end e.few in
+    let iff : (g : Game) → Spells ts g ↔ (g ≡ game_of r) = read_iff ts (head_of r) r.line (ending_by r.phase r.tag_section.tags) e.is_end e.few in
     record { spells = (iff (game_of r)).1 refl; alone = λ g spells. (iff g).0 spells }
 
 -- its nodes are a tree
-pub tree_of_rows : (ts : List Word) (r : Reader) (rows : List NodeRow) → IsWhole ts r → IsPosition r.preface.start → rows ≡ whole r.line → IsTree (nodes_of_rows rows)
+pub tree_of_rows : (ts : List Word) (r : Reader) (rows : List NodeRow) → IsWhole ts r → IsPosition r.tag_section.start → rows ≡ whole r.line → IsTree (nodes_of_rows rows)
 tree_of_rows ts r rows whole_ is all =
     let e : IsEndOf ts r = end_of ts r whole_ in
-    subst (λ rs. IsTree (nodes_of_rows rs)) (sym all) (tree_shown ts (head_of r) r.line (ending_by r.phase r.preface.tags) e.is_end e.few is)
+    subst (λ rs. IsTree (nodes_of_rows rs)) (sym all) (tree_shown ts (head_of r) r.line (ending_by r.phase r.tag_section.tags) e.is_end e.few is)
 
 pub some_rows : (rows : List NodeRow) → IsTree (nodes_of_rows rows) → 0 < length rows
 some_rows [] tree = tree.rooted

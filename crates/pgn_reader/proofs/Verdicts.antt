@@ -24,7 +24,7 @@ use Rattle.pgn_reader.specs.Internal.Frame.{Frame, place}
 use Rattle.pgn_reader.specs.Internal.Machine.{Head, State, opened, named, valued, at, ended, stuck, on_name, on_start, on_value, on_closing, on_move, on_marker, on_opening, on_end, on_bracket, on_sense, feed, run, first}
 use Rattle.pgn_reader.specs.Internal.GameAssembly.{reading_place_of, game_of_frame}
 use Rattle.pgn_reader.specs.Internal.ReaderView.{moves_in}
-use Rattle.pgn_reader.specs.Verdict.{IsOnlyGame, IsRead, place_or}
+use Rattle.pgn_reader.specs.Verdict.{IsOnlyGame, IsReadResult, place_or}
 use Rattle.pgn_reader.proofs.Read.{run_append}
 use Rattle.pgn_reader.proofs.Whole.{IsEnd}
 use Rattle.pgn_reader.proofs.Answer.{fault_here, fault_of_end, read_iff}
@@ -166,7 +166,7 @@ pub long_or_short : (limit n : ℕ) → (limit < n) ⊎ (n ≤ limit)
 long_or_short limit n = grind arith
 
 by_length : (start : ℕ) (first : Bool) (bytes : List ℕ) → (2 ^ 24 < length bytes) ⊎ (length bytes ≤ 2 ^ 24) → HasVerdict (words_of start first bytes)
-    → (r : Result Game GameFault) × IsRead start first bytes r
+    → (r : Result Game GameFault) × IsReadResult start first bytes r
 by_length start first bytes (inl long) _ =
     (Err (record { byte = start + 2 ^ 24; reason = GameTooLong }), inl (record { long = long; fault = refl }))
 by_length start first bytes (inr short) (inl (game, only)) = (Ok game, (short, only))
@@ -175,5 +175,5 @@ by_length start first bytes (inr short) (inr (i, reason, fault)) = (
   inr (record { short = short; index = i; fault = fault; byte = refl }),
 )
 
-pub verdict : (start : ℕ) (first : Bool) (bytes : List ℕ) → (r : Result Game GameFault) × IsRead start first bytes r
+pub verdict : (start : ℕ) (first : Bool) (bytes : List ℕ) → (r : Result Game GameFault) × IsReadResult start first bytes r
 verdict start first bytes = by_length start first bytes (long_or_short (2 ^ 24) (length bytes)) (verdict_of (words_of start first bytes))

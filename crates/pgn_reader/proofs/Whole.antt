@@ -8,9 +8,9 @@ use Rattle.cq_position.specs.Continuations.{none}
 use Rattle.pgn_reader.specs.Words.{Word, ends}
 use Rattle.pgn_reader.specs.Tags.{Tags, tags_of, start_of, result_of_tags}
 use Rattle.pgn_reader.specs.Line.{Line, text, beginning, LineTail, ParsesLine}
-use Rattle.pgn_reader.specs.Games.{heading_text, MarksEnd, root, nodes_of_tail, game_of_tail, SpellsAny}
+use Rattle.pgn_reader.specs.Games.{heading_text, MarksEnd, root, nodes_of_tail, game_of_tail, SpellsOfAnyLength}
 use Rattle.pgn_reader.specs.ReadingPlace.{OpenLines, outermost, within, open_lines_text}
-use Rattle.pgn_reader.specs.Faults.{Begins}
+use Rattle.pgn_reader.specs.Faults.{IsViablePrefix}
 use Rattle.pgn_reader.specs.Internal.Frame.{rows, Frame, whole, begin_game}
 use Rattle.pgn_reader.specs.Internal.Machine.{Head, State, opened, named, valued, at, ended, stuck, after_pairs, feed, run, first}
 use Rattle.pgn_reader.specs.Internal.GameAssembly.{nodes_of_rows, game_of_frame}
@@ -27,7 +27,7 @@ abbrev pub IsEnd : State → Head → Frame → GameResult → Type 0
 IsEnd s h f result = ((s ≡ at h f []) × (result ≡ result_of_tags h.tags)) ⊎ (s ≡ ended h f result)
 
 -- the game that was read
-pub record IsRead (ts : List Word) (g : Game) : Type 0 where
+pub record IsReadResult (ts : List Word) (g : Game) : Type 0 where
   pub head : Head
   pub frame : Frame
   pub result : GameResult
@@ -51,7 +51,7 @@ end_by h f tags [] result same marks = inl (refl, marks ∙ ap result_of_tags (s
 end_by h f tags (w ∷ []) result same marks = inr (feed_is h f [] w (ends result) marks)
 end_by h f tags (w ∷ v ∷ ws) result same marks = absurd marks
 
-pub spelled_is_read : (ts : List Word) (g : Game) → SpellsAny ts g → IsRead ts g
+pub spelled_is_read : (ts : List Word) (g : Game) → SpellsOfAnyLength ts g → IsReadResult ts g
 spelled_is_read ts g s =
     let tags : Tags = tags_of s.pairs in
     let h : Head = record { tags = tags; start = s.start; heading = true; moves = 0 } in
@@ -75,7 +75,7 @@ spelled_is_read ts g s =
 -- some game is spelled
 pub record Spelled (ts : List Word) : Type 0 where
   pub game : Game
-  pub spells : SpellsAny ts game
+  pub spells : SpellsOfAnyLength ts game
 
 -- one line at the outermost level
 pub record Outermost (start : Board) (b : OpenLines) (f : Frame) : Type 0 where
@@ -123,13 +123,13 @@ pub read_ended : (ts : List Word) (h : Head) (f : Frame) (result : GameResult) �
 read_ended ts h f result is = spelled_marked ts h f result (subst (Stands ts) is (all_stands ts))
 
 -- after some tokens more a game is read
-begins_by : (ts : List Word) (s : State) → run first ts ≡ s → Finish s → Begins ts
+begins_by : (ts : List Word) (s : State) → run first ts ≡ s → Finish s → IsViablePrefix ts
 begins_by ts s is finish =
     let all : run first (ts ++ finish.more) ≡ at finish.head finish.frame [] = run_append first ts finish.more ∙ ap (λ x. run x finish.more) is ∙ finish.ends in
     let spelled : Spelled (ts ++ finish.more) = read_at (ts ++ finish.more) finish.head finish.frame all in
     record { more = finish.more; game = spelled.game; spelled = spelled.spells }
 
-pub begins : (ts : List Word) (s : State) → run first ts ≡ s → (s ≡ stuck → ⊥) → Begins ts
+pub begins : (ts : List Word) (s : State) → run first ts ≡ s → (s ≡ stuck → ⊥) → IsViablePrefix ts
 begins ts (opened tags) is live =
     let stands = subst (Stands ts) is (all_stands ts) in
     begins_by ts (opened tags) is (finishes_opened tags (record { start = stands.2.start; is = stands.2.has_heading.starts }))
@@ -140,7 +140,7 @@ begins ts (valued tags start) is live = begins_by ts (valued tags start) is (fin
 begins ts (at h f k) is live = begins_by ts (at h f k) is (finishes k h f (subst Kept is (run_keeps ts first first_keeps)))
 begins ts (ended h f result) is live =
     let spelled : Spelled ts = read_ended ts h f result is in
-    record { more = []; game = spelled.game; spelled = subst (λ x. SpellsAny x spelled.game) (sym (append-nil ts)) spelled.spells }
+    record { more = []; game = spelled.game; spelled = subst (λ x. SpellsOfAnyLength x spelled.game) (sym (append-nil ts)) spelled.spells }
 begins ts stuck is live = absurd (live refl)
 
 pub stuck_stays : (ts : List Word) → run stuck ts ≡ stuck
@@ -152,7 +152,7 @@ no_end : (s : State) (h : Head) (f : Frame) (result : GameResult) → s ≡ stuc
 no_end s h f result is (inl there) = let e : at h f [] ≡ stuck = sym there.0 ∙ is in cc
 no_end s h f result is (inr there) = let e : ended h f result ≡ stuck = sym there ∙ is in cc
 
-pub stuck_is_dead : (ts : List Word) → run first ts ≡ stuck → Begins ts → ⊥
+pub stuck_is_dead : (ts : List Word) → run first ts ≡ stuck → IsViablePrefix ts → ⊥
 stuck_is_dead ts is b =
-    let all : IsRead (ts ++ b.more) b.game = spelled_is_read (ts ++ b.more) b.game b.spelled in
+    let all : IsReadResult (ts ++ b.more) b.game = spelled_is_read (ts ++ b.more) b.game b.spelled in
     no_end (run first (ts ++ b.more)) all.head all.frame all.result (run_append first ts b.more ∙ ap (λ x. run x b.more) is ∙ stuck_stays b.more) all.is_end

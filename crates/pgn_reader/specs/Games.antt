@@ -34,7 +34,7 @@ abbrev pub game_of_tail : Tags → GameResult → Board → LineTail → Game
 game_of_tail tags result start told = record { tags = tags; result = result; nodes = nodes_of_tail start told }
 
 -- Tokens spell a game: tag pairs, a line from the position in which the game begins, and a marker that may be missing.
-pub record SpellsAny (ts : List Word) (g : Game) : Type 0 where
+pub record SpellsOfAnyLength (ts : List Word) (g : Game) : Type 0 where
   pub pairs : List Pair
   pub line : Line
   pub marker : List Word
@@ -50,5 +50,5 @@ pub record SpellsAny (ts : List Word) (g : Game) : Type 0 where
 
 -- a game has at most 65,536 positions
 pub record Spells (ts : List Word) (g : Game) : Type 0 where
-  pub spells : SpellsAny ts g
+  pub spells : SpellsOfAnyLength ts g
   pub few : length g.nodes ≤ most_positions

@@ -3,8 +3,8 @@ pub mod Building
 pub mod Frame
 pub mod LineInside
 pub mod Machine
-pub mod Preface
-pub mod PrefaceInside
+pub mod TagSection
+pub mod TagSectionInside
 pub mod Reading
 pub mod NodeRowInside
 pub mod ReaderView

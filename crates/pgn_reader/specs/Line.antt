@@ -30,11 +30,11 @@ abbrev pub beginning : Board → LinePlace
 beginning p = record { before = None; reached = p }
 
 -- the position after a legal move, or after the null move
-abbrev pub led_to : Board → Move → Board
-led_to p m = if m.null then after_pass p else after p m
+abbrev pub position_after : Board → Move → Board
+position_after p m = if m.null then after_pass p else after p m
 
 abbrev pub moved : LinePlace → Move → LinePlace
-moved a m = record { before = Some a.reached; reached = led_to a.reached m }
+moved a m = record { before = Some a.reached; reached = position_after a.reached m }
 
 -- The meaning of the rest of a line, from a place in it on. First the glyphs and the comments of the move before it,
 -- or, if there is none, of the line's first move. Then the variations that replace the move before it, the moves played

@@ -38,12 +38,12 @@ abbrev pub IsGameFault : ℕ → Bool → List ℕ → GameFault → Type 0
 IsGameFault start first bytes f = IsTooLong start bytes f ⊎ HasTokenFault start first bytes f
 
 -- The outcome of the bytes of a game: the one game that they spell, if they are not too long, or their fault.
-abbrev pub IsRead : ℕ → Bool → List ℕ → Result Game GameFault → Type 0
-IsRead start first bytes (Ok game) = (length bytes ≤ longest) × IsOnlyGame (words_of start first bytes) game
-IsRead start first bytes (Err fault) = IsGameFault start first bytes fault
+abbrev pub IsReadResult : ℕ → Bool → List ℕ → Result Game GameFault → Type 0
+IsReadResult start first bytes (Ok game) = (length bytes ≤ longest) × IsOnlyGame (words_of start first bytes) game
+IsReadResult start first bytes (Err fault) = IsGameFault start first bytes fault
 
 -- the same of a result that may also be out of memory
-abbrev pub IsVerdict : ℕ → Bool → List ℕ → Result Game (Refusal GameFault) → Type 0
-IsVerdict start first bytes (Ok game) = IsRead start first bytes (Ok game)
-IsVerdict start first bytes (Err (Fault fault)) = IsRead start first bytes (Err fault)
-IsVerdict start first bytes (Err NoMemory) = Unit {0}
+abbrev pub IsReadOrNoMemory : ℕ → Bool → List ℕ → Result Game (Refusal GameFault) → Type 0
+IsReadOrNoMemory start first bytes (Ok game) = IsReadResult start first bytes (Ok game)
+IsReadOrNoMemory start first bytes (Err (Fault fault)) = IsReadResult start first bytes (Err fault)
+IsReadOrNoMemory start first bytes (Err NoMemory) = Unit {0}

@@ -27,8 +27,8 @@ fn fault_at_end(reader: &Reader) -> Option<Reason>
                 Some(Reason::UnclosedVariation)
             }
         }
-        Phase::Ended(_) => None,
-        Phase::Opened | Phase::Named | Phase::Valued => Some(Reason::BadTag),
+        Phase::AfterResult(_) => None,
+        Phase::AfterBracket | Phase::AfterName | Phase::AfterValue => Some(Reason::BadTag),
     }
 }
 

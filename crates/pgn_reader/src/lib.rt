@@ -7,7 +7,7 @@ mod fault;
 mod laws;
 mod line;
 mod node_row;
-mod preface;
+mod tag_section;
 mod text;
 mod token_machine;
 mod whole_game;

@@ -10,7 +10,7 @@ ghost use Rattle.pgn_reader.specs.Words.{plays, remarks, ends, opens, closes, me
 ghost use Rattle.pgn_tree.specs.Words.{without_braces};
 ghost use Rattle.pgn_reader.specs.Tags.{start_of, value_of, unescaped};
 ghost use Rattle.pgn_reader.specs.Limits.{most_moves};
-ghost use Rattle.pgn_reader.specs.Line.{led_to};
+ghost use Rattle.pgn_reader.specs.Line.{position_after};
 ghost use Rattle.pgn_reader.specs.ReadingPlace.{fault_at, movetext_fault, move_fault, variation_fault, end_of_variation_fault, misplaced_fault, tag_reason, name_fault, value_fault, closing_fault, marker_fault, san_reason};
 ghost use Rattle.pgn_reader.specs.Internal.Machine.{first, feed, on_name, on_value, on_closing, on_move, on_marker, on_opening, on_end, on_bracket, on_sense};
 ghost use Rattle.pgn_reader.specs.Internal.GameAssembly.{reading_place_of};
@@ -18,7 +18,7 @@ ghost use Rattle.pgn_reader.specs.Internal.ReaderView.{state_of, moves_in, IsSen
 
 use crate::fault::Reason;
 use crate::line::Line;
-use crate::preface::Preface;
+use crate::tag_section::TagSection;
 use crate::text::{after_first, are_digits, inside, result_of_text, value_of};
 use cq_common::{NoMemory, Refusal};
 use cq_moves::{pass, play};
@@ -41,17 +41,17 @@ const MOST_MOVES: u32 = 65535;
 #[derive(Clone, Copy)]
 pub enum Phase {
     Movetext,
-    Opened,
-    Named,
-    Valued,
-    Ended(GameResult),
+    AfterBracket,
+    AfterName,
+    AfterValue,
+    AfterResult(GameResult),
 }
 
 /// The part of a game that was read.
 #[derive(Drop)]
 pub struct Reader {
     /// The tags, and the position in which the game begins by them.
-    pub preface: Preface,
+    pub tag_section: TagSection,
     /// The name of the tag pair that is open.
     pub name: Vec<u8>,
     /// True if tag pairs may still come.
@@ -68,7 +68,7 @@ pub struct Reader {
 #[tactic(auto)]
 fn position_after(position: &Position, step: &Move) -> Position
     requires { (q : Board) × Leads position.now step.now q }
-    ensures { result ≡ led_to position.now step.now }
+    ensures { result ≡ position_after position.now step.now }
 {
     if step.null {
         pass(position).unwrap_or(*position)
@@ -115,10 +115,10 @@ impl Reader {
     pub fn new(alloc: Global) -> Reader
         ensures { state_of result ≡ first }
     {
-        let preface = Preface::new(alloc);
-        let start = *preface.start();
+        let tag_section = TagSection::new(alloc);
+        let start = *tag_section.start();
         Reader {
-            preface,
+            tag_section,
             name: Vec::new(alloc),
             heading: true,
             moves: 0,
@@ -180,7 +180,7 @@ impl Reader {
         ensures { (kind : TokenKindValue) → IsSenseStep self.old kind (ends ending) self.new result }
     {
         if self.around.is_empty() {
-            self.phase = Phase::Ended(ending);
+            self.phase = Phase::AfterResult(ending);
         } else {
             self.heading = false;
         }
@@ -263,7 +263,7 @@ impl Reader {
     {
         match kind {
             TokenKind::Open if self.heading => {
-                self.phase = Phase::Opened;
+                self.phase = Phase::AfterBracket;
                 Ok(())
             }
             _ => Err(Refusal::Fault(reason)),
@@ -309,13 +309,13 @@ impl Reader {
         kind: TokenKind,
         text: &[u8],
     ) -> Result<(), Refusal<Reason>>
-        requires phase { self.old.phase ≡ Phase.Opened }
-        ensures { Steps (on_name self.old.preface.tags kind text.now) (name_fault kind) (state_of self.new) result }
+        requires phase { self.old.phase ≡ Phase.AfterBracket }
+        ensures { Steps (on_name self.old.tag_section.tags kind text.now) (name_fault kind) (state_of self.new) result }
     {
         match kind {
             TokenKind::Symbol => {
                 self.name = Vec::from_slice(alloc, text)?;
-                self.phase = Phase::Named;
+                self.phase = Phase::AfterName;
                 Ok(())
             }
             _ => Err(Refusal::Fault(tag_reason(kind))),
@@ -329,17 +329,17 @@ impl Reader {
         kind: TokenKind,
         text: &[u8],
     ) -> Result<(), Refusal<Reason>>
-        requires phase { self.old.phase ≡ Phase.Named }
-        ensures { Steps (on_value (with_tag self.old.preface.tags self.old.name.items (value_of text.now)) kind)
-            (value_fault kind (start_of (with_tag self.old.preface.tags self.old.name.items (value_of text.now)))) (state_of self.new) result }
+        requires phase { self.old.phase ≡ Phase.AfterName }
+        ensures { Steps (on_value (with_tag self.old.tag_section.tags self.old.name.items (value_of text.now)) kind)
+            (value_fault kind (start_of (with_tag self.old.tag_section.tags self.old.name.items (value_of text.now)))) (state_of self.new) result }
     {
         match kind {
             TokenKind::Text => {
                 let value = value_of(alloc, text)?;
                 let name = mem::replace(&mut self.name, Vec::new(alloc));
-                match self.preface.add(name, value) {
+                match self.tag_section.add(name, value) {
                     Ok(()) => {
-                        self.phase = Phase::Valued;
+                        self.phase = Phase::AfterValue;
                         Ok(())
                     }
                     Err(Refusal::Fault(_)) => Err(Refusal::Fault(Reason::BadFen)),
@@ -352,14 +352,14 @@ impl Reader {
 
     // Reads the bracket that closes a tag pair. The comments before it are dropped.
     fn read_closing(&mut self, alloc: Global, kind: TokenKind) -> Result<(), Refusal<Reason>>
-        requires phase { self.old.phase ≡ Phase.Valued }
-        ensures { Steps (on_closing self.old.preface.tags self.old.preface.start kind) (closing_fault kind) (state_of self.new) result }
+        requires phase { self.old.phase ≡ Phase.AfterValue }
+        ensures { Steps (on_closing self.old.tag_section.tags self.old.tag_section.start kind) (closing_fault kind) (state_of self.new) result }
     {
         match kind {
             TokenKind::Close => {
                 self.heading = true;
                 self.moves = 0;
-                self.line = Line::of_game(alloc, *self.preface.start());
+                self.line = Line::of_game(alloc, *self.tag_section.start());
                 self.around = Vec::new(alloc);
                 self.phase = Phase::Movetext;
                 Ok(())
@@ -388,10 +388,10 @@ impl Reader {
     {
         match self.phase {
             Phase::Movetext => self.read_movetext(alloc, kind, text),
-            Phase::Opened => self.read_name(alloc, kind, text),
-            Phase::Named => self.read_value(alloc, kind, text),
-            Phase::Valued => self.read_closing(alloc, kind),
-            Phase::Ended(_) => Err(Refusal::Fault(marker_reason(kind))),
+            Phase::AfterBracket => self.read_name(alloc, kind, text),
+            Phase::AfterName => self.read_value(alloc, kind, text),
+            Phase::AfterValue => self.read_closing(alloc, kind),
+            Phase::AfterResult(_) => Err(Refusal::Fault(marker_reason(kind))),
         }
     }
 }

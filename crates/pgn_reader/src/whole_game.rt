@@ -6,7 +6,7 @@ ghost use Rattle.pgn_reader.specs.Internal.Reading.{IsWhole, ending_by, game_of}
 ghost use Rattle.cq_common.specs.declared.faults.Refusal.TheVariants.{Fault as IsFault};
 ghost use Rattle.pgn_reader.specs.declared.fault.Reason.TheVariants.{GameTooLong as IsTooLong};
 ghost use Rattle.pgn_reader.specs.Limits.{longest};
-ghost use Rattle.pgn_reader.specs.Verdict.{IsVerdict};
+ghost use Rattle.pgn_reader.specs.Verdict.{IsReadOrNoMemory};
 
 use crate::all_tokens::read_tokens;
 use crate::build::game_of_rows;
@@ -23,11 +23,11 @@ const LONGEST: usize = 1 << 24;
 
 // The result of the marker, or without one that of the tags.
 fn ending_of(reader: &Reader) -> GameResult
-    ensures { result ≡ ending_by reader.now.phase reader.now.preface.tags }
+    ensures { result ≡ ending_by reader.now.phase reader.now.tag_section.tags }
 {
     match reader.phase {
-        Phase::Ended(ending) => ending,
-        _ => result_of_tags(reader.preface.tags()),
+        Phase::AfterResult(ending) => ending,
+        _ => result_of_tags(reader.tag_section.tags()),
     }
 }
 
@@ -49,9 +49,9 @@ fn into_game(alloc: Global, reader: Reader) -> Result<Game, NoMemory>
 {
     let ending = ending_of(&reader);
     // A property of every position: the moves of the game lead from it.
-    prove!(reader.preface.start().is_position());
+    prove!(reader.tag_section.start().is_position());
     let rows = reader.line.into_rows()?;
-    game_of_rows(alloc, reader.preface.into_tags(), ending, rows)
+    game_of_rows(alloc, reader.tag_section.into_tags(), ending, rows)
 }
 
 /// Returns the game that the bytes spell (PGN standard, sections 8.1 and 8.2).
@@ -73,7 +73,7 @@ pub fn read_game(
     first: bool,
 ) -> Result<Game, Refusal<GameFault>>
     requires { start < 2 ^ 62 }
-    ensures verdict { IsVerdict start first bytes.now result }
+    ensures verdict { IsReadOrNoMemory start first bytes.now result }
     ensures long { longest < length bytes.now → result ≡ Err (IsFault (record { byte = start + longest; reason = IsTooLong })) }
 {
     if bytes.len() > LONGEST {

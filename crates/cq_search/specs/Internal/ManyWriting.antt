@@ -10,19 +10,19 @@ use Rattle.cq_common.specs.declared.faults.Refusal.{Refusal}
 use Rattle.cq_common.specs.declared.faults.Refusal.TheVariants.{Fault, NoMemory as IsNoMemory}
 use Rattle.cql_syntax.specs.Trees.{QueryTree}
 use Rattle.cq_shards.specs.Answers.{answers_from}
-use Rattle.cq_shards.specs.Order.{AreApart, IsEarlier, is_match as is_match_kept}
+use Rattle.cq_shards.specs.Order.{AreOfDistinctGames, IsEarlier, is_match as is_match_kept}
 use Rattle.cq_shards.specs.ReadResults.{ReadResult}
 use Rattle.cq_shards.specs.declared.answers.GameAnswer.{GameAnswer}
 use Rattle.cq_search.specs.declared.tally.Tally.{Tally}
 use Rattle.cq_search.specs.GameOutput.{tally_of}
 use Rattle.cq_search.specs.Exports.{matches_from}
 use Rattle.cq_search.specs.ManyQueries.{faults_alone}
-use Rattle.cq_queries.specs.Views.{SinkView, Sinks, Writes, WritesPrefix, NoWriteFailed, OneSinkFailed}
+use Rattle.cq_query_files.specs.Views.{SinkView, Sinks, Writes, WritesPrefix, NoWriteFailed, OneSinkFailed}
 use Rattle.cq_search.specs.Internal.Writing.{InOrder}
 
 -- a row in the order of its games
 abbrev pub IsSortedByGame : (row ordered : List GameAnswer) → Type 0
-IsSortedByGame row ordered = IsPermutation row ordered × (AreApart row → AllPairs IsEarlier ordered)
+IsSortedByGame row ordered = IsPermutation row ordered × (AreOfDistinctGames row → AllPairs IsEarlier ordered)
 
 -- in the order of its games a row has the answers of these games to a query, the first of them having this number
 abbrev pub IsAnswerListOf : QueryTree → ℕ → List ReadResult → List GameAnswer → Type 0

@@ -2,19 +2,19 @@
 use Rattle.std.specs.Prelude.{◌≡◌, ◌⊎◌, ℕ, ◌<◌, Bool, true, false, List, ◌++◌}
 use Rattle.pgn_batches.specs.KeptGames.{KeptGames}
 use Rattle.cql_syntax.specs.Trees.{QueryTree}
-use Rattle.cq_shards.specs.ReadResults.{ReadResult, AreKeptRead}
-use Rattle.cq_queries.specs.declared.status.Status.{Status}
-use Rattle.cq_queries.specs.declared.status.Status.TheVariants.{Done, DoneWithRefusals, WriteFault, NoMemory}
+use Rattle.cq_shards.specs.ReadResults.{ReadResult, AreReadResults}
+use Rattle.cq_query_files.specs.declared.status.Status.{Status}
+use Rattle.cq_query_files.specs.declared.status.Status.TheVariants.{Done, DoneWithRefusals, WriteFault, NoMemory}
 use Rattle.cq_search.specs.GameOutput.{tally_of}
 use Rattle.cq_search.specs.AllGames.{texts_so_far}
 use Rattle.cq_search.specs.FirstGame.{first_texts_of, some_match, up_to_first}
-use Rattle.cq_queries.specs.Views.{Sinks, Texts, Writes, WritesPrefix, NoWriteFailed, OneSinkFailed}
+use Rattle.cq_query_files.specs.Views.{Sinks, Texts, Writes, WritesPrefix, NoWriteFailed, OneSinkFailed}
 use Rattle.cq_search.specs.Internal.Writing.{FoundSoFar, SearchState}
 
 -- these games have results of reading, and the predicate holds of them
 pub record HaveReadResults (games : KeptGames) (Holds : List ReadResult → Type 0) : Type 0 where
   pub outcomes : List ReadResult
-  pub are_read : AreKeptRead games outcomes
+  pub are_read : AreReadResults games outcomes
   pub holds : Holds outcomes
 
 -- the visitor's task is unchanged, and `Found` holds of the results of reading the games taken

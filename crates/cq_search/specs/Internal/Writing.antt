@@ -6,21 +6,21 @@ use Rattle.cq_outside.specs.Flow.{Grew}
 use Rattle.cq_common.specs.declared.faults.Failed.{Failed}
 use Rattle.cq_common.specs.declared.faults.Refusal.{Refusal}
 use Rattle.cq_common.specs.declared.faults.Refusal.TheVariants.{Fault, NoMemory as IsNoMemory}
-use Rattle.cq_queries.specs.declared.status.Status.{Status}
-use Rattle.cq_queries.specs.declared.status.Status.TheVariants.{Done, DoneWithRefusals, WriteFault, NoMemory}
+use Rattle.cq_query_files.specs.declared.status.Status.{Status}
+use Rattle.cq_query_files.specs.declared.status.Status.TheVariants.{Done, DoneWithRefusals, WriteFault, NoMemory}
 use Rattle.cq_search.specs.declared.tally.Tally.{Tally}
 use Rattle.cq_search.specs.declared.totals.Totals.{Totals}
 use Rattle.cql_syntax.specs.Trees.{QueryTree}
 use Rattle.cq_report.specs.Games.{fault_line}
 use Rattle.pgn_reader.specs.declared.fault.GameFault.{GameFault}
-use Rattle.cq_shards.specs.Order.{AreApart, ComesBefore, HasKeys, directions, is_match as is_match_kept}
+use Rattle.cq_shards.specs.Order.{AreOfDistinctGames, ComesBefore, HasKeys, directions, is_match as is_match_kept}
 use Rattle.cq_shards.specs.declared.answers.GameAnswer.{GameAnswer}
 use Rattle.cq_shards.specs.ReadResults.{ReadResult}
 use Rattle.cq_search.specs.GameOutput.{export_if, fault_if, is_match, is_refused, summary_of, tally_of}
 use Rattle.cq_search.specs.Exports.{exports_of, match_if, matches_from}
 use Rattle.cq_search.specs.AllGames.{texts_so_far, written}
-use Rattle.cq_queries.specs.Views.{SinkView, Sinks, Texts, Writes, WritesPrefix, IsUnwritten, OneSinkFailed, NoWriteFailed}
-use Rattle.cq_search.specs.Promise.{ExpectedOutput, WritesAll, WritesPart, Unfinished}
+use Rattle.cq_query_files.specs.Views.{SinkView, Sinks, Texts, Writes, WritesPrefix, IsUnwritten, OneSinkFailed, NoWriteFailed}
+use Rattle.cq_search.specs.Promise.{OutputSpec, WritesAll, WritesPart, Unfinished}
 
 -- writing a text to a sink: all of it was taken, or its count rose and a prefix was
 abbrev pub WritesText : List ℕ → SinkView → SinkView → Result (Unit {0}) (Refusal Failed) → Type 0
@@ -114,7 +114,7 @@ AnswersSome sorted query outcomes sinks stand (Err IsNoMemory) =
 -- the matches that were kept, in the order of a query, and their exports, as far as they are taken
 pub record InOrder (query : QueryTree) (answers ordered : List GameAnswer) : Type 0 where
   pub same : IsPermutation (filter is_match_kept answers) ordered
-  pub order : AreApart answers → All (HasKeys (directions query.items)) answers
+  pub order : AreOfDistinctGames answers → All (HasKeys (directions query.items)) answers
       → AllPairs (ComesBefore (directions query.items)) ordered
 
 abbrev pub WritesKept : QueryTree → List GameAnswer → SinkView → SinkView → Result (Unit {0}) (Refusal Failed) → Type 0
@@ -127,7 +127,7 @@ WritesKept query answers before after (Err (Fault _)) =
 WritesKept query answers before after (Err IsNoMemory) = after ≡ before
 
 -- the promise of each status on the sinks, if all games have these outcomes
-abbrev pub WritesAnswer : ExpectedOutput → List ReadResult → Sinks → Status → Type 0
+abbrev pub WritesAnswer : OutputSpec → List ReadResult → Sinks → Status → Type 0
 WritesAnswer expected_output outcomes sinks Done =
     WritesAll (expected_output.ended outcomes) (λ refused. refused ≡ 0) sinks × NoWriteFailed sinks
 WritesAnswer expected_output outcomes sinks DoneWithRefusals =

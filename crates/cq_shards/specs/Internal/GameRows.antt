@@ -3,10 +3,10 @@ use Rattle.std.specs.Prelude.{◌≡◌, ℕ, ◌+◌, ◌<◌, ◌==◌, List, 
 use Rattle.pgn_batches.specs.Games.{games_of, number_of}
 use Rattle.pgn_batches.specs.KeptGames.{KeptGames}
 use Rattle.pgn_batches.specs.declared.batch.Batch.{Batch}
-use Rattle.cq_workers.specs.NumberedOutputs.{HasMade}
+use Rattle.cq_workers.specs.NumberedOutputs.{HasOutputs}
 use Rattle.cql_syntax.specs.Trees.{QueryTree}
 use Rattle.cq_shards.specs.Answers.{AreAnswersOf, answer_of}
-use Rattle.cq_shards.specs.ReadResults.{IsReadAt, ReadResult}
+use Rattle.cq_shards.specs.ReadResults.{IsReadResultAt, ReadResult}
 use Rattle.cq_shards.specs.Internal.WorkerAnswers.{size}
 use Rattle.cq_shards.specs.declared.answers.GameAnswer.{GameAnswer}
 use Rattle.cq_shards.specs.declared.game_rows.GameRow.{GameRow}
@@ -19,7 +19,7 @@ answers_back (q ∷ qs) index outcome = answers_back qs index outcome ++ answer_
 -- the row of the game with this number among some games, of which the first has the number `n` in the archive
 pub record IsRowAt (queries : List QueryTree) (n : ℕ) (games : KeptGames) (number : ℕ) (r : GameRow) : Type 0 where
   pub outcome : ReadResult
-  pub read : IsReadAt games number outcome
+  pub read : IsReadResultAt games number outcome
   pub index : r.index ≡ n + number
   pub answers : r.answers.items ≡ answers_back queries (n + number) outcome
 
@@ -54,4 +54,4 @@ row_index r = r.index
 
 -- a worker made these rows of these games
 abbrev pub HasMadeRows : List QueryTree → Batch → (numbers : List ℕ) → List GameRow → Type 0
-HasMadeRows queries batch numbers rows = HasMade (IsRowFor queries batch) row_index (number_of batch) (size batch) numbers rows
+HasMadeRows queries batch numbers rows = HasOutputs (IsRowFor queries batch) row_index (number_of batch) (size batch) numbers rows

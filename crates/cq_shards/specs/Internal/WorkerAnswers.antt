@@ -2,7 +2,7 @@
 use Rattle.std.specs.Prelude.{ℕ, List, length}
 use Rattle.pgn_batches.specs.Games.{games_of, number_of}
 use Rattle.pgn_batches.specs.declared.batch.Batch.{Batch}
-use Rattle.cq_workers.specs.NumberedOutputs.{HasMade}
+use Rattle.cq_workers.specs.NumberedOutputs.{HasOutputs}
 use Rattle.cql_syntax.specs.Trees.{QueryTree}
 use Rattle.cq_shards.specs.Answers.{IsAnswerAt}
 use Rattle.cq_shards.specs.declared.answers.GameAnswer.{GameAnswer}
@@ -19,4 +19,4 @@ index_of a = a.index
 
 -- a worker made these answers of these games
 abbrev pub HasAnswered : QueryTree → Batch → (numbers : List ℕ) → List GameAnswer → Type 0
-HasAnswered query batch numbers answers = HasMade (IsAnswerFor query batch) index_of (number_of batch) (size batch) numbers answers
+HasAnswered query batch numbers answers = HasOutputs (IsAnswerFor query batch) index_of (number_of batch) (size batch) numbers answers

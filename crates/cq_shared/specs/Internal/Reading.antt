@@ -15,7 +15,7 @@ use Rattle.cq_shared.specs.Parts.{parts_in, top_parts, are_at}
 use Rattle.cq_shared.specs.PartTables.{is_among}
 use Rattle.cq_shared.specs.Singles.{shown}
 use Rattle.cq_shared.specs.declared.nodes.NodeSet.{NodeSet}
-use Rattle.cq_shared.specs.declared.nodes.SortRow.{SortRow}
+use Rattle.cq_shared.specs.declared.nodes.KeyColumn.{KeyColumn}
 use Rattle.cq_shared.specs.declared.part.PartOwner.{PartOwner}
 use Rattle.cq_shared.specs.declared.part.Part.{Part}
 
@@ -43,31 +43,31 @@ unfoldable pub is_least : FilterTree → Bool
 is_least (filter_at at f) = form_least f
 
 -- the key of the part with a number over some nodes, by its row
-unfoldable pub row_key : List Part → List SortRow → List ℕ → ℕ → Option ℤ
+unfoldable pub row_key : List Part → List KeyColumn → List ℕ → ℕ → Option ℤ
 row_key [] rows nodes k = None
 row_key (p ∷ ps) [] nodes k = None
 row_key (p ∷ ps) (r ∷ rs) nodes zero = key_in (is_least (shown p.single).filter) r.numbers.items nodes
 row_key (p ∷ ps) (r ∷ rs) nodes (suc k) = row_key ps rs nodes k
 
-abbrev pub row_keys : List Part → List SortRow → List ℕ → List ℕ → List (Option ℤ)
+abbrev pub row_keys : List Part → List KeyColumn → List ℕ → List ℕ → List (Option ℤ)
 row_keys parts rows nodes ks = map (row_key parts rows nodes) ks
 
 -- the part with a number has a row with an entry at each of some nodes
-pub record HasNumbers (parts : List Part) (rows : List SortRow) (nodes : List ℕ) (k : ℕ) : Type 0 where
+pub record HasNumbers (parts : List Part) (rows : List KeyColumn) (nodes : List ℕ) (k : ℕ) : Type 0 where
   pub part : k < length parts
   pub row : k < length rows
-  pub some : (r : SortRow) → r ≡ get_or rows k r → All (λ n. is_some (get_or r.numbers.items n None) ≡ true) nodes
+  pub some : (r : KeyColumn) → r ≡ get_or rows k r → All (λ n. is_some (get_or r.numbers.items n None) ≡ true) nodes
 
 -- the parts with all these numbers have such rows
-abbrev pub HaveNumbers : List Part → List SortRow → List ℕ → List ℕ → Type 0
+abbrev pub HaveNumbers : List Part → List KeyColumn → List ℕ → List ℕ → Type 0
 HaveNumbers parts rows nodes ks = (k : ℕ) → is_among k ks ≡ true → HasNumbers parts rows nodes k
 
 -- the nodes that are left to one query, and there the rows of its sort items
-pub record IsFoundBy (game : Game) (parts : List Part) (a : PartOwner) (nodes : NodeSet) (rows : List SortRow) : Type 0 where
+pub record IsFoundBy (game : Game) (parts : List Part) (a : PartOwner) (nodes : NodeSet) (rows : List KeyColumn) : Type 0 where
   pub numbers : are_at (all_shown parts) a.numbers.items (parts_in (owner_query a)) ≡ true
   pub sorts : a.sorts ≡ length (top_parts (flat_query (owner_query a)).items)
   pub left : (n : ℕ) → is_live nodes.there.items n ≡ is_found game (owner_query a) n
   pub count : length rows ≡ length parts
-  pub each : (k : ℕ) (p : Part) (r : SortRow) → p ≡ get_or parts k p → r ≡ get_or rows k r → k < length parts
+  pub each : (k : ℕ) (p : Part) (r : KeyColumn) → p ≡ get_or parts k p → r ≡ get_or rows k r → k < length parts
       → is_among k a.numbers.items ≡ true → p.class ≡ sort_class
       → Where nodes.there.items (λ n. get_or r.numbers.items n None ≡ sort_number (tree_for game p) (shown p.single).filter n)

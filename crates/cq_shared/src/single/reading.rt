@@ -7,7 +7,7 @@ ghost use Rattle.cq_shared.specs.Parts.{first_of, same_part};
 ghost use Rattle.cq_shared.specs.PartTables.{bucket_of};
 ghost use Rattle.cq_shared.specs.Singles.{part_tree, shown};
 
-use crate::single::Single;
+use crate::single::StandaloneFilter;
 use crate::table::hash_of;
 use cq_common::NoMemory;
 use cql_plan::join;
@@ -20,7 +20,7 @@ pub(crate) fn single_of(
     alloc: Global,
     filter: &Filter,
     variations: bool,
-) -> Result<Single, NoMemory>
+) -> Result<StandaloneFilter, NoMemory>
     requires { stands_alone (filter_tree filter.now) ≡ true }
     ensures { IfOk result (λ s. shown s ≡ part_tree variations (filter_tree filter.now)) }
 {
@@ -29,11 +29,11 @@ pub(crate) fn single_of(
     items.push(copied)?;
     let query = FlatQuery { variations, items };
     let joined = join(alloc, &query)?;
-    Ok(Single { query, joined })
+    Ok(StandaloneFilter { query, joined })
 }
 
 /// The filter.
-pub(crate) fn filter_of(single: &Single) -> &Filter
+pub(crate) fn filter_of(single: &StandaloneFilter) -> &Filter
     ensures { filter_tree result.now ≡ first_of (filters_tree single.now.query.items) }
 {
     let items = single.query.items.as_slice();
@@ -41,7 +41,7 @@ pub(crate) fn filter_of(single: &Single) -> &Filter
 }
 
 /// Returns true if two single filters are the same part.
-pub(crate) fn same_single(a: &Single, b: &Single) -> bool
+pub(crate) fn same_single(a: &StandaloneFilter, b: &StandaloneFilter) -> bool
     ensures { result ≡ same_part (shown a.now) (shown b.now) }
 {
     same_flag(a.query.variations, b.query.variations) && same_unplaced(filter_of(a), filter_of(b))
@@ -55,7 +55,11 @@ fn same_flag(a: bool, b: bool) -> bool
 
 /// The place of a filter in a table of `many` places.
 #[tactic(auto, unfolding(crate::specs::PartTables::bucket_of))]
-pub(crate) fn place(alloc: Global, single: &Single, many: usize) -> Result<usize, NoMemory>
+pub(crate) fn place(
+    alloc: Global,
+    single: &StandaloneFilter,
+    many: usize,
+) -> Result<usize, NoMemory>
     requires { 0 < many }
     ensures value { IfOk result (λ at. at ≡ bucket_of many (shown single.now)) }
     ensures below { IfOk result (λ at. at < many) }

@@ -6,17 +6,17 @@ use Rattle.cql_syntax.specs.TreeOf.{written_tree}
 use Rattle.cql_syntax.specs.Values.{Value}
 use Rattle.cql_syntax.specs.declared.tree.Played.{Played, out-Played}
 use Rattle.cql_operators.specs.Trees.{AreBeforeLive}
-use Rattle.cql_pruning.specs.Covers.{AreCut, IsNecessaryPart, MayHold, MayHave}
-use Rattle.cql_pruning.specs.declared.moves.PartColumns.{PartColumns}
+use Rattle.cql_candidates.specs.Covers.{AreRetained, IsNecessaryPart, MayHold, MayHave}
+use Rattle.cql_candidates.specs.declared.moves.PartColumns.{PartColumns}
 use Rattle.cql_eval.specs.declared.evaluate.trial.Trial.{Trial}
 
 -- some squares are removed from the sets, none with which the values may hold
 abbrev pub LeavesHolding : Trial → (Names → ℕ → Value) → List ℕ → List ℕ → Type 0
-LeavesHolding t v old new = AreCut t.live.now (MayHold t.opened.now t.scope.now.names.now t.name.now v) old new
+LeavesHolding t v old new = AreRetained t.live.now (MayHold t.opened.now t.scope.now.names.now t.name.now v) old new
 
 -- some squares are removed from the sets, none that the values may have
 abbrev pub LeavesHaving : Trial → (Names → ℕ → Value) → List ℕ → List ℕ → Type 0
-LeavesHaving t v old new = AreCut t.live.now (MayHave t.opened.now t.scope.now.names.now t.name.now v) old new
+LeavesHaving t v old new = AreRetained t.live.now (MayHave t.opened.now t.scope.now.names.now t.name.now v) old new
 
 -- The columns of the parts of a move, without its goal, are necessary conditions at the nodes of a set to which moves led. The origin and
 -- the man taken are evaluated at the node before.

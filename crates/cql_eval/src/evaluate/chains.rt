@@ -8,19 +8,19 @@ ghost use Rattle.cql_columns.specs.Columns.{IsNodeSet, IsColumn, Where, all_show
 ghost use Rattle.cql_columns.specs.Costs.{filters_cost, terms_cost, searched_len};
 ghost use Rattle.cql_columns.specs.FlatTrees.{IsFlat, AreFlat, AreFlatTerms};
 ghost use Rattle.cql_columns.specs.Scopes.{tree_in, values_in};
-ghost use Rattle.cql_pruning.specs.Classes.{is_of, is_before, is_as_wanted_if, are_as_wanted, cost_if, cost_of, CoverClasses, IsLeft};
-ghost use Rattle.cql_pruning.specs.Occupancy.{AreOccupancies};
+ghost use Rattle.cql_candidates.specs.Classes.{is_of, is_before, is_as_wanted_if, are_as_wanted, cost_if, cost_of, CoverClasses, IsLeft};
+ghost use Rattle.cql_candidates.specs.Occupancy.{AreOccupancies};
 
 use super::columns::negated_column;
 use super::evaluate;
 use cq_common::{NoMemory, Steps};
+use cql_candidates::by_occupancy::{conjuncts, occupancy_column};
+use cql_candidates::ever_standing::{ImageScope, fails_everywhere, occupancies_of};
+use cql_candidates::order::{COST_CLASSES, classes_of, is_of_class, may_have};
 use cql_columns::filter_column::FilterColumn;
 use cql_columns::nodes::same;
 use cql_columns::scope::Scope;
 use cql_operators::narrow::narrow;
-use cql_pruning::by_occupancy::{conjuncts, occupancy_column};
-use cql_pruning::ever_standing::{ImageScope, fails_everywhere, occupancies_of};
-use cql_pruning::order::{CLASSES, classes_of, is_of_class, may_have};
 use cql_syntax::{Filter, Filters, Terms};
 use std::alloc::Global;
 use std::sync::ledger::Ledger;
@@ -42,7 +42,7 @@ pub(super) fn some_column<L: Ledger>(
     ensures cost { steps.new ≤ steps.old + filters_cost (searched_len (tree_in scope.now)) (filters_tree filters.now) }
     ensures rises { steps.old ≤ steps.new }
 {
-    let fails = left_by(alloc, CLASSES, false, filters, scope, live, steps)?;
+    let fails = left_by(alloc, COST_CLASSES, false, filters, scope, live, steps)?;
     negated_column(alloc, FilterColumn::Truths(fails), live)
 }
 

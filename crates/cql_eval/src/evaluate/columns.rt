@@ -7,10 +7,11 @@ ghost use Rattle.cql_values.specs.FilterValues.{unary_result};
 ghost use Rattle.cql_columns.specs.Columns.{IsNodeSet, IsColumn, is_live, shown, all_shown, terms_shown};
 ghost use Rattle.cql_columns.specs.Scopes.{tree_in};
 ghost use Rattle.cql_operators.specs.OtherNodes.{is_from_other_nodes, CoverSourceNodes};
-ghost use Rattle.cql_pruning.specs.MoveTargets.{is_as_asked};
+ghost use Rattle.cql_candidates.specs.MoveTargets.{move_matches};
 
 use cq_common::NoMemory;
 use cq_geometry::Compass;
+use cql_candidates::moves::{PartColumns, matching_moves};
 use cql_columns::filter_column::FilterColumn;
 use cql_columns::scope::Scope;
 use cql_columns::standing_squares::standing_sets;
@@ -21,7 +22,6 @@ use cql_operators::combine::{
 use cql_operators::from_other_nodes::nodes_that_find;
 use cql_operators::narrow::narrowed;
 use cql_operators::words::word_values;
-use cql_pruning::moves::{PartColumns, moves_met};
 use cql_syntax::{Chain, Designator, Kind, Pair, Plain, Unary};
 use std::alloc::Global;
 
@@ -121,9 +121,9 @@ pub(super) fn met_column(
     requires tree { IsTree scope.now.game.now.nodes }
     requires asked { IsNodeSet (tree_in scope.now) live.now }
     ensures { IfOk result (λ c. (n : ℕ) → shown c n ≡ spec.as_truth
-        (is_live live.now n && is_as_asked (tree_in scope.now) parts (option_map (λ c. shown c n) goal) n)) }
+        (is_live live.now n && move_matches (tree_in scope.now) parts (option_map (λ c. shown c n) goal) n)) }
 {
-    let truths = moves_met(alloc, scope, &parts, &goal, live);
+    let truths = matching_moves(alloc, scope, &parts, &goal, live);
     drop(parts);
     drop(goal);
     Ok(FilterColumn::Truths(truths?))

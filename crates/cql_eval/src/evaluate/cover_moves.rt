@@ -7,20 +7,21 @@ ghost use Rattle.cql_syntax.specs.Values as spec;
 ghost use Rattle.cql_columns.specs.Columns.{IsNodeSet, shown};
 ghost use Rattle.cql_columns.specs.FlatTrees.{IsFlatMove, IsFlatPart};
 ghost use Rattle.cql_columns.specs.Scopes.{tree_in};
-ghost use Rattle.cql_pruning.specs.Covers.{AreCut, IsNecessaryPart};
-ghost use Rattle.cql_pruning.specs.MoveTargets.{is_as_asked};
+ghost use Rattle.cql_candidates.specs.Covers.{AreRetained, IsNecessaryPart};
+ghost use Rattle.cql_candidates.specs.MoveTargets.{move_matches};
 ghost use Rattle.cql_eval.specs.Internal.Trials.{AreNecessaryParts, LeavesHolding};
 
 use super::played::written_column;
 use super::trial::Trial;
 use cq_common::{NoMemory, Steps};
+use cql_candidates::covers::{retain_move_squares, retain_where_holds, with_squares};
+use cql_candidates::independent::is_independent_and_present;
+use cql_candidates::moves::{PartColumns, matching_moves};
 use cql_columns::filter_column::FilterColumn;
 use cql_columns::scope::Scope;
 use cql_operators::tree::nodes_before;
-use cql_pruning::covers::{cut_moves, cut_where_fails, with_squares};
-use cql_pruning::independent::{is_independent_and_written, part_gives_only_name};
-use cql_pruning::moves::{PartColumns, moves_met};
 use cql_syntax::{Filter, Played};
+use cql_values::filter_forms::part_gives_only_name;
 use cql_values::names::Names;
 use std::alloc::Global;
 use std::sync::ledger::Ledger;
@@ -48,7 +49,7 @@ pub(super) fn cover_played<L: Ledger>(
     let origin = part_gives_only_name(trial.name, &played.origin);
     let goal = part_gives_only_name(trial.name, &played.goal);
     let taken = part_gives_only_name(trial.name, &played.taken);
-    cut_moves(sets, trial.live, trial.scope, origin, goal, taken);
+    retain_move_squares(sets, trial.live, trial.scope, origin, goal, taken);
     if !asks_without(trial.opened, played) {
         return Ok(());
     }
@@ -71,15 +72,15 @@ fn cut_unmet(
     requires tree { IsTree scope.now.game.now.nodes }
     requires asked { IsNodeSet (tree_in scope.now) live.now }
     requires count { length sets.old ≡ length live.now }
-    ensures cut { OnOk result (AreCut live.now
-        (λ n s. is_as_asked (tree_in scope.now) parts (option_map (λ c. shown c n) goal) n ≡ true) sets.old sets.new) }
+    ensures cut { OnOk result (AreRetained live.now
+        (λ n s. move_matches (tree_in scope.now) parts (option_map (λ c. shown c n) goal) n ≡ true) sets.old sets.new) }
     ensures len { length sets.new ≡ length sets.old }
 {
-    let met = moves_met(alloc, scope, &parts, &goal, live);
+    let met = matching_moves(alloc, scope, &parts, &goal, live);
     drop(parts);
     drop(goal);
     let truths = FilterColumn::Truths(met?);
-    cut_where_fails(sets, live, &truths);
+    retain_where_holds(sets, live, &truths);
     drop(truths);
     Ok(())
 }
@@ -115,10 +116,10 @@ fn independent_columns<L: Ledger>(
 
 // Returns true if some part that is written has no open name. If there is none, no part need be evaluated.
 fn asks_without(opened: &Names, played: &Played) -> bool {
-    is_independent_and_written(opened, &played.origin)
-        || is_independent_and_written(opened, &played.goal)
-        || is_independent_and_written(opened, &played.taken)
-        || is_independent_and_written(opened, &played.promoted)
+    is_independent_and_present(opened, &played.origin)
+        || is_independent_and_present(opened, &played.goal)
+        || is_independent_and_present(opened, &played.taken)
+        || is_independent_and_present(opened, &played.promoted)
 }
 
 // The column at these nodes of a part without open names, and `None` for another part.
@@ -137,7 +138,7 @@ fn independent_column<L: Ledger>(
         (written_tree written.now) live.now) }
     ensures cost { steps.new ≡ steps.old }
 {
-    if !is_independent_and_written(trial.opened, written) {
+    if !is_independent_and_present(trial.opened, written) {
         return Ok(None);
     }
     written_column(alloc, written, trial.scope, live, steps)

@@ -6,14 +6,14 @@ ghost use Rattle.cql_syntax.specs.Values as spec;
 ghost use Rattle.cql_columns.specs.Columns.{IsNodeSet};
 ghost use Rattle.cql_columns.specs.FlatTrees.{IsFlat, AreFlat};
 ghost use Rattle.cql_columns.specs.Scopes.{tree_in, value_with, values_with};
-ghost use Rattle.cql_pruning.specs.Covers.{AreAdded, MayHold};
+ghost use Rattle.cql_candidates.specs.Covers.{AreAdded, MayHold};
 ghost use Rattle.cql_eval.specs.Internal.Trials.{LeavesHolding};
 
 use super::covers::cover;
 use super::trial::Trial;
 use cq_common::{NoMemory, Steps};
+use cql_candidates::covers::{add_sets, copy_sets, cut};
 use cql_columns::filter_column::{FilterColumn, blank_sets};
-use cql_pruning::covers::{add_sets, cut, same_sets};
 use cql_syntax::{Filter, Filters};
 use std::alloc::Global;
 use std::sync::ledger::Ledger;
@@ -66,7 +66,7 @@ fn add_covered<L: Ledger>(
     ensures len { length kept.new ≡ length kept.old }
     ensures cost { steps.new ≡ steps.old }
 {
-    let mut left = same_sets(alloc, sets)?;
+    let mut left = copy_sets(alloc, sets)?;
     cover(alloc, trial, part, &mut left, steps)?;
     add_sets(kept, &left);
     Ok(())

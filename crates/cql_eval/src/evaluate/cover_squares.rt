@@ -15,9 +15,9 @@ use super::evaluate;
 use super::trial::Trial;
 use cq_common::{NoMemory, Steps};
 use cq_geometry::Square;
-use cql_pruning::covers::with_squares;
-use cql_pruning::independent::{is_independent, is_other};
-use cql_pruning::pairs::{PairTrial, asks_pair, cut_paired};
+use cql_candidates::covers::with_squares;
+use cql_candidates::independent::{is_independent, is_some_square_of_other_name};
+use cql_candidates::pairs::{PairTrial, retain_paired, tests_attack_pair};
 use cql_syntax::{Filter, Form};
 use std::alloc::Global;
 use std::sync::ledger::Ledger;
@@ -44,7 +44,7 @@ pub(super) fn cover_square<L: Ledger>(
     match &asked.form {
         Form::Square(every, inner, squares, part) => {
             let inner = inner.as_slice();
-            if !is_other(*every, inner, trial.name) {
+            if !is_some_square_of_other_name(*every, inner, trial.name) {
                 return Ok(());
             }
             cover_inner(alloc, trial, inner, part, sets, steps)?;
@@ -106,7 +106,7 @@ fn cover_pair<L: Ledger>(
     ensures len { length sets.new ≡ length sets.old }
     ensures cost { steps.new ≡ steps.old }
 {
-    if !asks_pair(trial.name, inner, part) {
+    if !tests_attack_pair(trial.name, inner, part) {
         return Ok(());
     }
     if !is_independent(trial.opened, squares) {
@@ -122,7 +122,7 @@ fn cover_pair<L: Ledger>(
         other: inner,
         column: &column,
     };
-    cut_paired(sets, &paired, part);
+    retain_paired(sets, &paired, part);
     drop(column);
     Ok(())
 }

@@ -8,7 +8,7 @@ ghost use Rattle.cql_syntax.specs.declared.leaves.Pair.TheVariants.{Attacks, Att
 ghost use Rattle.cql_columns.specs.Columns.{IsNodeSet};
 ghost use Rattle.cql_columns.specs.FlatTrees.{IsFlat, AreFlat};
 ghost use Rattle.cql_columns.specs.Scopes.{tree_in, value_with, values_with};
-ghost use Rattle.cql_pruning.specs.Covers.{IsIndependent};
+ghost use Rattle.cql_candidates.specs.Covers.{IsIndependent};
 ghost use Rattle.cql_eval.specs.Internal.Trials.{LeavesHolding, LeavesHaving};
 
 use super::cover_moves::cover_played;
@@ -17,16 +17,18 @@ use super::cover_squares::cover_square;
 use super::evaluate;
 use super::trial::Trial;
 use cq_common::{NoMemory, Steps};
+use cql_candidates::covers::{
+    any_nonempty, cut, retain_attackers, retain_where_holds, uniform_sets, union_at_live,
+    with_squares,
+};
+use cql_candidates::independent::{converse, is_independent};
+use cql_candidates::order::{SORT_CLASS, is_of_class};
 use cql_columns::filter_column::FilterColumn;
 use cql_operators::from_other_nodes::{reads_other_nodes, source_nodes, squares_of_sources};
-use cql_pruning::covers::{
-    any_left, any_squares, cut, cut_related, cut_where_fails, uniform_sets, with_squares,
-};
-use cql_pruning::independent::{
-    converse, gives_only_name, is_all, is_attack, is_independent, is_intersection, is_or,
-};
-use cql_pruning::order::{SORTS, is_of_class};
 use cql_syntax::{Filter, Filters, Form, Pair, Unary};
+use cql_values::filter_forms::{
+    gives_only_name, is_attack, is_conjunction, is_disjunction, is_intersection,
+};
 use std::alloc::Global;
 use std::sync::ledger::Ledger;
 
@@ -49,7 +51,7 @@ pub(super) fn cover<L: Ledger>(
     ensures len { length sets.new ≡ length sets.old }
     ensures cost { steps.new ≡ steps.old }
 {
-    if !any_left(sets) {
+    if !any_nonempty(sets) {
         return Ok(());
     }
     if is_independent(trial.opened, asked) {
@@ -60,10 +62,10 @@ pub(super) fn cover<L: Ledger>(
     }
     match &asked.form {
         Form::Chain(chain, parts) => {
-            if is_or(*chain) {
+            if is_disjunction(*chain) {
                 return cover_some(alloc, trial, parts, sets, steps);
             }
-            if !is_all(*chain) {
+            if !is_conjunction(*chain) {
                 return Ok(());
             }
             cover_all(alloc, trial, parts, sets, steps)
@@ -106,7 +108,7 @@ fn cover_independent<L: Ledger>(
 {
     let some = with_squares(alloc, trial.scope, trial.live, sets)?;
     let column = evaluate(alloc, asked, trial.scope, &some, steps)?;
-    cut_where_fails(sets, &some, &column);
+    retain_where_holds(sets, &some, &column);
     drop(column);
     Ok(())
 }
@@ -129,7 +131,7 @@ fn cover_all<L: Ledger>(
     ensures len { length sets.new ≡ length sets.old }
     ensures cost { steps.new ≡ steps.old }
 {
-    for class in 0..SORTS {
+    for class in 0..SORT_CLASS {
         cover_class(alloc, trial, class, parts, sets, steps)?;
     }
     Ok(())
@@ -210,7 +212,7 @@ fn cover_other_nodes<L: Ledger>(
     }
     let wide = source_nodes(alloc, word, trial.scope, trial.live)?;
     let wide = wide.as_slice();
-    let mut there = uniform_sets(alloc, wide, any_squares(trial.live, sets))?;
+    let mut there = uniform_sets(alloc, wide, union_at_live(trial.live, sets))?;
     let elsewhere = Trial {
         live: wide,
         ..*trial
@@ -339,7 +341,7 @@ fn cover_related<L: Ledger>(
     }
     let some = with_squares(alloc, trial.scope, trial.live, sets)?;
     let column = evaluate(alloc, second, trial.scope, &some, steps)?;
-    cut_related(sets, &some, trial.scope, pair, &column);
+    retain_attackers(sets, &some, trial.scope, pair, &column);
     drop(column);
     Ok(())
 }

@@ -9,16 +9,16 @@ ghost use Rattle.cql_eval.specs.Internal.Bindings.{holds_with};
 ghost use Rattle.cql_columns.specs.Columns.{IsNodeSet, AreTruths, is_live, shown};
 ghost use Rattle.cql_columns.specs.FlatTrees.{IsFlat, IsFlatMove};
 ghost use Rattle.cql_columns.specs.Scopes.{tree_in};
-ghost use Rattle.cql_pruning.specs.MoveTargets.{goes_as_asked};
+ghost use Rattle.cql_candidates.specs.MoveTargets.{move_to_set_matches};
 
 use super::played::part_columns;
 use cq_common::{NoMemory, Steps};
+use cql_candidates::covers::sets_of;
+use cql_candidates::move_targets::{moves_to, tests_goal};
+use cql_candidates::moves::{PartColumns, promotion_nodes};
 use cql_columns::binding::Binding;
-use cql_pruning::covers::sets_of;
-use cql_pruning::independent::is_all;
-use cql_pruning::move_targets::{asks_goal, moves_to};
-use cql_pruning::moves::{PartColumns, promoting};
 use cql_syntax::{Filter, Form, Played};
+use cql_values::filter_forms::is_conjunction;
 use cql_values::names::Names;
 use std::alloc::Global;
 use std::sync::ledger::Ledger;
@@ -46,7 +46,7 @@ pub(super) fn goal_truths<L: Ledger>(
     match &asked.form {
         // A chain of one filter.
         Form::Chain(chain, parts) => {
-            if !is_all(*chain) {
+            if !is_conjunction(*chain) {
                 return Ok(None);
             }
             if parts.len() != 1 {
@@ -84,11 +84,11 @@ fn goal_met<L: Ledger>(
         ((binding.now.name.now, s) ∷ binding.now.scope.now.names.now) (played_tree played.now) n)))) }
     ensures cost { steps.new ≡ steps.old }
 {
-    if !asks_goal(opened, binding.name, played) {
+    if !tests_goal(opened, binding.name, played) {
         return Ok(None);
     }
     let promotes = played.promoted.is_some();
-    let some = promoting(alloc, binding.scope, promotes, live)?;
+    let some = promotion_nodes(alloc, binding.scope, promotes, live)?;
     let some = some.as_slice();
     let parts = part_columns(alloc, played, binding.scope, some, steps)?;
     let there = moves_to_square(alloc, binding, &parts, some);
@@ -107,7 +107,7 @@ fn moves_to_square(
     requires asked { IsNodeSet (tree_in binding.now.scope.now) live.now }
     ensures { IfOk result (λ there. IfSome there (λ truths. (n : ℕ) → (set : ℕ) × (is_live live.now n ≡ true
         → is_in set ≡ spec.has (shown binding.now.squares.now n)) × (get_or truths.items n false
-        ≡ (is_live live.now n && goes_as_asked (tree_in binding.now.scope.now) parts.now set n)))) }
+        ≡ (is_live live.now n && move_to_set_matches (tree_in binding.now.scope.now) parts.now set n)))) }
 {
     let sets = sets_of(alloc, live, binding.squares)?;
     let truths = moves_to(alloc, binding.scope, parts, &sets, live)?;

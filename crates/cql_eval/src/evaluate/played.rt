@@ -8,15 +8,15 @@ ghost use Rattle.cql_columns.specs.Columns.{IsNodeSet, IsColumn, Where, shown};
 ghost use Rattle.cql_columns.specs.Costs.{played_cost, written_cost, searched_len};
 ghost use Rattle.cql_columns.specs.FlatTrees.{IsFlatMove, IsFlatPart};
 ghost use Rattle.cql_columns.specs.Scopes.{tree_in};
-ghost use Rattle.cql_pruning.specs.MoveTargets.{ArePartColumns, parts_cost};
+ghost use Rattle.cql_candidates.specs.MoveTargets.{ArePartColumns, parts_cost};
 
 use super::columns::met_column;
 use super::evaluate;
 use cq_common::{NoMemory, Steps};
+use cql_candidates::moves::{PartColumns, promotion_nodes};
 use cql_columns::filter_column::FilterColumn;
 use cql_columns::scope::Scope;
 use cql_operators::tree::nodes_before;
-use cql_pruning::moves::{PartColumns, promoting};
 use cql_syntax::{Filter, Played};
 use std::alloc::Global;
 use std::sync::ledger::Ledger;
@@ -41,7 +41,7 @@ pub(super) fn played_column<L: Ledger>(
     ensures rises { steps.old ≤ steps.new }
 {
     let promotes = played.promoted.is_some();
-    let some = promoting(alloc, scope, promotes, live)?;
+    let some = promotion_nodes(alloc, scope, promotes, live)?;
     let some = some.as_slice();
     let parts = part_columns(alloc, played, scope, some, steps)?;
     let goal = written_column(alloc, &played.goal, scope, some, steps)?;

@@ -9,7 +9,7 @@ ghost use Rattle.cql_columns.specs.Columns.{IsNodeSet, AreTruths, shown};
 ghost use Rattle.cql_columns.specs.Costs.{filter_cost, searched_len};
 ghost use Rattle.cql_columns.specs.FlatTrees.{IsFlat};
 ghost use Rattle.cql_columns.specs.Scopes.{tree_in};
-ghost use Rattle.cql_pruning.specs.Covers.{AreWorthTrying};
+ghost use Rattle.cql_candidates.specs.Covers.{AreWorthTrying};
 
 use super::covers::cover;
 use super::evaluate;
@@ -18,15 +18,15 @@ use super::trial::Trial;
 use crate::local::local_truths;
 use cq_common::{NoMemory, Steps};
 use cq_geometry::Square;
+use cql_candidates::attacks::{attacked_designator, is_only_attack_test};
+use cql_candidates::covers::sets_of;
+use cql_candidates::independent::only_name;
 use cql_columns::binding::Binding;
 use cql_columns::filter_column::FilterColumn;
 use cql_columns::nodes::{any_live, same};
 use cql_columns::scope::Scope;
 use cql_operators::attacks::attack_truths;
 use cql_operators::squares::{decided, having, unsettled, wanted_squares};
-use cql_pruning::attacks::{attacked_part, is_attack_alone};
-use cql_pruning::covers::sets_of;
-use cql_pruning::independent::only_name;
 use cql_syntax::Filter;
 use cql_values::names::Names;
 use cql_values::sets::has_square;
@@ -56,7 +56,7 @@ pub(super) fn square_filter_truths<L: Ledger>(
         return square_truths(alloc, binding, asked, live, steps);
     }
     // This filter is evaluated for all squares at once, so nothing is gained if some are left out.
-    if is_attack_alone(binding.name, asked) {
+    if is_only_attack_test(binding.name, asked) {
         return square_truths(alloc, binding, asked, live, steps);
     }
     let opened = only_name(alloc, binding.name)?;
@@ -122,7 +122,7 @@ fn square_truths<L: Ledger>(
     ensures cost { steps.new ≤ steps.old + 64 * filter_cost (searched_len (tree_in binding.now.scope.now)) (filter_tree asked.now) }
     ensures rises { steps.old ≤ steps.new }
 {
-    match attacked_part(binding.every, binding.name, asked) {
+    match attacked_designator(binding.every, binding.name, asked) {
         Some(d) => return attack_truths(alloc, binding.squares, d, binding.scope, live),
         None => {}
     }

@@ -1,12 +1,11 @@
 -- Squares that are candidates for a name.
-use Rattle.std.specs.Prelude.{◌≡◌, ℕ, ◌<◌, ◌==◌, Bool, true, List, [], ◌∷◌, Option}
-use Rattle.std.specs.List.{list_all}
+use Rattle.std.specs.Prelude.{◌≡◌, ℕ, ◌<◌, Bool, true, List, [], ◌∷◌, Option}
 use Rattle.cq_position.specs.Board.{Board}
 use Rattle.cq_position.specs.Search.{SearchedTree}
 use Rattle.cq_symmetry.specs.Images.{is_in}
 use Rattle.cql_syntax.specs.Meaning.{Names, value, values, written_value, meets, position_at}
 use Rattle.cql_syntax.specs.Trees.{FilterTree, FilterTrees, WrittenTree}
-use Rattle.cql_syntax.specs.Values.{Value, has, squares_where}
+use Rattle.cql_syntax.specs.Values.{Value, has}
 use Rattle.cql_local.specs.NodeScopes.{tree_of}
 use Rattle.cql_local.specs.declared.candidates.LocalBinding.{LocalBinding}
 
@@ -29,18 +28,6 @@ position_of t = position_at (tree_of t.place.now) t.place.now.node
 -- the squares of a filter are this set, independent of the name
 pub record IsFixed (t : LocalBinding) (f : FilterTree) (set : ℕ) : Type 0 where
   pub same : (s : ℕ) → has (value_with t f s) ≡ is_in set
-
--- the filter has only the square that is bound to the name
-pub record IsName (name : List ℕ) (f : FilterTree) : Type 0 where
-  pub own : (tree : SearchedTree) (e : Names) (n s : ℕ) → value tree [] ((name, s) ∷ e) f n ≡ squares_where (λ t. s == t)
-
--- the filter has no other square than the one that is bound to the name
-pub record GivesOnlyName (name : List ℕ) (f : FilterTree) : Type 0 where
-  pub own : (tree : SearchedTree) (e : Names) (n s t : ℕ) → has (value tree [] ((name, s) ∷ e) f n) t ≡ true → s ≡ t
-
--- the intersection of the filters has no other square than the one that is bound to the name
-pub record IntersectInName (name : List ℕ) (fs : FilterTrees) : Type 0 where
-  pub own : (tree : SearchedTree) (e : Names) (n s t : ℕ) → list_all (λ v. has v t) (values tree [] ((name, s) ∷ e) fs n) ≡ true → s ≡ t
 
 -- if a part of a move agrees with the square, the set has the square that is bound to the name
 pub record Allows (name : List ℕ) (w : WrittenTree) (square : Option ℕ) (set : ℕ) : Type 0 where

@@ -5,7 +5,7 @@ use Rattle.cq_outside.specs.Flow.{Grew}
 use Rattle.cq_common.specs.declared.faults.Failed.{Failed}
 use Rattle.cq_common.specs.declared.faults.Refusal.{Refusal}
 use Rattle.cq_common.specs.declared.faults.Refusal.TheVariants.{Fault, NoMemory}
-use Rattle.pgn_json.specs.Writing.{SinkView}
+use Rattle.cq_program.specs.Views.{SinkView}
 
 -- all of a text was written but for these bytes at its end, which wait
 pub record WaitsOf (text : List ℕ) (was now : SinkView) (waiting : List ℕ) : Type 0 where

@@ -1,7 +1,7 @@
 -- The texts that workers make of the games of a part of a batch, as the private functions give them.
 use Rattle.std.specs.Prelude.{◌≡◌, ℕ, ◌+◌, ◌<◌, List, [], ◌∷◌, length, slice_get, Some}
 use Rattle.pgn_batches.specs.declared.kept_game.KeptGame.{KeptGame}
-use Rattle.cq_workers.specs.NumberedOutputs.{AreMade, HasMade}
+use Rattle.cq_workers.specs.NumberedOutputs.{AreOutputs, HasOutputs}
 use Rattle.pgn_json.specs.Internal.Parts.{Part, size}
 use Rattle.pgn_json.specs.Internal.Texts.{AreTextsOf}
 use Rattle.pgn_json.specs.declared.part_texts.GameTexts.{GameTexts}
@@ -22,11 +22,11 @@ number_in made = made.number
 
 -- a worker made these of the games with these numbers
 abbrev pub HasMadeTexts : Part → List ℕ → List GameTexts → Type 0
-HasMadeTexts part numbers made = HasMade (IsTextsAt part) number_in 0 (size part) numbers made
+HasMadeTexts part numbers made = HasOutputs (IsTextsAt part) number_in 0 (size part) numbers made
 
 -- up to order, those of each game, once
 abbrev pub AreGameTexts : Part → List GameTexts → Type 0
-AreGameTexts part made = AreMade (IsTextsAt part) number_in 0 (size part) made
+AreGameTexts part made = AreOutputs (IsTextsAt part) number_in 0 (size part) made
 
 -- the texts of a game are at its number
 abbrev pub IsPlaced : Part → ℕ → List Texts → Type 0

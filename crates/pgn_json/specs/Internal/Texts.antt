@@ -5,25 +5,26 @@ use Rattle.pgn_batches.specs.KeptGames.{KeptGames}
 use Rattle.cq_outside.specs.Faults.{Rose}
 use Rattle.cq_outside.specs.Flow.{Grew}
 use Rattle.cq_report.specs.Games.{summary_line}
-use Rattle.pgn_json.specs.Lines.{Entry, fault_lines, faulty, lines}
+use Rattle.pgn_json.specs.Lines.{ArchiveGame, fault_lines, faulty, lines}
 use Rattle.pgn_json.specs.Internal.Parts.{Part}
-use Rattle.pgn_json.specs.Writing.{NoWriteFailed, OneWriteFailed, SinkView, Sinks, Writes}
-use Rattle.pgn_json.specs.declared.status.Status.{Status}
-use Rattle.pgn_json.specs.declared.status.Status.TheVariants.{Done, DoneWithRefusals, WriteFault, NoMemory}
+use Rattle.cq_program.specs.Views.{SinkView}
+use Rattle.pgn_json.specs.Writing.{NoWriteFailed, OneWriteFailed, Sinks, Writes}
+use Rattle.cq_program.specs.declared.status.Status.{Status}
+use Rattle.cq_program.specs.declared.status.Status.TheVariants.{Done, DoneWithRefusals, WriteFault, NoMemory}
 use Rattle.pgn_json.specs.declared.texts.Texts.{Texts}
-use Rattle.pgn_reader.specs.Verdict.{IsRead}
+use Rattle.pgn_reader.specs.Verdict.{IsReadResult}
 
 -- these are games that batches keep, the first having this number
-abbrev pub AreKept : ℕ → KeptGames → List Entry → Type 0
+abbrev pub AreKept : ℕ → KeptGames → List ArchiveGame → Type 0
 AreKept number [] [] = Unit {0}
 AreKept number [] (e ∷ es) = ⊥
 AreKept number (g ∷ gs) [] = ⊥
 AreKept number (g ∷ gs) (e ∷ es) =
-    ((e.number ≡ number) × (e.byte ≡ g.start) × IsRead g.start g.first g.bytes e.outcome) × AreKept (number + 1) gs es
+    ((e.number ≡ number) × (e.byte ≡ g.start) × IsReadResult g.start g.first g.bytes e.outcome) × AreKept (number + 1) gs es
 
 -- the texts of some games, the first having this number
 pub record AreTextsOf (mark : List ℕ) (number : ℕ) (games : KeptGames) (texts : Texts) : Type 0 where
-  pub entries : List Entry
+  pub entries : List ArchiveGame
   pub are : AreKept number games entries
   pub lines_ : texts.lines ≡ lines mark entries
   pub faults_ : texts.faults ≡ fault_lines entries
@@ -31,7 +32,7 @@ pub record AreTextsOf (mark : List ℕ) (number : ℕ) (games : KeptGames) (text
 
 -- games of an archive from its first one on were taken, so many of which are faulty: they were written
 pub record HasTaken (mark : List ℕ) (was now : Sinks) (count : ℕ) (games : KeptGames) : Type 0 where
-  pub entries : List Entry
+  pub entries : List ArchiveGame
   pub are : AreKept 1 games entries
   pub count_is : count ≡ faulty entries
   pub writes : Writes was now (lines mark entries) (fault_lines entries)
@@ -43,8 +44,8 @@ pub record IsCutShort (mark : List ℕ) (was now : Sinks) (games batch : KeptGam
   pub part : KeptGames
   pub rest : KeptGames
   pub split : batch ≡ first ++ (part ++ rest)
-  pub entries : List Entry
-  pub next : List Entry
+  pub entries : List ArchiveGame
+  pub next : List ArchiveGame
   pub are : AreKept 1 (games ++ first) entries
   pub next_are : AreKept (1 + length (games ++ first)) part next
   pub out_count : ℕ
@@ -81,7 +82,7 @@ pub record HasWrittenFront (part : Part) (was now : Sinks) : Type 0 where
   pub games : KeptGames
   pub rest : KeptGames
   pub split : part.games ≡ games ++ rest
-  pub next : List Entry
+  pub next : List ArchiveGame
   pub are : AreKept (part.before + 1) games next
   pub out_count : ℕ
   pub err_count : ℕ

@@ -11,7 +11,7 @@ use Rattle.pgn_lexer.specs.declared.token.TokenKind.TheVariants.{Open, Close, Te
 use Rattle.pgn_reader.specs.Words.{Word, Sense, plays, annotates, remarks, ends, opens, closes, means_nothing, out_of_place, sense}
 use Rattle.cq_position.specs.Games.{with_tag}
 use Rattle.pgn_reader.specs.Tags.{Tags, start_of, value_of}
-use Rattle.pgn_reader.specs.Line.{led_to}
+use Rattle.pgn_reader.specs.Line.{position_after}
 use Rattle.pgn_reader.specs.Internal.Frame.{Frame, begin, begin_game, advance, with_glyph, with_remark, with_variation}
 use Rattle.pgn_reader.specs.Limits.{most_levels}
 
@@ -66,7 +66,7 @@ on_closing tags start _ = stuck
 -- other token. A variation may be at most of the hundredth level.
 abbrev pub on_move : Head → Frame → List Frame → Result Move SanFault → State
 on_move h f k (Err fault) = stuck
-on_move h f k (Ok m) = at (one_more h) (advance f m (led_to f.reached m)) k
+on_move h f k (Ok m) = at (one_more h) (advance f m (position_after f.reached m)) k
 
 abbrev pub on_marker : Head → Frame → List Frame → GameResult → State
 on_marker h f [] result = ended h f result

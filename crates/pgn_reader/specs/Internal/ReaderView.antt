@@ -6,7 +6,7 @@ use Rattle.pgn_reader.specs.declared.fault.Reason.{Reason}
 use Rattle.pgn_reader.specs.declared.fault.Reason.TheVariants.{TooManyPositions}
 use Rattle.pgn_reader.specs.declared.token_machine.Reader.{Reader}
 use Rattle.pgn_reader.specs.declared.token_machine.Phase.{Phase}
-use Rattle.pgn_reader.specs.declared.token_machine.Phase.TheVariants.{Movetext, Opened, Named, Valued, Ended}
+use Rattle.pgn_reader.specs.declared.token_machine.Phase.TheVariants.{Movetext, AfterBracket, AfterName, AfterValue, AfterResult}
 use Rattle.pgn_reader.specs.Words.{Sense}
 use Rattle.pgn_lexer.specs.declared.token.TokenKind.{TokenKind}
 use Rattle.pgn_lexer.specs.declared.token.LexemeKind.{LexemeKind}
@@ -18,14 +18,14 @@ use Rattle.pgn_reader.specs.Internal.GameAssembly.{reading_place_of}
 use Rattle.pgn_reader.specs.Limits.{most_moves}
 
 abbrev pub head_of : Reader → Head
-head_of r = record { tags = r.preface.tags; start = r.preface.start; heading = r.heading; moves = r.moves }
+head_of r = record { tags = r.tag_section.tags; start = r.tag_section.start; heading = r.heading; moves = r.moves }
 
 abbrev pub state_by_phase : Phase → Reader → State
 state_by_phase Movetext r = at (head_of r) r.line (reverse r.around.items)
-state_by_phase Opened r = opened r.preface.tags
-state_by_phase Named r = named r.preface.tags r.name.items
-state_by_phase Valued r = valued r.preface.tags r.preface.start
-state_by_phase (Ended result) r = ended (head_of r) r.line result
+state_by_phase AfterBracket r = opened r.tag_section.tags
+state_by_phase AfterName r = named r.tag_section.tags r.name.items
+state_by_phase AfterValue r = valued r.tag_section.tags r.tag_section.start
+state_by_phase (AfterResult result) r = ended (head_of r) r.line result
 
 abbrev pub state_of : Reader → State
 state_of r = state_by_phase r.phase r

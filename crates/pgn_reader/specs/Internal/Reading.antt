@@ -3,7 +3,7 @@ use Rattle.std.specs.Prelude.{◌≡◌, ◌≤◌, ℕ, Bool, List, None, Resul
 use Rattle.cq_position.specs.declared.games.GameResult.{GameResult}
 use Rattle.cq_position.specs.Games.{Game}
 use Rattle.pgn_reader.specs.declared.token_machine.Phase.{Phase}
-use Rattle.pgn_reader.specs.declared.token_machine.Phase.TheVariants.{Ended}
+use Rattle.pgn_reader.specs.declared.token_machine.Phase.TheVariants.{AfterResult}
 use Rattle.pgn_reader.specs.declared.token_machine.Reader.{Reader}
 use Rattle.pgn_reader.specs.declared.fault.GameFault.{GameFault}
 use Rattle.pgn_reader.specs.Words.{Word, words_of}
@@ -28,9 +28,9 @@ IsReading start first bytes (Err f) = HasTokenFault start first bytes f
 
 -- the result of the marker, or without one that of the tags
 abbrev pub ending_by : Phase → Tags → GameResult
-ending_by (Ended result) tags = result
+ending_by (AfterResult result) tags = result
 ending_by _ tags = result_of_tags tags
 
 -- the game of which all tokens were read
 abbrev pub game_of : Reader → Game
-game_of r = game_of_frame (head_of r) r.line (ending_by r.phase r.preface.tags)
+game_of r = game_of_frame (head_of r) r.line (ending_by r.phase r.tag_section.tags)

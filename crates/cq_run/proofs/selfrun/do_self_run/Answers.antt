@@ -2,13 +2,13 @@ use Rattle.std.proofs.Common.{Err, ap, ◌∙◌, refl, subst}
 use Rattle.cql_syntax.specs.TreeOf.{query_tree}
 use Rattle.cql_syntax.specs.declared.fault.QueryFault.{QueryFault}
 use Rattle.cq_report.specs.Queries.{query_line}
-use Rattle.cq_queries.specs.Views.{sink_view, sinks_of}
-use Rattle.cq_queries.specs.Lines.{RefusesQuery}
+use Rattle.cq_query_files.specs.Views.{sink_view, sinks_of}
+use Rattle.cq_query_files.specs.Lines.{RefusesQuery}
 use Rattle.cq_run.specs.Run.{text_accepted, text_refused, text_out_of_memory}
 use Rattle.cq_run.proofs.selfrun.do_self_run.Goals as goal
 
 pub returns : goal.returns
-returns g c = λ desk. text_accepted (query_tree c.in-Ok.query.query) c.in-Ok.ensures (c.search_made_archive-status.ensures (sink_view g.E.Sink.taken g.E.Sink.faults c.args.err.now), refl)
+returns g c = λ desk. text_accepted (query_tree c.in-Ok.query.query) c.in-Ok.ensures (c.search_generated_archive-status.ensures (sink_view g.E.Sink.taken g.E.Sink.faults c.args.err.now), refl)
 
 pub returns-in-Err-Fault : goal.returns-in-Err-Fault
 returns-in-Err-Fault g c = λ desk.

@@ -1,8 +1,8 @@
 use Rattle.std.proofs.Common.{refl}
 use Rattle.cql_syntax.specs.TreeOf.{query_tree}
-use Rattle.cq_queries.specs.Views.{desk_view, sink_view, sinks_of}
+use Rattle.cq_query_files.specs.Views.{desk_view, sink_view, sinks_of}
 use Rattle.cq_run.specs.Run.{SaysAccepted, call_of}
-use Rattle.cq_queries.specs.Files.{query_file_kind}
+use Rattle.cq_query_files.specs.Files.{query_file_kind}
 use Rattle.cq_run.proofs.RunPromise.{file_answered, told_why}
 use Rattle.cq_run.proofs.top_call.do_check.Goals as goal
 

@@ -2,8 +2,8 @@ use Rattle.std.proofs.Common.{Err, ap, ◌∙◌, refl, subst}
 use Rattle.cql_syntax.specs.TreeOf.{query_tree}
 use Rattle.cql_syntax.specs.declared.fault.QueryFault.{QueryFault}
 use Rattle.cq_report.specs.Queries.{query_line}
-use Rattle.cq_queries.specs.Views.{sink_view, sinks_of}
-use Rattle.cq_queries.specs.Lines.{RefusesQuery}
+use Rattle.cq_query_files.specs.Views.{sink_view, sinks_of}
+use Rattle.cq_query_files.specs.Lines.{RefusesQuery}
 use Rattle.cq_run.specs.Run.{text_accepted, text_refused}
 use Rattle.cq_run.proofs.top_call.do_eval.Goals as goal
 

@@ -1,5 +1,5 @@
 use Rattle.cq_words.specs.declared.job.Job.TheVariants.{Run, Eval, Many}
-use Rattle.cq_queries.specs.Views.{desk_view}
+use Rattle.cq_query_files.specs.Views.{desk_view}
 use Rattle.cq_run.proofs.RunPromise.{job_is, of_file, of_text, file_over, text_over, with_settings}
 use Rattle.cq_run.proofs.top_call.do_job.Goals as goal
 

@@ -3,10 +3,10 @@ use Rattle.cql_syntax.specs.Trees.{QueryTree}
 use Rattle.cql_syntax.specs.declared.typed_query.TypedQuery.{TypedQuery}
 use Rattle.cql_syntax.specs.QueryTrees.{trees_of}
 use Rattle.cq_search.specs.ManyQueries.{texts_of_all}
-use Rattle.cq_queries.specs.Views.{desk_view, sink_view, sinks_of}
+use Rattle.cq_query_files.specs.Views.{desk_view, sink_view, sinks_of}
 use Rattle.cq_run.specs.Run.{call_of, AnswersFile}
-use Rattle.cq_queries.specs.Files.{queries_file_kind}
-use Rattle.cq_queries.proofs.PiecesRead.{held_few}
+use Rattle.cq_query_files.specs.Files.{queries_file_kind}
+use Rattle.cq_query_files.proofs.PiecesRead.{held_few}
 use Rattle.cq_run.proofs.RunPromise.{file_answered, told_why}
 use Rattle.cq_run.proofs.top_call.do_many.Goals as goal
 

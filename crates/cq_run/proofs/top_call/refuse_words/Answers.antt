@@ -1,5 +1,5 @@
 use Rattle.std.proofs.Common.{refl}
-use Rattle.cq_queries.proofs.Sinks.{unwritten}
+use Rattle.cq_query_files.proofs.Sinks.{unwritten}
 use Rattle.cq_run.proofs.top_call.refuse_words.Goals as goal
 
 pub returns-in-Ok : goal.returns-in-Ok

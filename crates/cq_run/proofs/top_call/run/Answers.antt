@@ -1,5 +1,5 @@
 use Rattle.std.proofs.Common.{Err, ap, ◌∙◌, refl}
-use Rattle.cq_queries.specs.Views.{sink_view, desk_view}
+use Rattle.cq_query_files.specs.Views.{sink_view, desk_view}
 use Rattle.cq_run.proofs.RunPromise.{job_promised, refusal_promised, memory_refusal_promised}
 use Rattle.cq_run.proofs.top_call.run.Goals as goal
 

@@ -1,6 +1,6 @@
-use Rattle.cq_queries.specs.Views.{desk_view}
+use Rattle.cq_query_files.specs.Views.{desk_view}
 use Rattle.cq_run.specs.Run.{archive_answered}
-use Rattle.cq_queries.proofs.Opening.{opened_of}
+use Rattle.cq_query_files.proofs.Opening.{opened_of}
 use Rattle.cq_run.proofs.top_call.search_file.Goals as goal
 
 pub returns-in-Ok : goal.returns-in-Ok

@@ -3,7 +3,7 @@ use Rattle.cq_words.specs.declared.job.Settings.{Settings}
 use Rattle.cql_syntax.specs.QueryTrees.{trees_of}
 use Rattle.cq_search.specs.ManyQueries.{texts_of_all}
 use Rattle.cq_search.specs.Promise.{AnswerPromise}
-use Rattle.cq_queries.specs.Views.{source_view, sink_view, sinks_of}
+use Rattle.cq_query_files.specs.Views.{source_view, sink_view, sinks_of}
 use Rattle.cq_search.proofs.AnswerPromise.{answer_call}
 use Rattle.cq_search.proofs.all_queries.answer_many.Goals as goal
 

@@ -6,8 +6,8 @@ use Rattle.cq_shared.specs.Plans.{queries_of}
 use Rattle.cq_search.specs.ManyQueries.{texts_of_all}
 use Rattle.cq_search.specs.Internal.ManyWriting.{FoundByAll}
 use Rattle.cq_search.specs.Promise.{AnswerPromise}
-use Rattle.cq_queries.specs.Views.{source_view, sink_view, sinks_of}
-use Rattle.cq_queries.specs.declared.status.Status.{Status}
+use Rattle.cq_query_files.specs.Views.{source_view, sink_view, sinks_of}
+use Rattle.cq_query_files.specs.declared.status.Status.{Status}
 use Rattle.cq_search.proofs.AllEndings.{IsWritten, all_ended, all_refused, all_stopped}
 use Rattle.cq_search.proofs.AnswerPromise.{answer_call, none_answered}
 use Rattle.cq_search.proofs.Known.{reading_as}
@@ -50,7 +50,7 @@ write_outputs-requires-clause-some g c =
 pub write_outputs-requires-clause-kept : goal.write_outputs-requires-clause-kept
 write_outputs-requires-clause-kept g c =
     let queries = trees_of (queries_of c.args.plan.now) in
-    let items = c.visit_batches.new.taker.kept.items in
+    let items = c.visit_batches.new.visitor.kept.items in
     let is = c.in-Ok-All.is ∙ ap Ok c.in-Ok-All.field-0-is in
     let says = rw is at c.visit_batches.ensures.says in
     let reading = says.taken.1.reading in
@@ -93,11 +93,11 @@ returns-in-Err-clause-answers g c =
     let sinks = sinks_of (out c.args.out.now) (out c.visit_batches.new.out) (err c.args.err.now) (err c.visit_batches.new.err) in
     let call = answer_call c.args.context.now.settings.limit (source c.args.source.now) (source c.visit_batches.new.source) sinks in
     let queries = trees_of (queries_of c.args.plan.now) in
-    let taker = c.visit_batches.new.taker in
-    let kept = map (λ row. row.items) taker.kept.items in
+    let visitor = c.visit_batches.new.visitor in
+    let kept = map (λ row. row.items) visitor.kept.items in
     let says = rw c.in-Err.is at c.visit_batches.ensures.says in
     let cause = rw c.in-Err.is at c.visit_batches.ensures.cause in
     subst (λ s. AnswerPromise (texts_of_all queries) s call) (sym c.status_of.ensures)
     (all_refused c.archives_come_in_batches.ensures {X = Status} c.in-Err.refusal (full_output_of_all queries) call _ (λ games batch status. Unit {0})
-    (λ games taken. reading_as games (λ outcomes. FoundByAll queries outcomes sinks taker.tally kept) (IsWritten (full_output_of_all queries) sinks)
+    (λ games taken. reading_as games (λ outcomes. FoundByAll queries outcomes sinks visitor.tally kept) (IsWritten (full_output_of_all queries) sinks)
     (λ outcomes found. (found.writes, found.unfailed)) taken.1.reading) says cause)

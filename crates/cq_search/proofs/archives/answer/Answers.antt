@@ -3,7 +3,7 @@ use Rattle.cq_words.specs.declared.job.Settings.{Settings}
 use Rattle.cql_syntax.specs.TreeOf.{query_tree}
 use Rattle.cq_search.specs.FirstGame.{expected_output}
 use Rattle.cq_search.specs.Promise.{AnswerPromise}
-use Rattle.cq_queries.specs.Views.{source_view, sink_view, sinks_of}
+use Rattle.cq_query_files.specs.Views.{source_view, sink_view, sinks_of}
 use Rattle.cq_search.proofs.AnswerPromise.{answer_call}
 use Rattle.cq_search.proofs.archives.answer.Goals as goal
 

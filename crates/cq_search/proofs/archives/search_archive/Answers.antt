@@ -1,5 +1,5 @@
 use Rattle.cql_syntax.specs.TreeOf.{query_tree}
-use Rattle.cq_queries.specs.Views.{source_view, sink_view}
+use Rattle.cq_query_files.specs.Views.{source_view, sink_view}
 use Rattle.cq_search.proofs.FirstEndings.{unanswered}
 use Rattle.cq_search.proofs.archives.search_archive.Goals as goal
 

@@ -2,9 +2,9 @@ use Rattle.std.proofs.Common.{[], Ok, ap, sym, subst, ◌∙◌, refl, rules}
 use Rattle.cq_shards.specs.PlanQuery.{query_in}
 use Rattle.cq_search.specs.FirstGame.{first_texts}
 use Rattle.cq_search.specs.Promise.{AnswerPromise}
-use Rattle.cq_queries.specs.Views.{source_view, sink_view, sinks_of}
+use Rattle.cq_query_files.specs.Views.{source_view, sink_view, sinks_of}
 use Rattle.cq_search.specs.Internal.Writing.{search_state}
-use Rattle.cq_queries.specs.declared.status.Status.{Status}
+use Rattle.cq_query_files.specs.declared.status.Status.{Status}
 use Rattle.cq_search.proofs.AnswerPromise.{answer_call}
 use Rattle.cq_search.proofs.FirstBatch.{NoneIn}
 use Rattle.cq_search.proofs.FirstEndings.{first_begins, first_ended, first_refused, first_stopped}
@@ -37,8 +37,8 @@ returns-in-Ok-All-clause-answers g c =
     let is = c.in-Ok-All.is ∙ ap Ok c.in-Ok-All.field-0-is in
     let says = rw is at c.visit_batches.ensures.says in
     let cause = rw is at c.visit_batches.ensures.cause in
-    let taker = c.visit_batches.new.taker in
-    first_ended c.archives_come_in_batches.ensures c.write_summary.result query call mid (search_state taker.tally taker.kept.items) says.archive
+    let visitor = c.visit_batches.new.visitor in
+    first_ended c.archives_come_in_batches.ensures c.write_summary.result query call mid (search_state visitor.tally visitor.kept.items) says.archive
     refl says.reads cause says.taken.1.reading c.write_summary.ensures
 
 pub returns-in-Ok-Early-clause-answers : goal.returns-in-Ok-Early-clause-answers
@@ -62,9 +62,9 @@ returns-clause-answers g c =
     let sinks = sinks_of (out c.args.out.now) (out c.visit_batches.new.out) (err c.args.err.now) (err c.visit_batches.new.err) in
     let call = answer_call c.args.context.now.settings.limit (source c.args.source.now) (source c.visit_batches.new.source) sinks in
     let query = query_in c.args.plan.now in
-    let taker = c.visit_batches.new.taker in
+    let visitor = c.visit_batches.new.visitor in
     let says = rw c.in-Err.is at c.visit_batches.ensures.says in
     let cause = rw c.in-Err.is at c.visit_batches.ensures.cause in
     subst (λ s. AnswerPromise (first_texts query) s call) (sym c.status_of.ensures)
-    (first_refused c.archives_come_in_batches.ensures {X = Status} c.in-Err.refusal query call (search_state taker.tally taker.kept.items) _ (λ games batch status. Unit {0})
+    (first_refused c.archives_come_in_batches.ensures {X = Status} c.in-Err.refusal query call (search_state visitor.tally visitor.kept.items) _ (λ games batch status. Unit {0})
     (λ games taken. taken.1.reading) says cause)

@@ -1,5 +1,5 @@
 use Rattle.std.proofs.Common.{◌+◌, ap, sym, subst, ◌∙◌}
-use Rattle.cq_queries.specs.Views.{sink_view, sinks_of}
+use Rattle.cq_query_files.specs.Views.{sink_view, sinks_of}
 use Rattle.cq_search.specs.Internal.Writing.{search_state, AnswersGame, WritesText}
 use Rattle.cq_shards.specs.declared.answers.GameAnswer.{GameAnswer}
 use Rattle.cq_search.specs.declared.tally.Tally.{Tally}

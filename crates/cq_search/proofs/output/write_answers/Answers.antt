@@ -1,7 +1,7 @@
 use Rattle.std.proofs.Common.{◌++◌, ◌∷◌, [], length, length-append, append-nil, append_assoc, ap, sym, subst, ◌∙◌, Err, rules, arith}
-use Rattle.cq_queries.specs.Views.{sink_view, sinks_of}
+use Rattle.cq_query_files.specs.Views.{sink_view, sinks_of}
 use Rattle.cq_search.specs.Internal.Writing.{search_state, FoundSoFar}
-use Rattle.cq_queries.proofs.Sinks.{Moments}
+use Rattle.cq_query_files.proofs.Sinks.{Moments}
 use Rattle.cq_search.proofs.GameByGame.{InBatch, one_more, one_stopped, one_starved, all_of_batch, no_items}
 use Rattle.cq_search.proofs.output.write_answers.Goals as goal
 

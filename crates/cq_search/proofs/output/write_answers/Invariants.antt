@@ -2,7 +2,7 @@ use Rattle.std.proofs.Common.{◌≡◌, ◌+◌, ◌≤◌, List, ◌++◌, len
 use Rattle.cql_syntax.specs.Trees.{QueryTree}
 use Rattle.cq_shards.specs.Answers.{answers_from}
 use Rattle.cq_shards.specs.ReadResults.{ReadResult}
-use Rattle.cq_queries.specs.Views.{SinkView, sink_view, sinks_of}
+use Rattle.cq_query_files.specs.Views.{SinkView, sink_view, sinks_of}
 use Rattle.cq_search.specs.Internal.Writing.{FoundSoFar, search_state}
 use Rattle.cq_search.proofs.output.write_answers.Given as goal
 

@@ -1,7 +1,7 @@
 use Rattle.std.proofs.Common.{subst}
 use Rattle.cq_shards.specs.PlanQuery.{query_in}
 use Rattle.cq_search.specs.Exports.{exports_of}
-use Rattle.cq_queries.specs.Views.{sink_view}
+use Rattle.cq_query_files.specs.Views.{sink_view}
 use Rattle.cq_search.specs.Internal.Writing.{WritesText}
 use Rattle.cq_search.proofs.Kept.{in_order, kept_written}
 use Rattle.cq_search.proofs.output.write_kept.Goals as goal

@@ -4,7 +4,7 @@ use Rattle.cq_outside.specs.Faults.{Rose}
 use Rattle.cq_outside.specs.Flow.{Grew}
 use Rattle.cq_search.specs.Exports.{exports_of}
 use Rattle.cq_search.proofs.Kept.{more_written, part_written}
-use Rattle.cq_queries.proofs.Sinks.{unwritten}
+use Rattle.cq_query_files.proofs.Sinks.{unwritten}
 use Rattle.cq_search.proofs.output.write_texts.Goals as goal
 
 pub loop-i-init : goal.loop-i-init

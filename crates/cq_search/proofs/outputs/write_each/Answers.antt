@@ -6,9 +6,9 @@ use Rattle.cq_shards.specs.declared.answers.GameAnswer.{GameAnswer}
 use Rattle.cq_search.specs.Exports.{exports_of}
 use Rattle.cq_search.specs.ManyQueries.{output_of, outputs_from}
 use Rattle.cq_search.specs.Internal.ManyWriting.{WritesOut}
-use Rattle.cq_queries.specs.Views.{sink_view}
+use Rattle.cq_query_files.specs.Views.{sink_view}
 use Rattle.cq_search.proofs.ManyEnds.{outputs_around, outputs_more, outputs_none, then_part}
-use Rattle.cq_queries.proofs.Sinks.{grew_on, unwritten}
+use Rattle.cq_query_files.proofs.Sinks.{grew_on, unwritten}
 use Rattle.cq_search.proofs.outputs.write_each.Goals as goal
 
 pub loop-i-init : goal.loop-i-init

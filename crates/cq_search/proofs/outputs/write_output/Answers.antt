@@ -3,9 +3,9 @@ use Rattle.std.proofs.lemmas.Result.{err_from_is_err_and}
 use Rattle.cq_report.specs.Games.{head_line}
 use Rattle.cq_search.specs.Exports.{exports_of}
 use Rattle.cq_search.specs.ManyQueries.{output_of}
-use Rattle.cq_queries.specs.Views.{sink_view}
+use Rattle.cq_query_files.specs.Views.{sink_view}
 use Rattle.cq_search.proofs.ManyEnds.{line_written, then_part}
-use Rattle.cq_queries.proofs.Sinks.{unwritten}
+use Rattle.cq_query_files.proofs.Sinks.{unwritten}
 use Rattle.cq_search.proofs.outputs.write_output.Goals as goal
 
 pub returns-in_err-line : goal.returns-in_err-line

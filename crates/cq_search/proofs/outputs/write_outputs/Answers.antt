@@ -3,10 +3,10 @@ use Rattle.cq_shards.specs.declared.answers.GameAnswer.{GameAnswer}
 use Rattle.cql_syntax.specs.QueryTrees.{trees_of}
 use Rattle.cq_shared.specs.Plans.{queries_of}
 use Rattle.cq_search.specs.ManyQueries.{texts_of_all}
-use Rattle.cq_queries.specs.Views.{sink_view, sinks_of}
+use Rattle.cq_query_files.specs.Views.{sink_view, sinks_of}
 use Rattle.cq_search.proofs.GameByGame.{ended}
 use Rattle.cq_search.proofs.ManyEnds.{ends_of, lines_of, outputs_failed, outputs_starved, outputs_written, rows_told, rows_written, unordered_all}
-use Rattle.cq_queries.proofs.Sinks.{with_out}
+use Rattle.cq_query_files.proofs.Sinks.{with_out}
 use Rattle.cq_search.proofs.outputs.write_outputs.Goals as goal
 
 pub returns-in_default : goal.returns-in_default

@@ -19,7 +19,7 @@ visit_batches-requires-clause-nothing g c =
 pub returns-in-Ok-All : goal.returns-in-Ok-All
 returns-in-Ok-All g c =
     let query = query_in c.args.plan.now in
-    let totals = c.visit_batches.new.taker.totals in
+    let totals = c.visit_batches.new.visitor.totals in
     let is = c.in-Ok-All.is ∙ ap Ok c.in-Ok-All.field-0-is in
     let says = rw is at c.visit_batches.ensures.says in
     all_counted c.archives_come_in_batches.ensures query c.args.archive says.archive c.visit_batches.new.source 1099511627776 totals

@@ -1,5 +1,5 @@
 use Rattle.std.proofs.Common.{Ok, Err, ap, subst, ◌∙◌}
-use Rattle.pgn_reader.specs.Verdict.{IsRead}
+use Rattle.pgn_reader.specs.Verdict.{IsReadResult}
 use Rattle.cq_shards.proofs.search_game.read_at.Goals as goal
 
 pub returns-in-Ok : goal.returns-in-Ok
@@ -7,7 +7,7 @@ returns-in-Ok c =
     let g = c.game-game.result.now in record {
       game = g;
       at = c.game-game.ensures;
-      read = subst (λ bs. IsRead g.start g.first bs (Ok c.in-Ok.read)) c.as_slice.ensures c.in-Ok.ensures.verdict;
+      read = subst (λ bs. IsReadResult g.start g.first bs (Ok c.in-Ok.read)) c.as_slice.ensures c.in-Ok.ensures.verdict;
     }
 
 pub returns-in-Err-Fault : goal.returns-in-Err-Fault
@@ -16,5 +16,5 @@ returns-in-Err-Fault c =
     let read = rw (c.in-Err-Fault.is ∙ ap Err c.in-Err-Fault.field-0-is) at c.read_game.ensures.verdict in record {
       game = g;
       at = c.game-game.ensures;
-      read = subst (λ bs. IsRead g.start g.first bs (Err c.in-Err-Fault.fault)) c.as_slice.ensures read;
+      read = subst (λ bs. IsReadResult g.start g.first bs (Err c.in-Err-Fault.fault)) c.as_slice.ensures read;
     }

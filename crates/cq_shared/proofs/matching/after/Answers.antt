@@ -1,13 +1,13 @@
 use Rattle.std.proofs.Common.{◌≡◌, Bool, List, sym, subst}
-use Rattle.cq_shared.specs.Matching.{CoversWanted}
+use Rattle.cq_shared.specs.Matching.{CoversPending}
 use Rattle.cq_shared.specs.declared.nodes.NodeSet.{NodeSet}
 use Rattle.cq_shared.specs.declared.part.Part.{Part}
 use Rattle.cq_shared.proofs.After.{cost_wanted, narrowed_row}
 use Rattle.cq_shared.proofs.matching.after.Goals as goal
 
 -- the same of nodes that are lent
-covered : (p : Part) (left lent : List NodeSet) (live asked : List Bool) → lent ≡ left → asked ≡ live → CoversWanted p lent live → CoversWanted p left asked
-covered p left lent live asked same are had = subst (CoversWanted p left) (sym are) (subst (λ nodes. CoversWanted p nodes live) same had)
+covered : (p : Part) (left lent : List NodeSet) (live asked : List Bool) → lent ≡ left → asked ≡ live → CoversPending p lent live → CoversPending p left asked
+covered p left lent live asked same are had = subst (CoversPending p left) (sym are) (subst (λ nodes. CoversPending p nodes live) same had)
 
 pub returns-clause-row : goal.returns-clause-row
 returns-clause-row g c =

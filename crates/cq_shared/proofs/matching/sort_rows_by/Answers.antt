@@ -1,6 +1,6 @@
 use Rattle.std.proofs.Common.{arith, subst, take}
 use Rattle.std.proofs.lemmas.List.{take_all}
-use Rattle.cq_shared.specs.Matching.{is_class, HaveRows}
+use Rattle.cq_shared.specs.Matching.{is_class, HaveKeyColumns}
 use Rattle.cq_shared.specs.StepBounds.{both}
 use Rattle.cq_shared.proofs.After.{left_more, left_all, still_ready, cost_more, narrowed_fewer, still_admits}
 use Rattle.cq_shared.proofs.Sorting.{rows_more}
@@ -17,7 +17,7 @@ returns-clause-left g c = left_all (is_class 5) c.args.game.now c.args.parts.now
 
 pub returns-clause-rows : goal.returns-clause-rows
 returns-clause-rows g c =
-    subst (λ ps. HaveRows c.args.game.now c.loop-k.later.items ps c.loop-k.rows.items) (take_all c.loop-k.k c.args.parts.now c.loop-k-test.false) c.loop-k.invariant.rows
+    subst (λ ps. HaveKeyColumns c.args.game.now c.loop-k.later.items ps c.loop-k.rows.items) (take_all c.loop-k.k c.args.parts.now c.loop-k-test.false) c.loop-k.invariant.rows
 
 pub loop-k-preserved : goal.loop-k-preserved
 loop-k-preserved g c =

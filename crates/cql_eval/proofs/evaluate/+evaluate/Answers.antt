@@ -477,11 +477,11 @@ goals::goal_met-returns-clause-value = goals.goals::goal_met-returns-clause-valu
 pub covers::cover-returns-then-gives_only_name-clause-cut : goal.covers::cover-returns-then-gives_only_name-clause-cut
 covers::cover-returns-then-gives_only_name-clause-cut = covers.covers::cover-returns-then-gives_only_name-clause-cut
 
-pub covers::cover-returns-then-is_or-clause-cut : goal.covers::cover-returns-then-is_or-clause-cut
-covers::cover-returns-then-is_or-clause-cut = covers.covers::cover-returns-then-is_or-clause-cut
+pub covers::cover-returns-then-is_disjunction-clause-cut : goal.covers::cover-returns-then-is_disjunction-clause-cut
+covers::cover-returns-then-is_disjunction-clause-cut = covers.covers::cover-returns-then-is_disjunction-clause-cut
 
-pub covers::cover-returns-else-not-is_all-clause-cut : goal.covers::cover-returns-else-not-is_all-clause-cut
-covers::cover-returns-else-not-is_all-clause-cut = covers.covers::cover-returns-else-not-is_all-clause-cut
+pub covers::cover-returns-else-not-is_conjunction-clause-cut : goal.covers::cover-returns-else-not-is_conjunction-clause-cut
+covers::cover-returns-else-not-is_conjunction-clause-cut = covers.covers::cover-returns-else-not-is_conjunction-clause-cut
 
 pub covers::cover_set-returns-else-not-is_intersection-clause-cut : goal.covers::cover_set-returns-else-not-is_intersection-clause-cut
 covers::cover_set-returns-else-not-is_intersection-clause-cut = covers.covers::cover_set-returns-else-not-is_intersection-clause-cut

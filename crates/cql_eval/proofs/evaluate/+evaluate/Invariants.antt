@@ -10,13 +10,13 @@ use Rattle.cql_columns.specs.FlatTrees.{IsFlat, IsFlatBody}
 use Rattle.cql_operators.proofs.SquareTurns.{LeftOf, unsettled_by}
 use Rattle.cql_operators.specs.LineAtoms.{HasRoom}
 use Rattle.cql_operators.proofs.LineTables.{TableSoFar, row_in, stage}
-use Rattle.cql_pruning.specs.Classes.{is_of, is_before, are_as_wanted, cost_of, IsLeft}
+use Rattle.cql_candidates.specs.Classes.{is_of, is_before, are_as_wanted, cost_of, IsLeft}
 use Rattle.cql_syntax.specs.declared.tree.Constituent.{Constituent}
 use Rattle.cql_syntax.specs.declared.tree.Filter.{Filter}
 use Rattle.cql_syntax.specs.declared.tree.Term.{Term}
-use Rattle.cql_pruning.specs.Covers.{AreCut, MayHave, MayHold}
-use Rattle.cql_pruning.specs.Occupancy.{AreOccupancies}
-use Rattle.cql_pruning.proofs.CoverSome.{AddedFor}
+use Rattle.cql_candidates.specs.Covers.{AreRetained, MayHave, MayHold}
+use Rattle.cql_candidates.specs.Occupancy.{AreOccupancies}
+use Rattle.cql_candidates.proofs.CoverSome.{AddedFor}
 use Rattle.cql_eval.proofs.Trying.{tried}
 use Rattle.cql_eval.proofs.evaluate.+evaluate.Given as goal
 
@@ -80,14 +80,14 @@ invariant-squares::square_truths-loop-number g l = record {
 
 abbrev pub invariant-covers::cover_all-loop-class : goal.invariant-covers::cover_all-loop-class
 invariant-covers::cover_all-loop-class g l = record {
-  cut : AreCut l.trial.live.now (MayHold l.trial.opened.now l.trial.scope.now.names.now l.trial.name.now
+  cut : AreRetained l.trial.live.now (MayHold l.trial.opened.now l.trial.scope.now.names.now l.trial.name.now
       (λ e n. all_hold (values (tree_in l.trial.scope.now) [] e (filters_tree l.parts) n))) l.fn.sets l.sets;
   cost : l.steps ≡ l.fn.steps;
 }
 
 abbrev pub invariant-covers::cover_class-loop-part : goal.invariant-covers::cover_class-loop-part
 invariant-covers::cover_class-loop-part g l = record {
-  cut : AreCut l.trial.live.now (MayHold l.trial.opened.now l.trial.scope.now.names.now l.trial.name.now
+  cut : AreRetained l.trial.live.now (MayHold l.trial.opened.now l.trial.scope.now.names.now l.trial.name.now
       (λ e n. all_hold (values (tree_in l.trial.scope.now) [] e (filters_tree l.parts) n))) l.fn.sets l.sets;
   cost : l.steps ≡ l.fn.steps;
   flat : (i : ℕ) (f : Filter) → i < length l.part-items → f ≡ get_or l.part-items i f → IsFlat (filter_tree f);
@@ -95,7 +95,7 @@ invariant-covers::cover_class-loop-part g l = record {
 
 abbrev pub invariant-covers::cover_each-loop-part : goal.invariant-covers::cover_each-loop-part
 invariant-covers::cover_each-loop-part g l = record {
-  cut : AreCut l.trial.live.now (MayHave l.trial.opened.now l.trial.scope.now.names.now l.trial.name.now
+  cut : AreRetained l.trial.live.now (MayHave l.trial.opened.now l.trial.scope.now.names.now l.trial.name.now
       (λ e n. intersection_of (values (tree_in l.trial.scope.now) [] e (filters_tree l.parts) n))) l.fn.sets l.sets;
   cost : l.steps ≡ l.fn.steps;
   flat : (i : ℕ) (f : Filter) → i < length l.part-items → f ≡ get_or l.part-items i f → IsFlat (filter_tree f);

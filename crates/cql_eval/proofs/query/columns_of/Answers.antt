@@ -2,9 +2,9 @@ use Rattle.std.proofs.Common.{rules, ap, map, arith}
 use Rattle.cql_syntax.specs.TreeOf.{filters_tree}
 use Rattle.cql_values.specs.Trees.{searched_tree}
 use Rattle.cql_columns.specs.Costs.{searched_len}
-use Rattle.cql_pruning.specs.Classes.{is_of, cost_of}
-use Rattle.cql_pruning.proofs.ClassLaw.{InPlace, class_cost_more, class_cost_within, cost_later, cost_all}
-use Rattle.cql_pruning.proofs.Placing.{Placed}
+use Rattle.cql_candidates.specs.Classes.{is_of, cost_of}
+use Rattle.cql_candidates.proofs.ClassLaw.{InPlace, class_cost_more, class_cost_within, cost_later, cost_all}
+use Rattle.cql_candidates.proofs.Placing.{Placed}
 use Rattle.cql_eval.proofs.FlatLaw.{items_flat, filter_flat}
 use Rattle.cql_eval.proofs.HitsLaw.{hits_left, rows_begun, rows_more, rows_all}
 use Rattle.cql_eval.proofs.SortsLaw.{sorted_begun, sorted_more, sorted_within, sorted_items, sorted_cost}

@@ -2,7 +2,7 @@ use Rattle.std.specs.Prelude.{◌+◌, ◌≤◌, map, drop}
 use Rattle.cql_syntax.specs.TreeOf.{filter_trees, filters_tree}
 use Rattle.cql_values.specs.Trees.{searched_tree}
 use Rattle.cql_columns.specs.Costs.{searched_len}
-use Rattle.cql_pruning.specs.Classes.{is_of, is_before, cost_of, IsLeft}
+use Rattle.cql_candidates.specs.Classes.{is_of, is_before, cost_of, IsLeft}
 use Rattle.cql_eval.proofs.HitsLaw.{RowsSoFar}
 use Rattle.cql_eval.proofs.SortsLaw.{sorted_so}
 use Rattle.cql_eval.proofs.query.columns_of.Given as goal

@@ -3,7 +3,7 @@ use Rattle.cql_syntax.specs.Hits.{is_hit}
 use Rattle.cql_syntax.specs.TreeOf.{filters_tree}
 use Rattle.cql_values.specs.Trees.{searched_tree}
 use Rattle.cql_columns.specs.Columns.{IsNodeSet}
-use Rattle.cql_pruning.specs.Classes.{IsLeft}
+use Rattle.cql_candidates.specs.Classes.{IsLeft}
 use Rattle.cql_eval.specs.Hits.{hits_of}
 use Rattle.cql_eval.proofs.HitsLaw.{all_asked, hits_whole}
 use Rattle.cql_eval.proofs.query.hit_columns.Goals as goal

@@ -4,7 +4,7 @@ use Rattle.cq_symmetry.specs.Images.{is_in}
 use Rattle.cql_syntax.specs.TreeOf.{filter_tree}
 use Rattle.cql_syntax.specs.Values.{as_truth, as_squares, square_of}
 use Rattle.cql_values.specs.ValueModel.{as_value}
-use Rattle.cql_local.specs.NodeScopes.{holds_at}
+use Rattle.cql_local.specs.Internal.NodeValues.{holds_at}
 use Rattle.cql_local.proofs.Cutting.{square_of_has}
 use Rattle.cql_local.proofs.calls.local_square_truth.Goals as goal
 

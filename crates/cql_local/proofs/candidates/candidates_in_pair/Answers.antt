@@ -15,9 +15,9 @@ returns-then-is_name c =
     let men = (position_of trial).men in
     let a = value_with trial (filter_tree c.args.first.now) in
     let b = value_with trial (filter_tree c.args.second.now) in
-    let own = (c.is_name.ensures c.if-is_name.true).own in
+    let own = (c.is_name.ensures c.if-is_name.true).each in
     cut_more (λ s. holds (pair_of men c.args.pair (a s) (b s))) (λ s. list_any (λ t. has (b s) t && attacks men s t) squares) c.args.set c.attacking_some.result
-    (λ s e. first_is (λ s t. attacks men s t) (a s) (b s) s (own (tree_of trial.place.now) trial.names.now trial.place.now.node s) (sym (ap (λ p. holds (pair_of men p (a s) (b s))) c.in-Attacks.is) ∙ e))
+    (λ s e. first_is (λ s t. attacks men s t) (a s) (b s) s (own (tree_of trial.place.now) trial.names.now s trial.place.now.node) (sym (ap (λ p. holds (pair_of men p (a s) (b s))) c.in-Attacks.is) ∙ e))
     c.attacking_some.ensures
 
 pub returns-then-is_name-2 : goal.returns-then-is_name-2
@@ -26,9 +26,9 @@ returns-then-is_name-2 c =
     let men = (position_of trial).men in
     let a = value_with trial (filter_tree c.args.first.now) in
     let b = value_with trial (filter_tree c.args.second.now) in
-    let own = (c.is_name-else-is_name.ensures c.if-is_name-2.true).own in
+    let own = (c.is_name-else-is_name.ensures c.if-is_name-2.true).each in
     cut_more (λ s. holds (pair_of men c.args.pair (a s) (b s))) (λ s. list_any (λ t. has (a s) t && attacks men t s) squares) c.args.set c.attacked_by_some.result
-    (λ s e. second_is (λ s t. attacks men s t) (a s) (b s) s (own (tree_of trial.place.now) trial.names.now trial.place.now.node s) (sym (ap (λ p. holds (pair_of men p (a s) (b s))) c.in-Attacks.is) ∙ e))
+    (λ s e. second_is (λ s t. attacks men s t) (a s) (b s) s (own (tree_of trial.place.now) trial.names.now s trial.place.now.node) (sym (ap (λ p. holds (pair_of men p (a s) (b s))) c.in-Attacks.is) ∙ e))
     c.attacked_by_some.ensures
 
 pub returns-then-is_name-3 : goal.returns-then-is_name-3
@@ -37,9 +37,9 @@ returns-then-is_name-3 c =
     let men = (position_of trial).men in
     let a = value_with trial (filter_tree c.args.first.now) in
     let b = value_with trial (filter_tree c.args.second.now) in
-    let own = (c.is_name-in-AttackedBy.ensures c.if-is_name-3.true).own in
+    let own = (c.is_name-in-AttackedBy.ensures c.if-is_name-3.true).each in
     cut_more (λ s. holds (pair_of men c.args.pair (a s) (b s))) (λ s. list_any (λ t. has (b s) t && attacks men t s) squares) c.args.set c.attacked_by_some-then-is_name-3.result
-    (λ s e. first_is (λ s t. attacks men t s) (a s) (b s) s (own (tree_of trial.place.now) trial.names.now trial.place.now.node s) (sym (ap (λ p. holds (pair_of men p (a s) (b s))) c.in-AttackedBy.is) ∙ e))
+    (λ s e. first_is (λ s t. attacks men t s) (a s) (b s) s (own (tree_of trial.place.now) trial.names.now s trial.place.now.node) (sym (ap (λ p. holds (pair_of men p (a s) (b s))) c.in-AttackedBy.is) ∙ e))
     c.attacked_by_some-then-is_name-3.ensures
 
 pub returns-then-is_name-4 : goal.returns-then-is_name-4
@@ -48,7 +48,7 @@ returns-then-is_name-4 c =
     let men = (position_of trial).men in
     let a = value_with trial (filter_tree c.args.first.now) in
     let b = value_with trial (filter_tree c.args.second.now) in
-    let own = (c.is_name-else-is_name-3.ensures c.if-is_name-4.true).own in
+    let own = (c.is_name-else-is_name-3.ensures c.if-is_name-4.true).each in
     cut_more (λ s. holds (pair_of men c.args.pair (a s) (b s))) (λ s. list_any (λ t. has (a s) t && attacks men s t) squares) c.args.set c.attacking_some-then-is_name-4.result
-    (λ s e. second_is (λ s t. attacks men t s) (a s) (b s) s (own (tree_of trial.place.now) trial.names.now trial.place.now.node s) (sym (ap (λ p. holds (pair_of men p (a s) (b s))) c.in-AttackedBy.is) ∙ e))
+    (λ s e. second_is (λ s t. attacks men t s) (a s) (b s) s (own (tree_of trial.place.now) trial.names.now s trial.place.now.node) (sym (ap (λ p. holds (pair_of men p (a s) (b s))) c.in-AttackedBy.is) ∙ e))
     c.attacking_some-then-is_name-4.ensures

@@ -2,7 +2,7 @@ use Rattle.std.proofs.Common.{ap, sym, ◌∙◌}
 use Rattle.cq_symmetry.specs.Images.{is_in}
 use Rattle.cql_syntax.specs.TreeOf.{filter_tree}
 use Rattle.cql_syntax.specs.Values.{as_squares, square_of}
-use Rattle.cql_local.specs.NodeScopes.{holds_at}
+use Rattle.cql_local.specs.Internal.NodeValues.{holds_at}
 use Rattle.cql_local.proofs.Cutting.{cut_same}
 use Rattle.cql_local.proofs.candidates.squares_to_try.Goals as goal
 

@@ -21,7 +21,8 @@ use Rattle.cql_values.specs.FilterValues.{settles, unary_result}
 use Rattle.cql_values.specs.Bindings.{rebound}
 use Rattle.cql_values.specs.ValueModel.{as_value}
 use Rattle.cql_local.specs.Internal.MovesSought.{AreMoveEnds, HoldsAfterMoves}
-use Rattle.cql_local.specs.NodeScopes.{tree_of, value_at, values_at, holds_at}
+use Rattle.cql_local.specs.NodeScopes.{tree_of}
+use Rattle.cql_local.specs.Internal.NodeValues.{value_at, values_at, holds_at}
 use Rattle.cql_local.proofs.Children.{child_found, child_passed}
 use Rattle.cql_local.proofs.Cutting.{goal_of, not_led, promoted_of, taken_of}
 use Rattle.cql_local.proofs.Forms.{unary_value, steps_value, chain_value, pair_value, if_value, move_value, sort_value, any_value}
@@ -385,7 +386,7 @@ played_at-returns-clause-value t c =
     let names = c.is_met-2.ensures.names ∙ c.is_met.ensures.names in
     let taken = sym (ap (λ (b : _). meets (written_value tree [] b (taken_of p) c.in-Some.ends.before) c.in-Some-led_to.led.taken) names)
     ∙ sym c.in_ok-is_met-3.ensures.value ∙ c.if-not-branch-3.false in
-    let promoted = ap₂ (λ (b : _) s. meets (written_value tree [] b (promoted_of p) place.node) s) (c.is_met-3.ensures.names ∙ names) c.promoted_on.ensures in
+    let promoted = ap₂ (λ (b : _) s. meets (written_value tree [] b (promoted_of p) place.node) s) (c.is_met-3.ensures.names ∙ names) c.promotion_goal.ensures in
     IfOk-weaker c.is_met-4.result _ _ (λ met known. known ∙ promoted ∙ promoted_decides tree c.args.names.now place.node p c.in-Some.ends ends c.in-Some-led_to.led led origin goal taken)
     c.is_met-4.ensures.value
 

@@ -12,7 +12,8 @@ use Rattle.cql_syntax.specs.Values.{holds, has}
 use Rattle.cql_values.proofs.Ways.{left_up, left_down, children_from}
 use Rattle.cql_values.specs.FilterValues.{settles}
 use Rattle.cql_values.specs.Bindings.{rebound}
-use Rattle.cql_local.specs.NodeScopes.{tree_of, value_at}
+use Rattle.cql_local.specs.NodeScopes.{tree_of}
+use Rattle.cql_local.specs.Internal.NodeValues.{value_at}
 use Rattle.cql_local.proofs.evaluate.+evaluate.Given as goal
 
 abbrev pub invariant-all_of-loop-part : goal.invariant-all_of-loop-part

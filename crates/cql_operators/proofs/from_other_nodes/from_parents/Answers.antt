@@ -1,5 +1,5 @@
 use Rattle.std.proofs.Common.{◌∙◌, ap, arith, refl}
-use Rattle.cql_operators.specs.OtherNodes.{set_of_node}
+use Rattle.cql_operators.specs.Internal.NodeSets.{set_of_node}
 use Rattle.cql_operators.proofs.OtherNodesLaw.{have_more, parent_sets_all}
 use Rattle.cql_operators.proofs.from_other_nodes.from_parents.Goals as goal
 

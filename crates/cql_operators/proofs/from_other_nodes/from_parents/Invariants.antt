@@ -1,6 +1,6 @@
 use Rattle.std.specs.Prelude.{length}
 use Rattle.cq_position.specs.Games.{node_at}
-use Rattle.cql_operators.specs.OtherNodes.{set_of_node}
+use Rattle.cql_operators.specs.Internal.NodeSets.{set_of_node}
 use Rattle.cql_operators.proofs.OtherNodesLaw.{HaveSets}
 use Rattle.cql_operators.proofs.from_other_nodes.from_parents.Given as goal
 

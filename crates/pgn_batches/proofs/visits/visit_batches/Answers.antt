@@ -12,7 +12,7 @@ use Rattle.pgn_batches.proofs.visits.visit_batches.Goals as goal
 
 pub rounds-init : goal.rounds-init
 rounds-init g c =
-    let at = moment c.args.taker.now c.args.out.now c.args.err.now in
+    let at = moment c.args.visitor.now c.args.out.now c.args.err.now in
     record {
       rounds = no_rounds c.archives_come_in_batches.ensures c.args.limit c.new-batches.result (g.S.Source.left c.args.source.now) (g.T.BatchVisitor.has_taken at at)
           c.new-batches.ensures.stands c.new-batches.ensures.limit c.new-batches.ensures.reads c.requires.nothing;
@@ -23,8 +23,8 @@ rounds-init g c =
 pub returns-in-Ok-None-clause-says : goal.returns-in-Ok-None-clause-says
 returns-in-Ok-None-clause-says g c =
     let left = g.S.Source.left in
-    let was = moment c.args.taker.now c.args.out.now c.args.err.now in
-    let now = moment c.rounds.taker c.rounds.out c.rounds.err in
+    let was = moment c.args.visitor.now c.args.out.now c.args.err.now in
+    let now = moment c.rounds.visitor c.rounds.out c.rounds.err in
     let place = place_of c.args.limit c.rounds.batches (left c.args.source.now) (left c.rounds.source) in
     let is = c.in-Ok-None.is ∙ ap Ok c.in-Ok-None.field-0-is in
     let says = rw is at c.next.ensures.says in
@@ -42,8 +42,8 @@ returns-in-Ok-None-clause-next g c = g.met.S.Source.follows_on c.args.source.now
 pub returns-in-Err-clause-says : goal.returns-in-Err-clause-says
 returns-in-Err-clause-says g c =
     let left = g.S.Source.left in
-    let was = moment c.args.taker.now c.args.out.now c.args.err.now in
-    let now = moment c.rounds.taker c.rounds.out c.rounds.err in
+    let was = moment c.args.visitor.now c.args.out.now c.args.err.now in
+    let now = moment c.rounds.visitor c.rounds.out c.rounds.err in
     let place = place_of c.args.limit c.rounds.batches (left c.args.source.now) (left c.rounds.source) in
     refused c.archives_come_in_batches.ensures place c.next.new.self (left c.next.new.source) (g.T.BatchVisitor.has_taken was now) (g.T.BatchVisitor.has_stopped was now) c.rounds.games
     c.in-Err.refusal c.rounds.invariant.rounds (rw c.in-Err.is at c.next.ensures.says)
@@ -51,11 +51,11 @@ returns-in-Err-clause-says g c =
 pub returns-in-Err-clause-next : goal.returns-in-Err-clause-next
 returns-in-Err-clause-next g c = g.met.S.Source.follows_on c.args.source.now c.rounds.source c.next.new.source c.rounds.invariant.next c.next.ensures.next
 
-pub take-requires : goal.take-requires
-take-requires g c =
+pub visit-requires : goal.visit-requires
+visit-requires g c =
     let left = g.S.Source.left in
-    let was = moment c.args.taker.now c.args.out.now c.args.err.now in
-    let now = moment c.rounds.taker c.rounds.out c.rounds.err in
+    let was = moment c.args.visitor.now c.args.out.now c.args.err.now in
+    let now = moment c.rounds.visitor c.rounds.out c.rounds.err in
     let place = place_of c.args.limit c.rounds.batches (left c.args.source.now) (left c.rounds.source) in
     let is = c.in-Ok-Some.is ∙ ap Ok c.in-Ok-Some.field-0-is in
     let says = rw is at c.next.ensures.says in
@@ -69,9 +69,9 @@ take-requires g c =
 pub returns-in-Some-clause-says : goal.returns-in-Some-clause-says
 returns-in-Some-clause-says g c =
     let left = g.S.Source.left in
-    let was = moment c.args.taker.now c.args.out.now c.args.err.now in
-    let now = moment c.rounds.taker c.rounds.out c.rounds.err in
-    let after = moment c.take.new.self c.take.new.out c.take.new.err in
+    let was = moment c.args.visitor.now c.args.out.now c.args.err.now in
+    let now = moment c.rounds.visitor c.rounds.out c.rounds.err in
+    let after = moment c.visit.new.self c.visit.new.out c.visit.new.err in
     let place = place_of c.args.limit c.rounds.batches (left c.args.source.now) (left c.rounds.source) in
     let is = c.in-Ok-Some.is ∙ ap Ok c.in-Ok-Some.field-0-is in
     let says = rw is at c.next.ensures.says in
@@ -81,7 +81,7 @@ returns-in-Some-clause-says g c =
     let turn = turns laws next (g.T.BatchVisitor.has_taken was now) c.rounds.games batch
     (called laws place c.next.new.self (left c.next.new.source) (g.T.BatchVisitor.has_taken was now) c.rounds.games (GivesBatch c.next.new.self batch) c.rounds.invariant.rounds says) in
     let games = given turn.before.front turn.before.m in
-    let turned = c.take.ensures was games turn.before.taken turn.index in
+    let turned = c.visit.ensures was games turn.before.taken turn.index in
     (games, games_of batch, stops laws next (g.T.BatchVisitor.has_taken was now) c.rounds.games batch turn, rw c.in-Some.is at turned)
 
 pub returns-in-Some-clause-cause : goal.returns-in-Some-clause-cause
@@ -94,8 +94,8 @@ returns-in-Some-clause-next g c = g.met.S.Source.follows_on c.args.source.now c.
 pub overflow_add-games : goal.overflow_add-games
 overflow_add-games g c =
     let left = g.S.Source.left in
-    let was = moment c.args.taker.now c.args.out.now c.args.err.now in
-    let now = moment c.rounds.taker c.rounds.out c.rounds.err in
+    let was = moment c.args.visitor.now c.args.out.now c.args.err.now in
+    let now = moment c.rounds.visitor c.rounds.out c.rounds.err in
     let place = place_of c.args.limit c.rounds.batches (left c.args.source.now) (left c.rounds.source) in
     let is = c.in-Ok-Some.is ∙ ap Ok c.in-Ok-Some.field-0-is in
     let says = rw is at c.next.ensures.says in
@@ -112,8 +112,8 @@ overflow_add-games g c =
 pub rounds-smaller : goal.rounds-smaller
 rounds-smaller g c =
     let left = g.S.Source.left in
-    let was = moment c.args.taker.now c.args.out.now c.args.err.now in
-    let now = moment c.rounds.taker c.rounds.out c.rounds.err in
+    let was = moment c.args.visitor.now c.args.out.now c.args.err.now in
+    let now = moment c.rounds.visitor c.rounds.out c.rounds.err in
     let place = place_of c.args.limit c.rounds.batches (left c.args.source.now) (left c.rounds.source) in
     let is = c.in-Ok-Some.is ∙ ap Ok c.in-Ok-Some.field-0-is in
     let says = rw is at c.next.ensures.says in
@@ -130,9 +130,9 @@ rounds-smaller g c =
 pub rounds-preserved : goal.rounds-preserved
 rounds-preserved g c =
     let left = g.S.Source.left in
-    let was = moment c.args.taker.now c.args.out.now c.args.err.now in
-    let now = moment c.rounds.taker c.rounds.out c.rounds.err in
-    let after = moment c.take.new.self c.take.new.out c.take.new.err in
+    let was = moment c.args.visitor.now c.args.out.now c.args.err.now in
+    let now = moment c.rounds.visitor c.rounds.out c.rounds.err in
+    let after = moment c.visit.new.self c.visit.new.out c.visit.new.err in
     let place = place_of c.args.limit c.rounds.batches (left c.args.source.now) (left c.rounds.source) in
     let is = c.in-Ok-Some.is ∙ ap Ok c.in-Ok-Some.field-0-is in
     let says = rw is at c.next.ensures.says in
@@ -142,7 +142,7 @@ rounds-preserved g c =
     let next = place_of c.args.limit c.next.new.self (left c.args.source.now) (left c.next.new.source) in
     let turn = turns laws next (g.T.BatchVisitor.has_taken was now) c.rounds.games batch
     (called laws place c.next.new.self (left c.next.new.source) (g.T.BatchVisitor.has_taken was now) c.rounds.games (GivesBatch c.next.new.self batch) c.rounds.invariant.rounds says) in
-    let turned = rw c.in_default.is at c.take.ensures was (given turn.before.front turn.before.m) turn.before.taken turn.index in
+    let turned = rw c.in_default.is at c.visit.ensures was (given turn.before.front turn.before.m) turn.before.taken turn.index in
     record {
       rounds = subst (λ n. Rounds next (g.T.BatchVisitor.has_taken was after) (c.rounds.games + n)) (sym (c.from-games.ensures ∙ c.len.ensures))
           (goes_on next (g.T.BatchVisitor.has_taken was now) (g.T.BatchVisitor.has_taken was after) c.rounds.games batch turn turned);

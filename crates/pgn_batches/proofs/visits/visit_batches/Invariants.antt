@@ -8,10 +8,10 @@ use Rattle.pgn_batches.proofs.visits.visit_batches.Given as goal
 abbrev pub invariant-rounds : goal.invariant-rounds
 invariant-rounds g l =
     let source = g.S.Source in
-    let taker = g.T.BatchVisitor in
+    let visitor = g.T.BatchVisitor in
     record {
       rounds : Rounds (place_of l.fn.limit l.batches (source.left l.fn.source) (source.left l.source))
-          (taker.has_taken (moment l.fn.taker l.fn.out l.fn.err) (moment l.taker l.out l.err)) l.games;
+          (visitor.has_taken (moment l.fn.visitor l.fn.out l.fn.err) (moment l.visitor l.out l.err)) l.games;
       counts : source.faults l.source ≡ source.faults l.fn.source;
       next : source.follows l.fn.source l.source;
     }

@@ -7,7 +7,7 @@ use Rattle.pgn_json.proofs.words.matched.Goals as goal
 
 pub returns : goal.returns
 returns c = refused_words (app_of c.in_ok-line.field-0) (map string_bytes c.args.words.now) c.in-Err.error _ c.in_ok-line.ensures
-    c.in-Err.ensures.kinds (search rules)
+    c.in-Err.ensures.kinds c.in-Err.ensures.passes (search rules)
 
 pub returns-in-Ok : goal.returns-in-Ok
 returns-in-Ok c = has_matches (app_of c.in_ok-line.field-0) (map string_bytes c.args.words.now) c.in-Ok.matches c.in_ok-line.ensures

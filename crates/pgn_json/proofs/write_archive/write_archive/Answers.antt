@@ -24,7 +24,7 @@ returns-in-Ok-All-clause-says g c =
     let is = c.in-Ok-All.is ∙ ap Ok c.in-Ok-All.field-0-is in
     let says = rw is at c.visit_batches.ensures.says in
     let cause = rw is at c.visit_batches.ensures.cause in
-    ended c.first_bytes_decide.ensures c.write_summary.result c.args.limit c.args.writer.mark.now was mid now c.visit_batches.new.taker.faulty c.in-Ok-All.games
+    ended c.first_bytes_decide.ensures c.write_summary.result c.args.limit c.args.writer.mark.now was mid now c.visit_batches.new.visitor.faulty c.in-Ok-All.games
     (record { archive = says.archive; reads = says.reads; taken = says.taken.1; games_ = says.count_is; out_same = refl; counts = cause })
     c.write_summary.ensures
 
@@ -57,7 +57,7 @@ returns-in-Err-Fault-ReadFault-clause-says g c =
     let is : c.visit_batches.result ≡ Err (Fault ReadFault) = search rules in
     let says = rw is at c.visit_batches.ensures.says in
     let cause = rw is at c.visit_batches.ensures.cause in
-    let all = broke c.first_bytes_decide.ensures c.archives_come_in_batches.ensures c.args.limit c.args.writer.mark.now was mid c.visit_batches.new.taker.faulty (λ n. n ≤ c.args.limit) _ says in
+    let all = broke c.first_bytes_decide.ensures c.archives_come_in_batches.ensures c.args.limit c.args.writer.mark.now was mid c.visit_batches.new.visitor.faulty (λ n. n ≤ c.args.limit) _ says in
     (all.0, cause, all.1)
 
 pub returns-in-Err-Fault-ArchiveTooLong-clause-says : goal.returns-in-Err-Fault-ArchiveTooLong-clause-says
@@ -68,7 +68,7 @@ returns-in-Err-Fault-ArchiveTooLong-clause-says g c =
     let is : c.visit_batches.result ≡ Err (Fault ArchiveTooLong) = search rules in
     let says = rw is at c.visit_batches.ensures.says in
     let cause = rw is at c.visit_batches.ensures.cause in
-    let all = broke c.first_bytes_decide.ensures c.archives_come_in_batches.ensures c.args.limit c.args.writer.mark.now was mid c.visit_batches.new.taker.faulty (λ n. c.args.limit < n) _ says in
+    let all = broke c.first_bytes_decide.ensures c.archives_come_in_batches.ensures c.args.limit c.args.writer.mark.now was mid c.visit_batches.new.visitor.faulty (λ n. c.args.limit < n) _ says in
     (all.0, cause, all.1)
 
 pub returns-in-Err-NoMemory-clause-says : goal.returns-in-Err-NoMemory-clause-says
@@ -79,4 +79,4 @@ returns-in-Err-NoMemory-clause-says g c =
     let is = c.in-Err-NoMemory.is ∙ ap Err c.in-Err-NoMemory.field-0-is in
     let says = rw is at c.visit_batches.ensures.says in
     let cause = rw is at c.visit_batches.ensures.cause in
-    starved c.first_bytes_decide.ensures c.archives_come_in_batches.ensures c.args.limit c.args.writer.mark.now was mid c.visit_batches.new.taker.faulty _ says cause
+    starved c.first_bytes_decide.ensures c.archives_come_in_batches.ensures c.args.limit c.args.writer.mark.now was mid c.visit_batches.new.visitor.faulty _ says cause

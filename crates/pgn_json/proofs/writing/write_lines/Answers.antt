@@ -2,14 +2,14 @@ use Rattle.std.proofs.Common.{◌+◌, ◌++◌, ◌<◌, ◌≤◌, drop, lengt
 use Rattle.std.proofs.lemmas.List.{take_all}
 use Rattle.pgn_json.specs.Internal.Pages.{Adds, FailsIn}
 use Rattle.pgn_json.specs.Internal.Texts.{all_lines}
-use Rattle.pgn_json.specs.Writing.{view_of}
+use Rattle.cq_program.specs.Views.{sink_view}
 use Rattle.pgn_json.specs.declared.texts.Texts.{Texts}
 use Rattle.pgn_json.proofs.Pages.{fails_sooner, lines_more, lines_split, page_written}
 use Rattle.pgn_json.proofs.writing.write_lines.Goals as goal
 
 pub returns-in-Err : goal.returns-in-Err
 returns-in-Err g c =
-    let view = view_of g.O.Sink.taken g.O.Sink.faults in
+    let view = sink_view g.O.Sink.taken g.O.Sink.faults in
     let texts = c.args.texts.now in
     let i = c.loop-i.i in
     let t = c.index-texts-i.result in
@@ -22,7 +22,7 @@ returns-in-Err g c =
 
 pub returns : goal.returns
 returns g c =
-    let view = view_of g.O.Sink.taken g.O.Sink.faults in
+    let view = sink_view g.O.Sink.taken g.O.Sink.faults in
     let texts = c.args.texts.now in
     let all : length texts ≤ c.loop-i.i = search rules in
     page_written (all_lines texts) c.write_page.new.page.items (view c.args.out.now) (view c.write_page.new.out) c.write_page.result c.write_page.ensures.nothing

@@ -2,7 +2,8 @@ use Rattle.std.proofs.Common.{◌≤◌, ◌^◌, Err, refl, ap, sym, ◌∙◌,
 use Rattle.pgn_json.specs.Internal.Pages.{WritesText}
 use Rattle.pgn_json.specs.Internal.Parts.{part_at}
 use Rattle.pgn_json.specs.Internal.Texts.{all_faults, all_faulty, all_lines}
-use Rattle.pgn_json.specs.Writing.{sinks_of, view_of}
+use Rattle.cq_program.specs.Views.{sink_view}
+use Rattle.pgn_json.specs.Writing.{sinks_of}
 use Rattle.pgn_json.proofs.BatchParts.{few_faulty_texts, front_of_faults, front_of_lines, nothing_written, part_written}
 use Rattle.pgn_json.proofs.writing.write_part.Goals as goal
 
@@ -31,8 +32,8 @@ pub returns-in-Err-Fault : goal.returns-in-Err-Fault
 returns-in-Err-Fault g c =
     let task = c.args.task.now in
     let part = part_at task.mark.now task.batch.now task.first in
-    let out = view_of g.O.Sink.taken g.O.Sink.faults in
-    let err = view_of g.E.Sink.taken g.E.Sink.faults in
+    let out = sink_view g.O.Sink.taken g.O.Sink.faults in
+    let err = sink_view g.E.Sink.taken g.E.Sink.faults in
     let places = c.in-Ok.texts.items in
     let lines = subst (λ l. WritesText (all_lines l) (out c.args.out.now) (out c.write_lines.new.out) c.write_lines.result) c.deref-2.ensures.value c.write_lines.ensures in
     let fails = rw (c.in-Err-Fault.is ∙ ap Err c.in-Err-Fault.field-0-is) at lines in
@@ -42,8 +43,8 @@ pub returns-in-Err-NoMemory : goal.returns-in-Err-NoMemory
 returns-in-Err-NoMemory g c =
     let task = c.args.task.now in
     let part = part_at task.mark.now task.batch.now task.first in
-    let out = view_of g.O.Sink.taken g.O.Sink.faults in
-    let err = view_of g.E.Sink.taken g.E.Sink.faults in
+    let out = sink_view g.O.Sink.taken g.O.Sink.faults in
+    let err = sink_view g.E.Sink.taken g.E.Sink.faults in
     let places = c.in-Ok.texts.items in
     let lines = subst (λ l. WritesText (all_lines l) (out c.args.out.now) (out c.write_lines.new.out) c.write_lines.result) c.deref-2.ensures.value c.write_lines.ensures in
     let fails = rw (c.in-Err-NoMemory.is ∙ ap Err c.in-Err-NoMemory.field-0-is) at lines in
@@ -53,7 +54,7 @@ pub returns-in-Ok-write_all_of : goal.returns-in-Ok-write_all_of
 returns-in-Ok-write_all_of g c =
     let task = c.args.task.now in
     let part = part_at task.mark.now task.batch.now task.first in
-    let out = view_of g.O.Sink.taken g.O.Sink.faults in
+    let out = sink_view g.O.Sink.taken g.O.Sink.faults in
     let places = c.in-Ok.texts.items in
     let lines = subst (λ l. WritesText (all_lines l) (out c.args.out.now) (out c.write_lines.new.out) c.write_lines.result) c.deref-2.ensures.value c.write_lines.ensures in
     let written = rw c.in-Ok-write_lines.is at lines in
@@ -67,8 +68,8 @@ pub returns : goal.returns
 returns g c =
     let task = c.args.task.now in
     let part = part_at task.mark.now task.batch.now task.first in
-    let out = view_of g.O.Sink.taken g.O.Sink.faults in
-    let err = view_of g.E.Sink.taken g.E.Sink.faults in
+    let out = sink_view g.O.Sink.taken g.O.Sink.faults in
+    let err = sink_view g.E.Sink.taken g.E.Sink.faults in
     let places = c.in-Ok.texts.items in
     let lines = subst (λ l. WritesText (all_lines l) (out c.args.out.now) (out c.write_lines.new.out) c.write_lines.result) c.deref-2.ensures.value c.write_lines.ensures in
     let written = rw c.in-Ok-write_lines.is at lines in (

@@ -19,6 +19,6 @@ pub returns : goal.returns
 returns c =
     subst (λ game. IfOk c.game_of_rows.result (λ g. g ≡ game))
     (ap {B = Game} (λ tags. record { tags = tags; result = c.ending_of-ending.result; nodes = nodes_of_rows c.in_ok-rows.rows.items }) c.into_tags.ensures
-    ∙ ap {B = Game} (λ result. record { tags = c.args.reader.preface.tags; result = result; nodes = nodes_of_rows c.in_ok-rows.rows.items }) c.ending_of-ending.ensures
-    ∙ ap {B = Game} (λ rows. record { tags = c.args.reader.preface.tags; result = ending_by c.args.reader.phase c.args.reader.preface.tags; nodes = nodes_of_rows rows }) c.in_ok-rows.ensures)
+    ∙ ap {B = Game} (λ result. record { tags = c.args.reader.tag_section.tags; result = result; nodes = nodes_of_rows c.in_ok-rows.rows.items }) c.ending_of-ending.ensures
+    ∙ ap {B = Game} (λ rows. record { tags = c.args.reader.tag_section.tags; result = ending_by c.args.reader.phase c.args.reader.tag_section.tags; nodes = nodes_of_rows rows }) c.in_ok-rows.ensures)
     c.game_of_rows.ensures

@@ -2,7 +2,7 @@ use Rattle.std.proofs.Common.{◌≡◌, ◌∙◌, ap, ap₂}
 use Rattle.cql_syntax.specs.FlatItems.{has_family, kinds_agree, break_no_rule}
 use Rattle.cql_syntax.specs.TreeOf.{filter_tree, filters_tree}
 use Rattle.cql_syntax.specs.Trees.{with_filter}
-use Rattle.cq_shared.specs.Parts.{alone}
+use Rattle.cql_plan.specs.Replacements.{alone}
 use Rattle.cq_shared.proofs.StandAlone.{alone_family, alone_kinds, alone_rules}
 use Rattle.cq_shared.proofs.single.reading.single_of.Goals as goal
 

@@ -7,14 +7,14 @@ use Rattle.cql_columns.specs.Columns.{IsNodeSet}
 use Rattle.cql_columns.specs.Costs.{searched_len}
 use Rattle.cql_columns.proofs.Costing.{cost_more, cost_within, terms_cost_more, terms_cost_within}
 use Rattle.cql_operators.proofs.Gathering.{columns_begun, columns_more, columns_all, terms_begun, terms_more, terms_all}
-use Rattle.cql_pruning.proofs.ClassLaw.{left_taken, left_told, left_passed, cost_taken, is_left_begun, is_left_then, is_left_same, so_begun, so_more, so_whole, so_none, so_all, so_no, class_left, class_end, truth_left, class_cost_more, class_cost_within, cost_next, cost_later, cost_all}
-use Rattle.cql_pruning.proofs.ClassSets.{so_other}
-use Rattle.cql_pruning.specs.Classes.{is_of, is_before, is_as_wanted_if, are_as_wanted, CoverClasses, IsLeft}
-use Rattle.cql_pruning.specs.Occupancy.{AreOccupancies}
-use Rattle.cql_pruning.proofs.OccupancyLaw.{ever_begun, ever_fewer, ever_later, left_unasked}
+use Rattle.cql_candidates.proofs.ClassLaw.{left_taken, left_told, left_passed, cost_taken, is_left_begun, is_left_then, is_left_same, so_begun, so_more, so_whole, so_none, so_all, so_no, class_left, class_end, truth_left, class_cost_more, class_cost_within, cost_next, cost_later, cost_all}
+use Rattle.cql_candidates.proofs.ClassSets.{so_other}
+use Rattle.cql_candidates.specs.Classes.{is_of, is_before, is_as_wanted_if, are_as_wanted, CoverClasses, IsLeft}
+use Rattle.cql_candidates.specs.Occupancy.{AreOccupancies}
+use Rattle.cql_candidates.proofs.OccupancyLaw.{ever_begun, ever_fewer, ever_later, left_unasked}
 use Rattle.cql_eval.proofs.FlatLaw.{filter_flat, term_flat}
 use Rattle.cql_eval.proofs.FormLaws.{IfOk_then, chain_all, some_unless}
-use Rattle.cql_pruning.proofs.OccupancyColumnLaw.{told_there}
+use Rattle.cql_candidates.proofs.OccupancyColumnLaw.{told_there}
 use Rattle.cql_eval.proofs.evaluate.+evaluate.Goals as goal
 
 pub chain_column-returns-in_ok-left-in-And-clause-value : goal.chain_column-returns-in_ok-left-in-And-clause-value

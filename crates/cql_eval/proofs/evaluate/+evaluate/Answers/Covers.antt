@@ -14,15 +14,15 @@ use Rattle.cql_syntax.specs.Trees.{pair}
 use Rattle.cql_columns.specs.Costs.{searched_len}
 use Rattle.cql_operators.specs.Trees.{AreBeforeLive}
 use Rattle.cql_operators.specs.OtherNodes.{CoverSourceNodes, GatherSourceSquares}
-use Rattle.cql_pruning.specs.Covers.{AreCut, AreJoined, HasSome, MayHave, MayHold}
-use Rattle.cql_pruning.proofs.CoverSome.{AddedFor, added_all, added_by, added_more, added_none, or_cut, some_cut}
+use Rattle.cql_candidates.specs.Covers.{AreRetained, AreJoined, HasSome, MayHave, MayHold}
+use Rattle.cql_candidates.proofs.CoverSome.{AddedFor, added_all, added_by, added_more, added_none, or_cut, some_cut}
 use Rattle.cql_eval.proofs.CoverIndependent.{free_cut, free_set_cut, no_steps, related_cut}
 use Rattle.cql_eval.proofs.Trying.{tried}
 use Rattle.cql_eval.proofs.CoverMoves.{asks_free, free_parts_cut}
-use Rattle.cql_pruning.proofs.PairLaw.{paired_cut}
-use Rattle.cql_pruning.proofs.CoverLaw.{cut_same, cut_then}
+use Rattle.cql_candidates.proofs.PairLaw.{paired_cut}
+use Rattle.cql_candidates.proofs.CoverLaw.{cut_same, cut_then}
 use Rattle.cql_eval.proofs.OtherNodesCut.{elsewhere_cut}
-use Rattle.cql_pruning.proofs.CoverForms.{unary_cut, written_sets, inner_cut, turned_cut, move_cut, played_cut, pair_cut, one_of_sets, one_of_all, common_cut, all_cut, square_cut, square_same, own_cut}
+use Rattle.cql_candidates.proofs.CoverForms.{unary_cut, written_sets, inner_cut, turned_cut, move_cut, played_cut, pair_cut, one_of_sets, one_of_all, common_cut, all_cut, square_cut, square_same, own_cut}
 use Rattle.cql_eval.proofs.evaluate.+evaluate.Goals as goal
 
 pub covers::cover-returns-then-gives_only_name-clause-cut : goal.covers::cover-returns-then-gives_only_name-clause-cut
@@ -32,31 +32,31 @@ covers::cover-returns-then-gives_only_name-clause-cut g t c =
     c.args.sets.now c.cover_set.new.sets (c.gives_only_name.ensures c.if-gives_only_name.true) cut)
     c.cover_set.ensures.cut
 
-pub covers::cover-returns-then-is_or-clause-cut : goal.covers::cover-returns-then-is_or-clause-cut
-covers::cover-returns-then-is_or-clause-cut g t c =
-    subst (λ v. OnOk c.cover_some.result (AreCut c.args.trial.now.live.now (MayHold c.args.trial.now.opened.now c.args.trial.now.scope.now.names.now c.args.trial.now.name.now v)
+pub covers::cover-returns-then-is_disjunction-clause-cut : goal.covers::cover-returns-then-is_disjunction-clause-cut
+covers::cover-returns-then-is_disjunction-clause-cut g t c =
+    subst (λ v. OnOk c.cover_some.result (AreRetained c.args.trial.now.live.now (MayHold c.args.trial.now.opened.now c.args.trial.now.scope.now.names.now c.args.trial.now.name.now v)
     c.args.sets.now c.cover_some.new.sets))
     (fun_ext (λ e. chain_form (tree_in c.args.trial.now.scope.now) e (filter_tree c.args.asked.now) c.args.asked.now.at c.in-Chain.chain (filters_tree c.in-Chain.parts)
     (ap (λ form. filter_at c.args.asked.now.at (form_tree form)) c.in-Chain.is)))
     (on_ok_weaker c.cover_some.result
     (λ cut. or_cut (tried c.args.trial.now) c.in-Chain.chain (filters_tree c.in-Chain.parts)
-    c.args.sets.now c.cover_some.new.sets (c.is_or.ensures c.if-is_or.true) cut)
+    c.args.sets.now c.cover_some.new.sets (c.is_disjunction.ensures c.if-is_disjunction.true) cut)
     c.cover_some.ensures.cut)
 
-pub covers::cover-returns-else-not-is_all-clause-cut : goal.covers::cover-returns-else-not-is_all-clause-cut
-covers::cover-returns-else-not-is_all-clause-cut g t c =
-    subst (λ v. OnOk c.cover_all.result (AreCut c.args.trial.now.live.now (MayHold c.args.trial.now.opened.now c.args.trial.now.scope.now.names.now c.args.trial.now.name.now v)
+pub covers::cover-returns-else-not-is_conjunction-clause-cut : goal.covers::cover-returns-else-not-is_conjunction-clause-cut
+covers::cover-returns-else-not-is_conjunction-clause-cut g t c =
+    subst (λ v. OnOk c.cover_all.result (AreRetained c.args.trial.now.live.now (MayHold c.args.trial.now.opened.now c.args.trial.now.scope.now.names.now c.args.trial.now.name.now v)
     c.args.sets.now c.cover_all.new.sets))
     (fun_ext (λ e. chain_form (tree_in c.args.trial.now.scope.now) e (filter_tree c.args.asked.now) c.args.asked.now.at c.in-Chain.chain (filters_tree c.in-Chain.parts)
     (ap (λ form. filter_at c.args.asked.now.at (form_tree form)) c.in-Chain.is)))
     (on_ok_weaker c.cover_all.result
     (λ cut. all_cut (tried c.args.trial.now) c.in-Chain.chain (filters_tree c.in-Chain.parts)
-    c.args.sets.now c.cover_all.new.sets (c.is_all.ensures c.if-not-is_all.false) cut)
+    c.args.sets.now c.cover_all.new.sets (c.is_conjunction.ensures c.if-not-is_conjunction.false) cut)
     c.cover_all.ensures.cut)
 
 pub covers::cover_set-returns-else-not-is_intersection-clause-cut : goal.covers::cover_set-returns-else-not-is_intersection-clause-cut
 covers::cover_set-returns-else-not-is_intersection-clause-cut g t c =
-    subst (λ v. OnOk c.cover_each.result (AreCut c.args.trial.now.live.now (MayHave c.args.trial.now.opened.now c.args.trial.now.scope.now.names.now c.args.trial.now.name.now v)
+    subst (λ v. OnOk c.cover_each.result (AreRetained c.args.trial.now.live.now (MayHave c.args.trial.now.opened.now c.args.trial.now.scope.now.names.now c.args.trial.now.name.now v)
     c.args.sets.now c.cover_each.new.sets))
     (fun_ext (λ e. chain_form (tree_in c.args.trial.now.scope.now) e (filter_tree c.args.asked.now) c.args.asked.now.at c.in-Chain.chain (filters_tree c.in-Chain.parts)
     (ap (λ form. filter_at c.args.asked.now.at (form_tree form)) c.in-Chain.is)))
@@ -76,16 +76,16 @@ covers::cover-returns-in-Played-clause-cut g t c =
 pub cover_moves::cover_played-returns-then-not-asks_without-clause-cut : goal.cover_moves::cover_played-returns-then-not-asks_without-clause-cut
 cover_moves::cover_played-returns-then-not-asks_without-clause-cut g t c =
     move_cut (tried c.args.trial.now) c.args.played.now c.part_gives_only_name-origin.result c.part_gives_only_name-goal.result c.part_gives_only_name-taken.result
-    c.args.sets.now c.cut_moves.new.sets c.part_gives_only_name-origin.ensures c.part_gives_only_name-goal.ensures c.part_gives_only_name-taken.ensures c.cut_moves.ensures
+    c.args.sets.now c.retain_move_squares.new.sets c.part_gives_only_name-origin.ensures c.part_gives_only_name-goal.ensures c.part_gives_only_name-taken.ensures c.retain_move_squares.ensures
 
 pub cover_moves::cover_played-returns-clause-cut : goal.cover_moves::cover_played-returns-clause-cut
 cover_moves::cover_played-returns-clause-cut g t c =
     on_ok_weaker c.cut_unmet.result
-    (λ cut. cut_then c.args.trial.now.live.now _ c.args.sets.now c.cut_moves.new.sets c.cut_unmet.new.sets
+    (λ cut. cut_then c.args.trial.now.live.now _ c.args.sets.now c.retain_move_squares.new.sets c.cut_unmet.new.sets
     (move_cut (tried c.args.trial.now) c.args.played.now c.part_gives_only_name-origin.result c.part_gives_only_name-goal.result c.part_gives_only_name-taken.result
-    c.args.sets.now c.cut_moves.new.sets c.part_gives_only_name-origin.ensures c.part_gives_only_name-goal.ensures c.part_gives_only_name-taken.ensures c.cut_moves.ensures)
-    (free_parts_cut (tried c.args.trial.now) c.as_slice-some.result.now c.args.played.now c.in_ok-parts.parts c.in_ok-goal.goal c.cut_moves.new.sets c.cut_unmet.new.sets
-    (subst (HasSome (tree_in c.args.trial.now.scope.now) c.args.trial.now.live.now c.cut_moves.new.sets) (sym c.as_slice-some.ensures.value) c.in_ok-some.ensures)
+    c.args.sets.now c.retain_move_squares.new.sets c.part_gives_only_name-origin.ensures c.part_gives_only_name-goal.ensures c.part_gives_only_name-taken.ensures c.retain_move_squares.ensures)
+    (free_parts_cut (tried c.args.trial.now) c.as_slice-some.result.now c.args.played.now c.in_ok-parts.parts c.in_ok-goal.goal c.retain_move_squares.new.sets c.cut_unmet.new.sets
+    (subst (HasSome (tree_in c.args.trial.now.scope.now) c.args.trial.now.live.now c.retain_move_squares.new.sets) (sym c.as_slice-some.ensures.value) c.in_ok-some.ensures)
     c.in_ok-parts.ensures.asks c.in_ok-goal.ensures.asks cut))
     c.cut_unmet.ensures.cut
 
@@ -102,7 +102,7 @@ pub cover_moves::independent_column-returns-clause-asks : goal.cover_moves::inde
 cover_moves::independent_column-returns-clause-asks g t c =
     IfOk_then c.written_column.result c.written_column.ensures.value
     (λ column. asks_free (tree_in c.args.trial.now.scope.now) c.args.trial.now.opened.now c.args.trial.now.scope.now.names.now (written_tree c.args.written.now) c.args.live.now column
-    (c.is_independent_and_written.ensures c.if-not-is_independent_and_written.false))
+    (c.is_independent_and_present.ensures c.if-not-is_independent_and_present.false))
 
 pub covers::cover_all-loop-class-init : goal.covers::cover_all-loop-class-init
 covers::cover_all-loop-class-init g t c = record { cut = cut_same c.args.trial.now.live.now _ c.args.sets.now; cost = refl }
@@ -198,13 +198,13 @@ cover_squares::cover_square-returns-in_ok-cover_inner-in-Square-clause-cut g t c
     c.args.sets.now c.cover_pair.new.sets
     (ap (λ form. filter_at asked.at (form_tree form)) c.in-Square.is ∙ sym (square_same asked.at every _ _ _ _ _ _ c.as_slice-inner.ensures
     c.deref-in-Square.ensures c.deref.ensures))
-    (subst (λ some. AreCut c.args.trial.now.live.now (MayHold c.args.trial.now.opened.now c.args.trial.now.scope.now.names.now c.args.trial.now.name.now
+    (subst (λ some. AreRetained c.args.trial.now.live.now (MayHold c.args.trial.now.opened.now c.args.trial.now.scope.now.names.now c.args.trial.now.name.now
     (λ e n. square_of some (value tree [] e squares n) (λ s. holds (value tree [] ((inner, s) ∷ e) (filter_tree c.deref.result.now) n))))
     c.args.sets.now c.cover_pair.new.sets)
-    (sym (c.is_other.ensures.some c.if-not-is_other.false))
+    (sym (c.is_some_square_of_other_name.ensures.some c.if-not-is_some_square_of_other_name.false))
     (cut_then c.args.trial.now.live.now _ c.args.sets.now c.cover_inner.new.sets c.cover_pair.new.sets (c.in_ok-cover_inner-in-Square.ensures.cut
     (λ e. value tree [] e squares))
-    (subst (λ part. AreCut c.args.trial.now.live.now (MayHold c.args.trial.now.opened.now c.args.trial.now.scope.now.names.now c.args.trial.now.name.now
+    (subst (λ part. AreRetained c.args.trial.now.live.now (MayHold c.args.trial.now.opened.now c.args.trial.now.scope.now.names.now c.args.trial.now.name.now
     (λ e n. square_of false (value tree [] e squares n) (λ s. holds (value tree [] ((inner, s) ∷ e) (filter_tree part) n)))) c.cover_inner.new.sets c.cover_pair.new.sets)
     (c.deref-in-Square-2.ensures ∙ sym c.deref.ensures) cut))))
     c.cover_pair.ensures.cut
@@ -217,9 +217,9 @@ cover_squares::cover_inner-returns-clause-cut g t c =
 pub cover_squares::cover_pair-returns-clause-cut : goal.cover_squares::cover_pair-returns-clause-cut
 cover_squares::cover_pair-returns-clause-cut g t c =
     paired_cut (tried c.args.trial.now) c.as_slice-some.result.now c.args.inner.now (filter_tree c.args.squares.now) (filter_tree c.args.part.now)
-    c.in_ok-column.column c.args.sets.now c.cut_paired.new.sets c.requires.other
+    c.in_ok-column.column c.args.sets.now c.retain_paired.new.sets c.requires.other
     (subst (HasSome (tree_in c.args.trial.now.scope.now) c.args.trial.now.live.now c.args.sets.now) (sym c.as_slice-some.ensures.value) c.in_ok-some.ensures)
-    (record { free = c.is_independent.ensures c.if-not-is_independent.false; column = c.in_ok-column.ensures.value }) c.cut_paired.ensures.cut
+    (record { free = c.is_independent.ensures c.if-not-is_independent.false; column = c.in_ok-column.ensures.value }) c.retain_paired.ensures.cut
 
 pub covers::cover_other_nodes-returns-clause-cut : goal.covers::cover_other_nodes-returns-clause-cut
 covers::cover_other_nodes-returns-clause-cut g t c =
@@ -228,11 +228,11 @@ covers::cover_other_nodes-returns-clause-cut g t c =
     (record {
       sure = sym c.reads_other_nodes.ensures ∙ c.if-not-reads_other_nodes.false;
       looked = subst (CoverSourceNodes (tree_in c.args.trial.now.scope.now) c.args.word c.args.trial.now.live.now) (sym c.as_slice-wide.ensures.value) c.in_ok-wide.ensures;
-      among = c.any_squares.result;
-      all = c.any_squares.ensures;
+      among = c.union_at_live.result;
+      all = c.union_at_live.ensures;
       every = c.in_ok-there.ensures;
     })
-    (subst (λ old. AreCut c.as_slice-wide.result.now (MayHold c.args.trial.now.opened.now c.args.trial.now.scope.now.names.now c.args.trial.now.name.now
+    (subst (λ old. AreRetained c.as_slice-wide.result.now (MayHold c.args.trial.now.opened.now c.args.trial.now.scope.now.names.now c.args.trial.now.name.now
     (λ e. value (tree_in c.args.trial.now.scope.now) [] e (filter_tree c.args.part.now))) old c.cover.new.sets) c.deref_mut.ensures.value c.in_ok-cover.ensures.cut)
     (record {
       back = c.in_ok-back.back.items;
@@ -304,9 +304,9 @@ cover_some::add_covered-returns-clause-added g t c =
 pub covers::cover_independent-returns : goal.covers::cover_independent-returns
 covers::cover_independent-returns g t c = record {
   cut = free_cut (tree_in c.args.trial.now.scope.now) c.args.trial.now.live.now c.in_ok-some.some.items c.deref.result.now c.deref-2.result.now c.args.trial.now.opened.now
-      c.args.trial.now.scope.now.names.now c.args.trial.now.name.now (filter_tree c.args.asked.now) c.in_ok-column.column c.args.sets.now c.cut_where_fails.new.sets
-      c.deref.ensures.value c.deref-2.ensures.value c.in_ok-some.ensures c.requires.free c.in_ok-column.ensures.value c.cut_where_fails.ensures;
-  len = c.cut_where_fails.ensures.count;
+      c.args.trial.now.scope.now.names.now c.args.trial.now.name.now (filter_tree c.args.asked.now) c.in_ok-column.column c.args.sets.now c.retain_where_holds.new.sets
+      c.deref.ensures.value c.deref-2.ensures.value c.in_ok-some.ensures c.requires.free c.in_ok-column.ensures.value c.retain_where_holds.ensures;
+  len = c.retain_where_holds.ensures.count;
   cost = no_steps _ _ _ (c.requires.free.cost (searched_len (tree_in c.args.trial.now.scope.now))) c.evaluate.ensures.cost c.evaluate.ensures.rises;
 }
 
@@ -330,9 +330,9 @@ covers::cover_independent_set-returns-in_err-column-clause-cost g t c =
 pub covers::cover_related-returns : goal.covers::cover_related-returns
 covers::cover_related-returns g t c = record {
   cut = related_cut (tree_in c.args.trial.now.scope.now) c.args.trial.now.live.now c.in_ok-some.some.items c.deref.result.now c.deref-2.result.now c.args.trial.now.opened.now
-      c.args.trial.now.scope.now.names.now c.args.trial.now.name.now (filter_tree c.args.second.now) c.in_ok-column.column c.args.sets.now c.cut_related.new.sets
-      c.deref.ensures.value c.deref-2.ensures.value c.in_ok-some.ensures (c.is_independent.ensures c.if-not-is_independent.false) c.in_ok-column.ensures.value c.args.pair c.cut_related.ensures;
-  len = c.cut_related.ensures.count;
+      c.args.trial.now.scope.now.names.now c.args.trial.now.name.now (filter_tree c.args.second.now) c.in_ok-column.column c.args.sets.now c.retain_attackers.new.sets
+      c.deref.ensures.value c.deref-2.ensures.value c.in_ok-some.ensures (c.is_independent.ensures c.if-not-is_independent.false) c.in_ok-column.ensures.value c.args.pair c.retain_attackers.ensures;
+  len = c.retain_attackers.ensures.count;
   cost = no_steps _ _ _ ((c.is_independent.ensures c.if-not-is_independent.false).cost (searched_len (tree_in c.args.trial.now.scope.now))) c.evaluate.ensures.cost c.evaluate.ensures.rises;
 }
 

@@ -124,7 +124,7 @@ covers::cover_set-cover_related-requires g t c = λ κs low.
 pub cover_squares::cover_square-cover_inner-requires : goal.cover_squares::cover_square-cover_inner-requires
 unfolding unflat
 cover_squares::cover_square-cover_inner-requires g t c = λ κs low.
-    (search (rules, the_lemmas), (low, (c.requires.tree, (c.requires.asked, (c.requires.count, (boxed_flat _ _ c.deref.ensures (none_rest _ _ (form_flat c.args.asked.now _ (ap form_tree c.in-Square.is) c.requires.flat)), c.is_other.ensures.other c.if-not-is_other.false))))))
+    (search (rules, the_lemmas), (low, (c.requires.tree, (c.requires.asked, (c.requires.count, (boxed_flat _ _ c.deref.ensures (none_rest _ _ (form_flat c.args.asked.now _ (ap form_tree c.in-Square.is) c.requires.flat)), c.is_some_square_of_other_name.ensures.other c.if-not-is_some_square_of_other_name.false))))))
 
 pub goals::goal_truths-goal_met-requires : goal.goals::goal_truths-goal_met-requires
 unfolding unflat

@@ -5,10 +5,10 @@ use Rattle.cql_columns.specs.Scopes.{tree_in}
 use Rattle.cql_columns.specs.Columns.{shown}
 use Rattle.cql_columns.specs.Costs.{searched_len}
 use Rattle.cql_operators.specs.Trees.{AreBeforeLive}
-use Rattle.cql_pruning.specs.Promoting.{ArePromoting}
-use Rattle.cql_pruning.specs.MoveTargets.{is_as_asked}
+use Rattle.cql_candidates.specs.Promoting.{ArePromoting}
+use Rattle.cql_candidates.specs.MoveTargets.{move_matches}
 use Rattle.cql_eval.proofs.FormLaws.{IfOk_then, within}
-use Rattle.cql_pruning.proofs.MoveLaw.{met_is, move_is, move_costs, part_is, no_part_is, part_costs}
+use Rattle.cql_candidates.proofs.MoveLaw.{met_is, move_is, move_costs, part_is, no_part_is, part_costs}
 use Rattle.cql_eval.proofs.evaluate.+evaluate.Goals as goal
 
 pub played::played_column-returns-clause-value : goal.played::played_column-returns-clause-value
@@ -19,7 +19,7 @@ played::played_column-returns-clause-value g t c =
     = subst (ArePromoting tree c.is_some-promotes.result c.args.live.now) (sym c.as_slice-some.ensures.value) c.in_ok-some.ensures in
     IfOk_then c.met_column.result c.met_column.ensures
     (λ column is n l. is n ∙ met_is tree c.args.scope.now.names.now c.args.played.now c.args.live.now some c.is_some-promotes.result
-    (is_as_asked tree c.in_ok-parts.parts (option_map (λ x. shown x n) c.in_ok-goal.goal) n) n c.is_some-promotes.ensures looked l
+    (move_matches tree c.in_ok-parts.parts (option_map (λ x. shown x n) c.in_ok-goal.goal) n) n c.is_some-promotes.ensures looked l
     (move_is tree c.args.scope.now.names.now c.args.played.now some c.in_ok-parts.parts c.in_ok-goal.goal
     c.in_ok-parts.ensures.value c.in_ok-goal.ensures.value n))
 

@@ -14,9 +14,9 @@ use Rattle.cql_columns.proofs.Costing.{square_cost}
 use Rattle.cql_columns.proofs.Wanting.{wanted_same, wanted_kept, turn_skip}
 use Rattle.cql_columns.specs.declared.filter_column.FilterColumn.TheVariants.{Sets}
 use Rattle.cql_operators.proofs.SquareTurns.{left_begun, square_more, square_end, turn_law, turn_stop}
-use Rattle.cql_pruning.proofs.AttackLaw.{attack_is}
-use Rattle.cql_pruning.specs.Covers.{AreCut, AreWorthTrying, MayHold}
-use Rattle.cql_pruning.proofs.CoverForms.{tried_same, worth_trying, written_sets}
+use Rattle.cql_candidates.proofs.AttackLaw.{attack_is}
+use Rattle.cql_candidates.specs.Covers.{AreRetained, AreWorthTrying, MayHold}
+use Rattle.cql_candidates.proofs.CoverForms.{tried_same, worth_trying, written_sets}
 use Rattle.cql_eval.proofs.FormLaws.{IfOk_then}
 use Rattle.cql_eval.proofs.evaluate.+evaluate.Goals as goal
 
@@ -100,7 +100,7 @@ squares::covered_sets-returns-clause-worth g t c =
     (worth_trying (tree_in c.args.binding.now.scope.now) c.args.live.now c.args.opened.now c.args.binding.now.scope.now.names.now
     c.args.binding.now.name.now (filter_tree c.args.asked.now) (shown c.args.binding.now.squares.now)
     c.in_ok-sets.sets.items c.cover.new.sets c.requires.opened c.in_ok-sets.ensures
-    (subst (λ old. AreCut c.args.live.now (MayHold c.args.opened.now c.args.binding.now.scope.now.names.now c.args.binding.now.name.now
+    (subst (λ old. AreRetained c.args.live.now (MayHold c.args.opened.now c.args.binding.now.scope.now.names.now c.args.binding.now.name.now
     (λ e. value (tree_in c.args.binding.now.scope.now) [] e (filter_tree c.args.asked.now))) old c.cover.new.sets) c.deref_mut.ensures.value c.in_ok-cover.ensures.cut))
 
 pub squares::square_filter_truths-returns-clause-value : goal.squares::square_filter_truths-returns-clause-value

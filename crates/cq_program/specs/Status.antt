@@ -1,0 +1,21 @@
+-- The exit status of each way to end.
+use Rattle.std.specs.Prelude.{◌≡◌, ◌⊎◌, ℕ, List, [], ◌∷◌}
+use Rattle.cq_program.specs.declared.status.Status.{Status}
+use Rattle.cq_program.specs.declared.status.Status.TheVariants.{Done, DoneWithRefusals, QueryRefused, WordsRefused}
+use Rattle.cq_program.specs.declared.status.Status.TheVariants.{OpenFault, ReadFault, WriteFault, NoMemory, ArchiveTooLong}
+
+abbrev pub exit_code : Status → ℕ
+exit_code Done = 0
+exit_code DoneWithRefusals = 1
+exit_code QueryRefused = 2
+exit_code WordsRefused = 3
+exit_code OpenFault = 4
+exit_code ReadFault = 5
+exit_code WriteFault = 6
+exit_code NoMemory = 7
+exit_code ArchiveTooLong = 8
+
+-- a status is one of these
+abbrev pub IsOneOf : Status → List Status → Type 0
+IsOneOf status [] = ⊥
+IsOneOf status (one ∷ more) = (status ≡ one) ⊎ IsOneOf status more

@@ -1,5 +1,0 @@
-use Rattle.cq_queries.proofs.PiecesRead.{ReadSoFar}
-use Rattle.cq_queries.proofs.query_files.read_pieces.Given as goal
-
-abbrev pub invariant-loop-piece : goal.invariant-loop-piece
-invariant-loop-piece l = ReadSoFar l.pieces l.piece-index l.queries.items

@@ -1,5 +1,0 @@
-use Rattle.std.proofs.Common.{◌≡◌, [], map, replicate}
-use Rattle.cq_search.proofs.keeping.none_kept.Given as goal
-
-abbrev pub invariant-loop-query : goal.invariant-loop-query
-invariant-loop-query l = map (λ row. row.items) l.kept.items ≡ replicate l._query []

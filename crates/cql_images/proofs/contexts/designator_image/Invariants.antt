@@ -1,0 +1,6 @@
+use Rattle.std.proofs.Common.{◌≡◌, drop}
+use Rattle.cql_syntax.specs.Contexts as spec
+use Rattle.cql_images.proofs.contexts.designator_image.Given as goal
+
+abbrev pub invariant-loop-mapping : goal.invariant-loop-mapping
+invariant-loop-mapping l = spec.designator_image (drop l.mapping-index l.context) l.image ≡ spec.designator_image l.context l.d

@@ -1,0 +1,6 @@
+use Rattle.std.proofs.Common.{◌≡◌, drop}
+use Rattle.cql_syntax.specs.Contexts as spec
+use Rattle.cql_images.proofs.contexts.word_image.Given as goal
+
+abbrev pub invariant-loop-mapping : goal.invariant-loop-mapping
+invariant-loop-mapping l = spec.word_image (drop l.mapping-index l.context) l.image ≡ spec.word_image l.context l.fn.word

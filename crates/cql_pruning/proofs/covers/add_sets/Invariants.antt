@@ -1,5 +1,0 @@
-use Rattle.cql_pruning.proofs.CoverSome.{JoinedTo}
-use Rattle.cql_pruning.proofs.covers.add_sets.Given as goal
-
-abbrev pub invariant-loop-n : goal.invariant-loop-n
-invariant-loop-n l = JoinedTo l.more l.fn.sets l.n l.sets

@@ -1,6 +1,0 @@
-use Rattle.cql_columns.specs.Scopes.{tree_in}
-use Rattle.cql_pruning.specs.Occupancy.{AreOccupancies}
-use Rattle.cql_pruning.proofs.ever_standing.add_some.Given as goal
-
-abbrev pub invariant-loop-turn : goal.invariant-loop-turn
-invariant-loop-turn l = AreOccupancies (tree_in l.scope) l.live l.occupancies.items

@@ -1,6 +1,0 @@
-use Rattle.std.specs.Prelude.{take}
-use Rattle.cql_pruning.specs.Classes.{CoverClasses}
-use Rattle.cql_pruning.proofs.order.classes_of.Given as goal
-
-abbrev pub invariant-loop-filter : goal.invariant-loop-filter
-invariant-loop-filter l = CoverClasses l.classes (take l.filter-index l.filters)

@@ -1,7 +1,0 @@
-pub mod NameAttacks
-pub mod Classes
-pub mod Covers
-pub mod Occupancy
-pub mod MoveTargets
-pub mod Pairs
-pub mod Promoting
